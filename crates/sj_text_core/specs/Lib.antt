@@ -1,0 +1,14 @@
+pub mod Tree
+pub mod Grammar
+pub mod Find
+pub mod Keep
+pub mod Edits
+pub mod Paths
+pub mod Same
+pub mod Print
+pub mod Hash
+pub mod Nodes
+pub mod Flat
+pub mod Code
+pub mod Scalars
+pub mod Reads

@@ -1,0 +1,83 @@
+-- What a typed read of a tree answers.
+use Rattle.std.specs.Prelude.{ℕ, ℤ, pos, negsuc, ◌-◌, ◌^◌, List, Option, Some, None, Result, Ok, Err, Bool, if◌then◌else◌, nat_lt}
+use Rattle.sj_text_core.specs.Tree.{i64, u64, i128, u128, Tree, null, boolean, int, text, list, obj, Items, Members}
+use Rattle.sj_text_core.specs.declared.value_type.ValueType.{ValueType}
+use Rattle.sj_text_core.specs.declared.value_type.ValueType.TheVariants as kind
+use Rattle.sj_text_core.specs.declared.value_type.TryTypeError.{TryTypeError}
+
+-- the kind of a tree: of a number its carrier
+abbrev pub kind_of : Tree → ValueType
+kind_of null = kind.Null
+kind_of (boolean b) = kind.Bool
+kind_of (int n i64) = kind.I64
+kind_of (int n u64) = kind.U64
+kind_of (int n i128) = kind.I128
+kind_of (int n u128) = kind.U128
+kind_of (text s) = kind.String
+kind_of (list is) = kind.Array
+kind_of (obj ms) = kind.Object
+
+-- a whole number below 2^bits
+abbrev pub unsigned_of : ℕ → ℤ → Option ℕ
+unsigned_of bits (pos n) = if nat_lt n (2 ^ bits) then Some n else None
+unsigned_of bits (negsuc n) = None
+
+-- a whole number from -2^(bits-1) to 2^(bits-1)-1
+abbrev pub signed_of : ℕ → ℤ → Option ℤ
+signed_of bits (pos n) = if nat_lt n (2 ^ (bits - 1)) then Some (pos n) else None
+signed_of bits (negsuc n) = if nat_lt n (2 ^ (bits - 1)) then Some (negsuc n) else None
+
+-- the number, where the tree is a whole number below 2^bits, whatever its carrier
+abbrev pub as_unsigned : ℕ → Tree → Option ℕ
+as_unsigned bits null = None
+as_unsigned bits (boolean b) = None
+as_unsigned bits (int n c) = unsigned_of bits n
+as_unsigned bits (text s) = None
+as_unsigned bits (list is) = None
+as_unsigned bits (obj ms) = None
+
+-- the number, where the tree is a whole number from -2^(bits-1) to 2^(bits-1)-1, whatever its carrier
+abbrev pub as_signed : ℕ → Tree → Option ℤ
+as_signed bits null = None
+as_signed bits (boolean b) = None
+as_signed bits (int n c) = signed_of bits n
+as_signed bits (text s) = None
+as_signed bits (list is) = None
+as_signed bits (obj ms) = None
+
+abbrev pub as_boolean : Tree → Option Bool
+as_boolean null = None
+as_boolean (boolean b) = Some b
+as_boolean (int n c) = None
+as_boolean (text s) = None
+as_boolean (list is) = None
+as_boolean (obj ms) = None
+
+abbrev pub as_text : Tree → Option (List ℕ)
+as_text null = None
+as_text (boolean b) = None
+as_text (int n c) = None
+as_text (text s) = Some s
+as_text (list is) = None
+as_text (obj ms) = None
+
+abbrev pub as_items : Tree → Option Items
+as_items null = None
+as_items (boolean b) = None
+as_items (int n c) = None
+as_items (text s) = None
+as_items (list is) = Some is
+as_items (obj ms) = None
+
+abbrev pub as_members : Tree → Option Members
+as_members null = None
+as_members (boolean b) = None
+as_members (int n c) = None
+as_members (text s) = None
+as_members (list is) = None
+as_members (obj ms) = Some ms
+
+-- a read by which a value is asked for: the number, text or part, or which kind was expected and which is there
+abbrev pub read_as : {T : Type 0} → Option T → ValueType → ValueType → Result T TryTypeError
+read_as (Some x) expected got = Ok x
+read_as None expected got = Err (record { expected = expected; got = got })

@@ -1,0 +1,80 @@
+//! Faults, by name.
+
+use std::alloc::{AllocError, AllocFailed};
+use thiserror::Error;
+
+/// Why a text was not read.
+#[derive(Clone, Copy, Debug, PartialEq, Eq, Error)]
+pub enum ErrorKind {
+    /// The bytes are not UTF-8 (RFC 8259, section 8.1).
+    #[error("invalid UTF-8")]
+    InvalidUtf8,
+    /// A byte can't continue the text, or the text ends too soon.
+    #[error("syntax error")]
+    Syntax,
+    /// An escape is half of a surrogate pair (RFC 8259, section 8.2).
+    #[error("lone surrogate")]
+    LoneSurrogate,
+    /// A number has a fraction or an exponent.
+    #[error("number with a fraction or an exponent")]
+    Float,
+    /// A whole number lies below -2^127 or past 2^128-1.
+    #[error("number too large")]
+    NumberTooLarge,
+    /// More than 1024 arrays and objects are open at once.
+    #[error("nested too deep")]
+    TooDeep,
+    /// A request for memory was refused.
+    #[error("out of memory")]
+    OutOfMemory,
+}
+
+/// The nodes are not those of one tree in preorder.
+#[derive(Clone, Copy, Debug, PartialEq, Eq, Error)]
+#[error("the nodes are not those of one tree")]
+pub struct BadTape;
+
+/// Why a value was not printed.
+#[derive(Clone, Copy, Debug, PartialEq, Eq, Error)]
+pub enum WriteError {
+    /// The output with the print would pass `usize::MAX` bytes.
+    #[error("the output would be too long")]
+    TooLong,
+    /// A request for memory was refused.
+    #[error("out of memory")]
+    OutOfMemory,
+}
+
+/// Why a value was not changed.
+#[derive(Clone, Copy, Debug, PartialEq, Eq, Error)]
+pub enum AccessError {
+    #[error("not an object")]
+    NotAnObject,
+    #[error("not an array")]
+    NotAnArray,
+    /// A request for memory was refused.
+    #[error("out of memory")]
+    OutOfMemory,
+}
+
+impl From<AllocError> for ErrorKind {
+    ghost use Rattle.std.specs.Prelude.{◌≡◌};
+    ghost use Rattle.sj_text_core.specs.declared.error.ErrorKind.TheVariants.{OutOfMemory};
+
+    ghost from_gives = { λ _ e. e ≡ OutOfMemory };
+
+    fn from(_error: AllocError) -> ErrorKind {
+        ErrorKind::OutOfMemory
+    }
+}
+
+impl<T: Drop> From<AllocFailed<T>> for ErrorKind {
+    ghost use Rattle.std.specs.Prelude.{◌≡◌};
+    ghost use Rattle.sj_text_core.specs.declared.error.ErrorKind.TheVariants.{OutOfMemory};
+
+    ghost from_gives = { λ _ e. e ≡ OutOfMemory };
+
+    fn from(_error: AllocFailed<T>) -> ErrorKind {
+        ErrorKind::OutOfMemory
+    }
+}
