@@ -2,11 +2,11 @@
 #![tactic(auto)]
 
 mod error;
-mod refusal;
+mod refused;
 mod static_node;
 mod value_type;
 
 pub use error::{AccessError, BadTape, ErrorKind, WriteError};
-pub use refusal::Refused;
+pub use refused::Refused;
 pub use static_node::StaticNode;
 pub use value_type::{ExtendedValueType, TryTypeError, ValueType};
