@@ -1,0 +1,4 @@
+pub mod Kept
+pub mod Preorders
+pub mod Characters
+pub mod Proper

@@ -2,6 +2,7 @@
 #![tactic(auto)]
 
 mod error;
+pub mod laws;
 mod refused;
 mod static_node;
 mod value_type;
