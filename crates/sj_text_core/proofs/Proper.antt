@@ -1,14 +1,13 @@
 -- What is spelled is proper, and what spells is UTF-8.
-use Rattle.std.proofs.Common.{◌≡◌, ◌⊎◌, ℕ, zero, suc, ◌≤ℤ◌, ◌<ℤ◌, ◌+◌, ◌<◌, ◌≤◌, ◌^◌, ℤ, pos, neg_ℤ, Bool, true, false, List, [], ◌∷◌, ◌++◌, length, IsUtf8, Option, Some, None, refl, sym, ap, subst, ◌∙◌, arith, ⊎_elim, nat_lt, nat_le, ◌&&◌, if◌then◌else◌, codes}
+use Rattle.std.proofs.Common.{◌≡◌, ℕ, zero, suc, ◌≤ℤ◌, ◌<ℤ◌, ◌<◌, ◌≤◌, ◌^◌, pos, neg_ℤ, Bool, true, false, List, [], ◌∷◌, ◌++◌, IsUtf8, Some, None, refl, sym, subst, arith, ⊎_elim, nat_lt, nat_le, ◌&&◌, if◌then◌else◌, codes}
 use Rattle.std.specs.List.{AllByRecursion}
-use Rattle.std.specs.Char.{digit_value}
 use Rattle.std.proofs.lemmas.Bool.{ltb-true, leb-true, and_parts}
 use Rattle.std.proofs.lemmas.Option.{none-some, same_Some}
 use Rattle.std.proofs.lemmas.Str.{IsUtf8-append, IsUtf8-nil, IsUtf8-encode, encode_ascii}
 use lib.Utf8.{low_scalar}
 use lib.Dec.{le→leb}
-use Rattle.sj_text_core.specs.Tree.{Carrier, i64, u64, i128, u128, Tree, null, boolean, int, text, list, obj, Items, no_items, item, Members, no_members, member, IsProper, AreProper, HasProper}
-use Rattle.sj_text_core.specs.Grammar.{IsSpace, IsBlank, IsDigit, IsNumeral, IsNumber, IsHexDigit, IsUnit, IsItem, AreItems, IsString, Spaced, Spelling, SpellsItems, MoreItems, SpellsMembers, MoreMembers, Spells, short_escape, value_of}
+use Rattle.sj_text_core.specs.Tree.{i64, u64, i128, u128, Tree, null, boolean, int, text, list, obj, Items, no_items, item, Members, no_members, member, IsProper, AreProper, HasProper}
+use Rattle.sj_text_core.specs.Grammar.{IsSpace, IsBlank, IsDigit, IsNumber, IsHexDigit, IsUnit, IsItem, AreItems, IsString, Spaced, Spelling, SpellsItems, MoreItems, SpellsMembers, MoreMembers, Spells, value_of}
 use Rattle.sj_text_core.proofs.Characters.{string_utf8, hex_ascii, short_ascii}
 
 ascii : (c : ℕ) (p : List ℕ) → c < 128 → IsUtf8 p → IsUtf8 (c ∷ p)

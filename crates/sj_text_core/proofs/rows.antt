@@ -1,0 +1,5 @@
+-- What the definitions give on small examples, by computation.
+pub mod Trees
+pub mod Numbers
+pub mod Sameness
+pub mod Spelling
