@@ -3,3 +3,5 @@ pub mod Trees
 pub mod Numbers
 pub mod Sameness
 pub mod Spelling
+pub mod Limits
+pub mod Misspelled
