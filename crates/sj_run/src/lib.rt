@@ -2,6 +2,7 @@
 #![tactic(auto)]
 
 pub mod laws;
+mod lines;
 
 /// Which type holds a session's document.
 #[derive(Clone, Copy, Debug, PartialEq, Eq)]
