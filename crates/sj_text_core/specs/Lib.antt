@@ -12,3 +12,4 @@ pub mod Flat
 pub mod Code
 pub mod Scalars
 pub mod Reads
+pub mod ScalarValues
