@@ -13,3 +13,4 @@ pub mod Code
 pub mod Scalars
 pub mod Reads
 pub mod ScalarValues
+pub mod Nulls

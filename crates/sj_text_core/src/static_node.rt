@@ -1,5 +1,9 @@
 //! Scalars that hold no text.
 
+use crate::meaning::Meaning;
+use crate::typed_value::TypedValue;
+use crate::value_as_scalar::ValueAsScalar;
+use crate::value_type::ValueType;
 use std::fmt;
 
 /// A null, a truth value or a whole number. The variant of a number is its carrier.
@@ -84,6 +88,59 @@ impl fmt::Display for StaticNode {
             StaticNode::U64(n) => write!(f, "{n}"),
             StaticNode::I128(n) => write!(f, "{n}"),
             StaticNode::U128(n) => write!(f, "{n}"),
+        }
+    }
+}
+
+impl Meaning for StaticNode {
+    ghost use Rattle.sj_text_core.specs.Scalars.{static_tree};
+
+    ghost tree = { static_tree };
+}
+
+impl TypedValue for StaticNode {
+    fn value_type(&self) -> ValueType {
+        match self {
+            StaticNode::Null => ValueType::Null,
+            StaticNode::Bool(_) => ValueType::Bool,
+            StaticNode::I64(_) => ValueType::I64,
+            StaticNode::U64(_) => ValueType::U64,
+            StaticNode::I128(_) => ValueType::I128,
+            StaticNode::U128(_) => ValueType::U128,
+        }
+    }
+}
+
+impl ValueAsScalar for StaticNode {
+    fn as_bool(&self) -> Option<bool> {
+        match *self {
+            StaticNode::Bool(b) => Some(b),
+            _ => None,
+        }
+    }
+
+    fn as_str(&self) -> Option<&str> {
+        None
+    }
+
+    fn as_i128(&self) -> Option<i128> {
+        match *self {
+            StaticNode::Null | StaticNode::Bool(_) => None,
+            StaticNode::I64(n) => Some(i128::from(n)),
+            StaticNode::U64(n) => Some(i128::from(n)),
+            StaticNode::I128(n) => Some(n),
+            StaticNode::U128(n) => i128::try_from(n).ok(),
+        }
+    }
+
+    fn as_u128(&self) -> Option<u128> {
+        let node = *self;
+        match node {
+            StaticNode::Null | StaticNode::Bool(_) => None,
+            StaticNode::I64(n) => u128::try_from(n).ok(),
+            StaticNode::U64(n) => Some(u128::from(n)),
+            StaticNode::I128(n) => u128::try_from(n).ok(),
+            StaticNode::U128(n) => Some(n),
         }
     }
 }
