@@ -14,3 +14,5 @@ pub mod Scalars
 pub mod Reads
 pub mod ScalarValues
 pub mod Nulls
+pub mod Generators
+pub mod Runs

@@ -2,6 +2,7 @@
 #![tactic(auto)]
 
 mod error;
+mod generator;
 mod meaning;
 mod refused;
 mod same_as;
@@ -13,6 +14,9 @@ mod value_type;
 mod writable;
 
 pub use error::{AccessError, BadTape, ErrorKind, WriteError};
+pub use generator::{
+    BaseGenerator, DumpGenerator, PrettyGenerator, PrettyWriterGenerator, WriterGenerator,
+};
 pub use meaning::Meaning;
 pub use refused::Refused;
 pub use same_as::SameAs;
