@@ -1,2 +1,4 @@
 pub mod Escapes
+pub mod Lanes
+pub mod Runs
 pub mod Utf8
