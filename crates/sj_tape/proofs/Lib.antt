@@ -1,0 +1,17 @@
+pub mod Numbers
+pub mod Scalars
+pub mod Parts
+pub mod Values
+pub mod Steps
+pub mod Sound
+pub mod Texts
+pub mod Complete
+pub mod Reading
+pub mod Escapes
+pub mod Bytewise
+pub mod Order
+pub mod Places
+pub mod Units
+pub mod Decode
+pub mod Passes
+pub mod Proper

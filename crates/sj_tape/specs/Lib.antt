@@ -1,0 +1,3 @@
+pub mod Marks
+pub mod Parse
+pub mod Pieces
