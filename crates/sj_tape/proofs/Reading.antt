@@ -68,3 +68,22 @@ tree_is ns t e = ap (λ l. tree_of l) e ∙ tree_of-flat t
 
 pub preorder_is : (ns : List Mark) (t : Tree) → ns ≡ flat t → IsPreorder ns
 preorder_is ns t e = e ∙ ap (λ u. flat u) (sym (tree_is ns t e))
+
+-- what is known of the tree that was read
+pub record Read (b : List ℕ) (t : Tree) : Type 0 where
+  pub spelled : Spells b t
+  pub within : depth t ≤ 1024
+  pub only : (u : Tree) → Spells b u → u ≡ t
+
+pub is_read : (b : List ℕ) (t : Tree) → IsUtf8 b → tree_at 1024 b ≡ Some t → Read b t
+is_read b t utf8 was =
+    let k = sound 1024 b t utf8 was in
+    record { spelled = k.0; within = k.1; only = λ u s. only 1024 b t u utf8 was s }
+
+-- the tape's tree is the one that was read
+pub is_tree : (ns ms : List Mark) (t u : Tree) → u ≡ tree_of ns → ns ≡ ms → ms ≡ flat t → t ≡ u
+is_tree ns ms t u e f g = sym (e ∙ tree_is ns t (f ∙ g))
+
+-- the texts of the pieces are UTF-8
+pub are_texts : (b lent : List ℕ) (ps : List Piece) (t : Tree) → IsUtf8 b → tree_at 1024 b ≡ Some t → piece_marks lent ps ≡ flat t → All (λ p. IsTextMark (piece_mark lent p)) ps
+are_texts b lent ps t utf8 was e = texts_of lent ps (subst (λ ns. AllByRecursion IsTextMark ns) (sym e) (sound 1024 b t utf8 was).2)

@@ -1,3 +1,4 @@
 pub mod Marks
 pub mod Parse
 pub mod Pieces
+pub mod Room

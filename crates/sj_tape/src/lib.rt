@@ -6,5 +6,5 @@ mod reader;
 mod tape;
 
 pub use node::Node;
-pub use reader::{DEPTH_LIMIT, to_tape};
+pub use reader::{Buffers, DEPTH_LIMIT, to_tape, to_tape_with_buffers};
 pub use tape::Tape;

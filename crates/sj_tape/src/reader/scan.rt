@@ -11,7 +11,6 @@ use crate::reader::piece::Piece;
 use crate::reader::string::text;
 use crate::reader::structure::{has_word, separator};
 use sj_text_core::{ErrorKind, StaticNode};
-use std::alloc::Global;
 
 /// A string or a word that stands at `at`, or a number, and the place after it.
 fn scalar(bytes: &[u8], at: usize) -> Result<(Piece, usize), ErrorKind>
@@ -207,16 +206,16 @@ fn member(bytes: &[u8], at: usize, depth: usize, out: &mut Vec<Piece>) -> Result
     value(bytes, skip(bytes, colon + 1), depth, out)
 }
 
-/// The pieces of the one value that the bytes spell.
-pub(crate) fn scan(alloc: Global, bytes: &[u8], depth: usize) -> Result<Vec<Piece>, ErrorKind>
-    ensures ok { IfOk result (λ v. Scans (parse.tree_at depth bytes.now) bytes.now v.items) }
+/// The pieces of the one value that the bytes spell, in place of what was there.
+pub(crate) fn scan(bytes: &[u8], depth: usize, out: &mut Vec<Piece>) -> Result<(), ErrorKind>
+    ensures ok { OnOk result (Scans (parse.tree_at depth bytes.now) bytes.now out.new.items) }
     ensures err { IfErr result (λ e. e ≢ ErrorKind.OutOfMemory → parse.tree_at depth bytes.now ≡ None) }
     ensures kind { IfErr result (λ e. e ≢ ErrorKind.InvalidUtf8) }
 {
-    let mut out = Vec::new(alloc);
-    let after = value(bytes, skip(bytes, 0), depth, &mut out)?;
+    out.clear();
+    let after = value(bytes, skip(bytes, 0), depth, out)?;
     if skip(bytes, after) < bytes.len() {
         return Err(ErrorKind::Syntax);
     }
-    Ok(out)
+    Ok(())
 }

@@ -13,7 +13,7 @@ pub returns-clause-ok : goal.returns-clause-ok
 returns-clause-ok c = record {
   tree = c.in_ok-after.ensures.ok.tree;
   was = whole c.args.depth c.args.bytes.now c.skip.result c.in_ok-after.after c.skip-2.result c.in_ok-after.ensures.ok.tree c.skip.ensures.rest c.in_ok-after.ensures.ok.was c.skip-2.ensures.rest c.if-skip-bytes.false;
-  nodes = c.in_ok-after.ensures.ok.nodes ∙ ap (λ ps. piece_marks c.args.bytes.now ps ++ flat c.in_ok-after.ensures.ok.tree) c.new-out.ensures.items;
+  nodes = c.in_ok-after.ensures.ok.nodes ∙ ap (λ ps. piece_marks c.args.bytes.now ps ++ flat c.in_ok-after.ensures.ok.tree) c.clear.ensures.items;
   inside = order_wider c.args.bytes.now 0 c.value.new.out.items c.in_ok-after.after (length c.args.bytes.now) c.in_ok-after.ensures.within.1
-      (c.in_ok-after.ensures.inside (subst (λ ps. InOrder c.args.bytes.now 0 ps c.skip.result) (sym c.new-out.ensures.items) c.skip.ensures.low));
+      (c.in_ok-after.ensures.inside (subst (λ ps. InOrder c.args.bytes.now 0 ps c.skip.result) (sym c.clear.ensures.items) c.skip.ensures.low));
 }
