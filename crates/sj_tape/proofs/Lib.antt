@@ -15,3 +15,6 @@ pub mod Units
 pub mod Decode
 pub mod Passes
 pub mod Proper
+pub mod Lanes
+pub mod Runs
+pub mod PlainRuns

@@ -2,3 +2,4 @@ pub mod Marks
 pub mod Parse
 pub mod Pieces
 pub mod Room
+pub mod Run

@@ -7,6 +7,7 @@ mod escape;
 mod nodes;
 mod number;
 mod piece;
+mod run;
 mod scan;
 mod string;
 mod structure;

@@ -6,6 +6,7 @@ ghost use Rattle.sj_tape.specs.Parse as parse;
 
 use crate::reader::escape::escape;
 use crate::reader::piece::Piece;
+use crate::reader::run::plain_end;
 use sj_text_core::ErrorKind;
 
 /// The text whose first byte stands at `at`, and the place after its quote.
@@ -17,28 +18,18 @@ pub(crate) fn text(bytes: &[u8], at: usize) -> Result<(Piece, usize), ErrorKind>
     ensures err { OnErr result (parse.text_at (drop at bytes.now) ≡ None) }
     ensures kind { IfErr result (λ e. e ≢ ErrorKind.InvalidUtf8) }
 {
-    let mut place = at;
-    while place < bytes.len() {
-        let byte = bytes[place];
-        if byte == b'"' {
-            return Ok((
-                Piece::Text {
-                    start: at,
-                    end: place,
-                },
-                place + 1,
-            ));
-        }
-        if byte == b'\\' {
-            let end = escaped_end(bytes, place)?;
-            return Ok((Piece::Escaped { start: at, end }, end + 1));
-        }
-        if byte < 32 {
-            return Err(ErrorKind::Syntax);
-        }
-        place += 1;
+    let end = plain_end(bytes, at);
+    if end >= bytes.len() {
+        return Err(ErrorKind::Syntax);
     }
-    Err(ErrorKind::Syntax)
+    if bytes[end] == b'"' {
+        return Ok((Piece::Text { start: at, end }, end + 1));
+    }
+    if bytes[end] != b'\\' {
+        return Err(ErrorKind::Syntax);
+    }
+    let end = escaped_end(bytes, end)?;
+    Ok((Piece::Escaped { start: at, end }, end + 1))
 }
 
 /// The place of the quote that ends the text that goes on at `at`.
@@ -49,21 +40,16 @@ fn escaped_end(bytes: &[u8], at: usize) -> Result<usize, ErrorKind>
     ensures err { OnErr result (after (parse.text_at (drop at bytes.now)) ≡ None) }
     ensures kind { IfErr result (λ e. e ≢ ErrorKind.InvalidUtf8) }
 {
-    let mut place = at;
+    let mut place = plain_end(bytes, at);
     while place < bytes.len() {
-        let byte = bytes[place];
-        if byte == b'"' {
+        if bytes[place] == b'"' {
             return Ok(place);
         }
-        if byte == b'\\' {
-            let (_, next) = escape(bytes, place + 1)?;
-            place = next;
-        } else {
-            if byte < 32 {
-                return Err(ErrorKind::Syntax);
-            }
-            place += 1;
+        if bytes[place] != b'\\' {
+            return Err(ErrorKind::Syntax);
         }
+        let (_, next) = escape(bytes, place + 1)?;
+        place = plain_end(bytes, next);
     }
     Err(ErrorKind::Syntax)
 }
