@@ -1,0 +1,5 @@
+pub mod Marks
+pub mod Parse
+pub mod Pieces
+pub mod Room
+pub mod Run
