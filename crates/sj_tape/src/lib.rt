@@ -1,10 +1,15 @@
 //! Tapes: the nodes of one tree in preorder, and reads of them.
 #![tactic(auto)]
 
+pub mod array;
 mod node;
+pub mod object;
+mod step;
 mod tape;
 mod value;
 
+pub use array::Array;
 pub use node::Node;
+pub use object::Object;
 pub use tape::Tape;
 pub use value::Value;
