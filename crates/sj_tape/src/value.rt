@@ -4,13 +4,12 @@ ghost use Rattle.std.specs.Prelude.{◌≡◌};
 ghost use Rattle.std.specs.Coded.{Coded-set, coded_list};
 ghost use Rattle.sj_text_core.specs.Code.{mark_code};
 ghost use Rattle.sj_text_core.specs.Nodes.{IsPreorder};
-ghost use Rattle.sj_text_core.specs.Reads.{kind_of};
-ghost use Rattle.sj_text_core.specs.Scalars.{static_tree};
 ghost use Rattle.sj_tape.specs.Marks.{marks};
 
 use crate::array::Array;
 use crate::node::Node;
 use crate::object::Object;
+use crate::scalar;
 use sj_text_core::{StaticNode, ValueType};
 
 /// A part of a tape, or a null of its own.
@@ -52,7 +51,7 @@ impl<'t, 'i> Value<'t, 'i> {
         ensures { result ≡ kind_of (tree self.now) }
     {
         match self.nodes[0] {
-            Node::Static(scalar) => static_type(scalar),
+            Node::Static(scalar) => scalar::kind(scalar),
             Node::String(_) => ValueType::String,
             Node::Array { .. } => ValueType::Array,
             Node::Object { .. } => ValueType::Object,
@@ -129,10 +128,7 @@ impl<'t, 'i> Value<'t, 'i> {
         ensures { result ≡ as_signed 128 (tree self.now) }
     {
         match self.nodes[0] {
-            Node::Static(StaticNode::I64(number)) => Some(number.into()),
-            Node::Static(StaticNode::U64(number)) => Some(number.into()),
-            Node::Static(StaticNode::I128(number)) => Some(number),
-            Node::Static(StaticNode::U128(number)) => i128::try_from(number).ok(),
+            Node::Static(scalar) => scalar::signed(scalar),
             _ => None,
         }
     }
@@ -141,12 +137,8 @@ impl<'t, 'i> Value<'t, 'i> {
     pub fn as_u128(&self) -> Option<u128>
         ensures { result ≡ as_unsigned 128 (tree self.now) }
     {
-        let first = self.nodes[0];
-        match first {
-            Node::Static(StaticNode::I64(number)) => u128::try_from(number).ok(),
-            Node::Static(StaticNode::U64(number)) => Some(number.into()),
-            Node::Static(StaticNode::I128(number)) => u128::try_from(number).ok(),
-            Node::Static(StaticNode::U128(number)) => Some(number),
+        match self.nodes[0] {
+            Node::Static(scalar) => scalar::unsigned(scalar),
             _ => None,
         }
     }
@@ -159,19 +151,5 @@ impl<'t, 'i> Value<'t, 'i> {
             Node::String(text) => Some(text),
             _ => None,
         }
-    }
-}
-
-/// The kind of a scalar.
-fn static_type(scalar: StaticNode) -> ValueType
-    ensures { result ≡ kind_of (static_tree scalar) }
-{
-    match scalar {
-        StaticNode::Null => ValueType::Null,
-        StaticNode::Bool(_) => ValueType::Bool,
-        StaticNode::I64(_) => ValueType::I64,
-        StaticNode::U64(_) => ValueType::U64,
-        StaticNode::I128(_) => ValueType::I128,
-        StaticNode::U128(_) => ValueType::U128,
     }
 }
