@@ -18,3 +18,5 @@ pub mod Proper
 pub mod Lanes
 pub mod Runs
 pub mod PlainRuns
+pub mod Splits
+pub mod Containers

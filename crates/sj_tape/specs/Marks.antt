@@ -7,6 +7,7 @@ use Rattle.sj_text_core.specs.declared.static_node.StaticNode.TheVariants.{Null,
 use Rattle.sj_tape.specs.declared.node.Node.{Node}
 use Rattle.sj_tape.specs.declared.node.Node.TheVariants.{Static, String, Array, Object}
 
+-- the variant of a number is its carrier
 abbrev pub static_mark : StaticNode → Mark
 static_mark Null = nothing
 static_mark (Bool b) = truth b

@@ -1,4 +1,4 @@
-//! Nodes of a tape.
+//! Nodes.
 
 use sj_text_core::StaticNode;
 
@@ -7,10 +7,10 @@ use sj_text_core::StaticNode;
 pub enum Node<'i> {
     /// A null, a truth value or a whole number.
     Static(StaticNode),
-    /// A text, or a key before its value.
+    /// A text, or the key of a member.
     String(&'i str),
-    /// An array of `len` items, whose nodes are the next `count`.
+    /// An array: how many items it has, and how many nodes follow inside it.
     Array { len: usize, count: usize },
-    /// An object of `len` members, whose nodes are the next `count`.
+    /// An object: how many members it has, and how many nodes follow inside it.
     Object { len: usize, count: usize },
 }

@@ -1,10 +1,11 @@
 //! Tapes.
 
 use crate::node::Node;
+use crate::value::Value;
 use std::marker::Model;
 
 /// The nodes of one tree in preorder.
-#[derive(Drop)]
+#[derive(Debug, Drop)]
 pub struct Tape<'i> {
     nodes: Vec<Node<'i>>,
 }
@@ -28,6 +29,7 @@ impl<'i> Tape<'i> {
     ghost use Rattle.std.specs.Prelude.{◌≡◌};
     ghost use Rattle.sj_text_core.specs.Nodes.{tree_of, IsPreorder};
     ghost use Rattle.sj_tape.specs.Marks.{marks};
+    ghost use Rattle.sj_tape.specs.Value.{tree};
 
     /// The tape of nodes that are a preorder.
     pub(crate) fn from_nodes(nodes: Vec<Node<'i>>) -> Tape<'i>
@@ -35,5 +37,12 @@ impl<'i> Tape<'i> {
         ensures { result ≡ tree_of (marks nodes.entry.items) }
     {
         Tape { nodes }
+    }
+
+    /// The whole tape.
+    pub fn as_value(&self) -> Value<'_, 'i>
+        ensures { tree result ≡ self.now }
+    {
+        Value::from_nodes(self.nodes.as_slice())
     }
 }
