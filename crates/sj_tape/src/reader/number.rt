@@ -1,0 +1,145 @@
+//! Whole numbers.
+
+ghost use Rattle.std.specs.Prelude.{◌≡◌, ◌+◌, ◌-◌, ◌<◌, ◌≤◌, ◌^◌, ℕ, Some, None, length, drop, IfOk, IfErr, ◌≢◌, OnErr, MatchOption, option_map, IsTrue, ◌↔◌, EachIndex, slice_index};
+ghost use Rattle.sj_tape.specs.Parse as parse;
+ghost use Rattle.sj_text_core.specs.Grammar.{value_of, number_of};
+ghost use Rattle.sj_text_core.specs.Scalars.{static_tree};
+
+use sj_text_core::{ErrorKind, StaticNode};
+
+/// The first place from `at` on that is no digit.
+fn digits_end(bytes: &[u8], at: usize) -> usize
+    requires { at ≤ length bytes.now }
+    ensures low { at ≤ result }
+    ensures high { result ≤ length bytes.now }
+    ensures count { parse.digits_len (drop at bytes.now) ≡ result - at }
+    ensures digits { (k : ℕ) → at ≤ k → k < result → (48 ≤ slice_index bytes.now k) × (slice_index bytes.now k ≤ 57) }
+{
+    let mut place = at;
+    while place < bytes.len() && bytes[place] >= b'0' && bytes[place] <= b'9' {
+        place += 1;
+    }
+    place
+}
+
+#[tactic(auto, using(crate::proofs::Numbers::next_digit_fits))]
+/// The number that at most 19 digits write.
+fn small(digits: &[u8]) -> u64
+    requires few { length digits.now ≤ 19 }
+    requires digits { EachIndex digits.now (λ k. (48 ≤ slice_index digits.now k) × (slice_index digits.now k ≤ 57)) }
+    ensures { result ≡ value_of digits.now }
+{
+    let mut n = 0;
+    for digit in digits {
+        n = n * 10 + u64::from(*digit - b'0');
+    }
+    n
+}
+
+#[tactic(auto, using(crate::proofs::Numbers::too_large))]
+/// The number that digits write, if it is below 2 ^ 128.
+fn large(digits: &[u8]) -> Option<u128>
+    requires { EachIndex digits.now (λ k. (48 ≤ slice_index digits.now k) × (slice_index digits.now k ≤ 57)) }
+    ensures { MatchOption result (2 ^ 128 ≤ value_of digits.now) (λ n. n ≡ value_of digits.now) }
+{
+    let mut n: u128 = 0;
+    for digit in digits {
+        let Some(tens) = n.checked_mul(10) else {
+            return None;
+        };
+        let Some(next) = tens.checked_add(u128::from(*digit - b'0')) else {
+            return None;
+        };
+        n = next;
+    }
+    Some(n)
+}
+
+fn magnitude(digits: &[u8]) -> Option<u128>
+    requires { EachIndex digits.now (λ k. (48 ≤ slice_index digits.now k) × (slice_index digits.now k ≤ 57)) }
+    ensures { MatchOption result (2 ^ 128 ≤ value_of digits.now) (λ n. n ≡ value_of digits.now) }
+{
+    if digits.len() <= 19 {
+        Some(u128::from(small(digits)))
+    } else {
+        large(digits)
+    }
+}
+
+/// The number with its carrier, where one has it.
+fn carried(is_negative: bool, n: u128) -> Option<StaticNode>
+    ensures { option_map static_tree result ≡ number_of is_negative n }
+{
+    if !is_negative {
+        if n < 0x1_0000_0000_0000_0000 {
+            Some(StaticNode::U64(n as u64))
+        } else {
+            Some(StaticNode::U128(n))
+        }
+    } else if n < 0x8000_0000_0000_0000 {
+        Some(StaticNode::I64(0 - n as i64))
+    } else if n == 0x8000_0000_0000_0000 {
+        Some(StaticNode::I64(i64::MIN))
+    } else if n < 0x8000_0000_0000_0000_0000_0000_0000_0000 {
+        Some(StaticNode::I128(0 - n as i128))
+    } else if n == 0x8000_0000_0000_0000_0000_0000_0000_0000 {
+        Some(StaticNode::I128(i128::MIN))
+    } else {
+        None
+    }
+}
+
+/// The whole number that stands at `at`, and the place after it.
+pub(crate) fn number(bytes: &[u8], at: usize) -> Result<(StaticNode, usize), ErrorKind>
+    requires { at < length bytes.now }
+    ensures within { IfOk result (λ p. (at < p.1) × (p.1 ≤ length bytes.now)) }
+    ensures ok { IfOk result (λ p. parse.number_at (drop at bytes.now) ≡ Some (static_tree p.0, drop p.1 bytes.now)) }
+    ensures err { OnErr result (parse.number_at (drop at bytes.now) ≡ None) }
+    ensures kind { IfErr result (λ e. e ≢ ErrorKind.InvalidUtf8) }
+{
+    if bytes[at] == b'-' {
+        numeral(bytes, at + 1, true)
+    } else {
+        numeral(bytes, at, false)
+    }
+}
+
+/// Whether a fraction or an exponent stands at `at`.
+fn goes_on(bytes: &[u8], at: usize) -> bool
+    requires { at ≤ length bytes.now }
+    ensures { result ≡ parse.goes_on (drop at bytes.now) }
+{
+    if at >= bytes.len() {
+        return false;
+    }
+    let byte = bytes[at];
+    byte == b'.' || byte == b'e' || byte == b'E'
+}
+
+#[tactic(auto, using(crate::proofs::Numbers::numeral_is))]
+/// The digits that stand at `at`, and the place after them.
+fn numeral(bytes: &[u8], at: usize, is_negative: bool) -> Result<(StaticNode, usize), ErrorKind>
+    requires { at ≤ length bytes.now }
+    ensures within { IfOk result (λ p. (at < p.1) × (p.1 ≤ length bytes.now)) }
+    ensures ok { IfOk result (λ p. parse.numeral_at is_negative (parse.digits_len (drop at bytes.now)) (drop at bytes.now) ≡ Some (static_tree p.0, drop p.1 bytes.now)) }
+    ensures err { OnErr result (parse.numeral_at is_negative (parse.digits_len (drop at bytes.now)) (drop at bytes.now) ≡ None) }
+    ensures kind { IfErr result (λ e. e ≢ ErrorKind.InvalidUtf8) }
+{
+    let end = digits_end(bytes, at);
+    if end == at {
+        return Err(ErrorKind::Syntax);
+    }
+    if bytes[at] == b'0' && end - at > 1 {
+        return Err(ErrorKind::Syntax);
+    }
+    if goes_on(bytes, end) {
+        return Err(ErrorKind::Float);
+    }
+    match magnitude(&bytes[at..end]) {
+        None => Err(ErrorKind::NumberTooLarge),
+        Some(n) => match carried(is_negative, n) {
+            None => Err(ErrorKind::NumberTooLarge),
+            Some(node) => Ok((node, end)),
+        },
+    }
+}

@@ -1,0 +1,38 @@
+//! Words, and what stands between values.
+
+ghost use Rattle.std.specs.Prelude.{◌≡◌, ◌+◌, ◌-◌, ◌<◌, ◌≤◌, ℕ, Some, None, length, drop, IfOk, IfErr, OnOk, OnErr, MatchResult, IsTrue, ◌↔◌, ◌≢◌, ◌==◌, slice_index};
+ghost use Rattle.std.specs.List.{starts_with};
+ghost use Rattle.sj_tape.specs.Parse as parse;
+
+use crate::reader::blank::skip;
+use sj_text_core::ErrorKind;
+
+/// Whether the bytes have the word at `at`.
+pub(crate) fn has_word(bytes: &[u8], at: usize, word: &[u8]) -> bool
+    requires { at ≤ length bytes.now }
+    ensures { result ≡ starts_with ◌==◌ (drop at bytes.now) word.now }
+{
+    bytes[at..].starts_with(word)
+}
+
+/// What stands behind a part: whether it is a comma, with the place of the next part, or the
+/// closing byte, with the place after it.
+pub(crate) fn separator(bytes: &[u8], at: usize, close: u8) -> Result<(usize, bool), ErrorKind>
+    requires { at ≤ length bytes.now }
+    ensures within { IfOk result (λ p. (at < p.0) × (p.0 ≤ length bytes.now)) }
+    ensures ok { IfOk result (λ p. parse.separator_at close (drop at bytes.now) ≡ Some (p.1, drop p.0 bytes.now)) }
+    ensures err { OnErr result (parse.separator_at close (drop at bytes.now) ≡ None) }
+    ensures kind { IfErr result (λ e. e ≢ ErrorKind.InvalidUtf8) }
+{
+    let place = skip(bytes, at);
+    if place >= bytes.len() {
+        return Err(ErrorKind::Syntax);
+    }
+    if bytes[place] == close {
+        return Ok((place + 1, false));
+    }
+    if bytes[place] != b',' {
+        return Err(ErrorKind::Syntax);
+    }
+    Ok((skip(bytes, place + 1), true))
+}
