@@ -1,3 +1,4 @@
 mod LineLemmas
+mod FirstPathLemmas
 mod Runs
 mod rows

@@ -1,6 +1,7 @@
 //! Commands at documents, and what they answer.
 #![tactic(auto)]
 
+mod command;
 pub mod laws;
 mod lines;
 
