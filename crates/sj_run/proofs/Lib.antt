@@ -2,3 +2,4 @@ mod LineLemmas
 mod FirstPathLemmas
 mod Runs
 mod rows
+mod SessionLemmas

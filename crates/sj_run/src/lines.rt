@@ -48,6 +48,7 @@ fn is_mark(line: &[u8]) -> bool
 }
 
 /// Where the document ends, and where the command lines begin.
+#[derive(Clone, Copy)]
 pub(crate) struct Cut {
     pub(crate) document: usize,
     pub(crate) commands: usize,
