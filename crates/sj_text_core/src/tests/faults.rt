@@ -35,17 +35,26 @@ fn faults_are_told(rt: HostRuntime) -> Result<(), Fail> {
         assert_eq!(rt; format!(in rt.alloc(); "{fault}")?.as_str(), want);
     }
     let bad = BadTape;
-    assert_eq!(rt; format!(in rt.alloc(); "{bad}")?.as_str(), "the nodes are not those of one tree");
+    assert_eq!(rt;
+        format!(in rt.alloc(); "{bad}")?.as_str(),
+        "the nodes are not those of one tree"
+    );
     let fault = TryTypeError {
         expected: ValueType::Extended(ExtendedValueType::U8),
         got: ValueType::Object,
     };
-    assert_eq!(rt; format!(in rt.alloc(); "{fault}")?.as_str(), "expected Extended(U8), got Object");
+    assert_eq!(rt;
+        format!(in rt.alloc(); "{fault}")?.as_str(),
+        "expected Extended(U8), got Object"
+    );
     let refused = Refused {
         why: AccessError::NotAnArray,
         value: 1_u8,
     };
-    assert_eq!(rt; format!(in rt.alloc(); "{refused:?}")?.as_str(), "Refused { why: NotAnArray, value: 1 }");
+    assert_eq!(rt;
+        format!(in rt.alloc(); "{refused:?}")?.as_str(),
+        "Refused { why: NotAnArray, value: 1 }"
+    );
     Ok(())
 }
 

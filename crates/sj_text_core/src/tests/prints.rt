@@ -58,9 +58,18 @@ const TEXTS: [(&str, &str); 51] = [
     ("tab\x09and\x1fnul\x00", "\"tab\\tand\\u001fnul\\u0000\""),
     ("aaaaaaaaaaaaaaa\"", "\"aaaaaaaaaaaaaaa\\\"\""),
     ("aaaaaaaaaaaaaaaa\\", "\"aaaaaaaaaaaaaaaa\\\\\""),
-    ("aaaaaaaaaaaaaaaaaaaaaaaaaaaaaaa\x0abbbbbbbbbbbbbbbbbbbbbbbbbbbbbbbbb", "\"aaaaaaaaaaaaaaaaaaaaaaaaaaaaaaa\\nbbbbbbbbbbbbbbbbbbbbbbbbbbbbbbbbb\""),
-    ("xxxxxxxxxxxxxxxxxxxxxxxxxxxxxxxxxxxxxxxx", "\"xxxxxxxxxxxxxxxxxxxxxxxxxxxxxxxxxxxxxxxx\""),
-    ("\u{e9}\u{e9}\u{e9}\u{e9}\u{e9}\u{e9}\u{e9}\u{e9}\u{e9}\x7f\x1e\u{20ac}\u{20ac}\u{20ac}\u{20ac}\u{20ac}\u{20ac}\u{20ac}\u{20ac}\u{20ac}", "\"\u{e9}\u{e9}\u{e9}\u{e9}\u{e9}\u{e9}\u{e9}\u{e9}\u{e9}\x7f\\u001e\u{20ac}\u{20ac}\u{20ac}\u{20ac}\u{20ac}\u{20ac}\u{20ac}\u{20ac}\u{20ac}\""),
+    (
+        "aaaaaaaaaaaaaaaaaaaaaaaaaaaaaaa\x0abbbbbbbbbbbbbbbbbbbbbbbbbbbbbbbbb",
+        "\"aaaaaaaaaaaaaaaaaaaaaaaaaaaaaaa\\nbbbbbbbbbbbbbbbbbbbbbbbbbbbbbbbbb\"",
+    ),
+    (
+        "xxxxxxxxxxxxxxxxxxxxxxxxxxxxxxxxxxxxxxxx",
+        "\"xxxxxxxxxxxxxxxxxxxxxxxxxxxxxxxxxxxxxxxx\"",
+    ),
+    (
+        "\u{e9}\u{e9}\u{e9}\u{e9}\u{e9}\u{e9}\u{e9}\u{e9}\u{e9}\x7f\x1e\u{20ac}\u{20ac}\u{20ac}\u{20ac}\u{20ac}\u{20ac}\u{20ac}\u{20ac}\u{20ac}",
+        "\"\u{e9}\u{e9}\u{e9}\u{e9}\u{e9}\u{e9}\u{e9}\u{e9}\u{e9}\x7f\\u001e\u{20ac}\u{20ac}\u{20ac}\u{20ac}\u{20ac}\u{20ac}\u{20ac}\u{20ac}\u{20ac}\"",
+    ),
     ("k\"e\\y", "\"k\\\"e\\\\y\""),
 ];
 

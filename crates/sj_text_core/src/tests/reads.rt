@@ -39,38 +39,230 @@ fn reads(node: StaticNode) -> [bool; 11] {
 }
 
 const FITS: [(StaticNode, ValueType, [bool; 11]); 32] = [
-    (StaticNode::I64(i8::MIN as i64), ValueType::I64, [true, true, true, true, true, false, false, false, false, false, false]),
-    (StaticNode::I64(i8::MAX as i64), ValueType::I64, [true, true, true, true, true, true, true, true, true, true, true]),
-    (StaticNode::I64(i16::MIN as i64), ValueType::I64, [false, true, true, true, true, false, false, false, false, false, false]),
-    (StaticNode::I64(i16::MAX as i64), ValueType::I64, [false, true, true, true, true, false, true, true, true, true, true]),
-    (StaticNode::I64(i32::MIN as i64), ValueType::I64, [false, false, true, true, true, false, false, false, false, false, false]),
-    (StaticNode::I64(i32::MAX as i64), ValueType::I64, [false, false, true, true, true, false, false, true, true, true, true]),
-    (StaticNode::I64(i64::MIN), ValueType::I64, [false, false, false, true, true, false, false, false, false, false, false]),
-    (StaticNode::I64(i64::MAX), ValueType::I64, [false, false, false, true, true, false, false, false, true, true, true]),
-    (StaticNode::I128(i128::MIN), ValueType::I128, [false, false, false, false, true, false, false, false, false, false, false]),
-    (StaticNode::I128(i128::MAX), ValueType::I128, [false, false, false, false, true, false, false, false, false, true, false]),
-    (StaticNode::U64(u8::MIN as u64), ValueType::U64, [true, true, true, true, true, true, true, true, true, true, true]),
-    (StaticNode::U64(u8::MAX as u64), ValueType::U64, [false, true, true, true, true, true, true, true, true, true, true]),
-    (StaticNode::U64(u16::MIN as u64), ValueType::U64, [true, true, true, true, true, true, true, true, true, true, true]),
-    (StaticNode::U64(u16::MAX as u64), ValueType::U64, [false, false, true, true, true, false, true, true, true, true, true]),
-    (StaticNode::U64(u32::MIN as u64), ValueType::U64, [true, true, true, true, true, true, true, true, true, true, true]),
-    (StaticNode::U64(u32::MAX as u64), ValueType::U64, [false, false, false, true, true, false, false, true, true, true, true]),
-    (StaticNode::U64(u64::MIN), ValueType::U64, [true, true, true, true, true, true, true, true, true, true, true]),
-    (StaticNode::U64(u64::MAX), ValueType::U64, [false, false, false, false, true, false, false, false, true, true, true]),
-    (StaticNode::U128(u128::MIN), ValueType::U128, [true, true, true, true, true, true, true, true, true, true, true]),
-    (StaticNode::U128(u128::MAX), ValueType::U128, [false, false, false, false, false, false, false, false, false, true, false]),
-    (StaticNode::U64(usize::MIN as u64), ValueType::U64, [true, true, true, true, true, true, true, true, true, true, true]),
-    (StaticNode::U64(usize::MAX as u64), ValueType::U64, [false, false, false, false, true, false, false, false, true, true, true]),
-    (StaticNode::I64(256), ValueType::I64, [false, true, true, true, true, false, true, true, true, true, true]),
-    (StaticNode::I64(-129), ValueType::I64, [false, true, true, true, true, false, false, false, false, false, false]),
-    (StaticNode::I128(18446744073709551616), ValueType::I128, [false, false, false, false, true, false, false, false, false, true, false]),
-    (StaticNode::U128(170141183460469231731687303715884105728), ValueType::U128, [false, false, false, false, false, false, false, false, false, true, false]),
-    (StaticNode::U128(255), ValueType::U128, [false, true, true, true, true, true, true, true, true, true, true]),
-    (StaticNode::I128(-1), ValueType::I128, [true, true, true, true, true, false, false, false, false, false, false]),
-    (StaticNode::U128(5), ValueType::U128, [true, true, true, true, true, true, true, true, true, true, true]),
-    (StaticNode::I64(65536), ValueType::I64, [false, false, true, true, true, false, false, true, true, true, true]),
-    (StaticNode::U64(9223372036854775808), ValueType::U64, [false, false, false, false, true, false, false, false, true, true, true]),
-    (StaticNode::I128(-9223372036854775809), ValueType::I128, [false, false, false, false, true, false, false, false, false, false, false]),
+    (
+        StaticNode::I64(i8::MIN as i64),
+        ValueType::I64,
+        [
+            true, true, true, true, true, false, false, false, false, false, false,
+        ],
+    ),
+    (
+        StaticNode::I64(i8::MAX as i64),
+        ValueType::I64,
+        [
+            true, true, true, true, true, true, true, true, true, true, true,
+        ],
+    ),
+    (
+        StaticNode::I64(i16::MIN as i64),
+        ValueType::I64,
+        [
+            false, true, true, true, true, false, false, false, false, false, false,
+        ],
+    ),
+    (
+        StaticNode::I64(i16::MAX as i64),
+        ValueType::I64,
+        [
+            false, true, true, true, true, false, true, true, true, true, true,
+        ],
+    ),
+    (
+        StaticNode::I64(i32::MIN as i64),
+        ValueType::I64,
+        [
+            false, false, true, true, true, false, false, false, false, false, false,
+        ],
+    ),
+    (
+        StaticNode::I64(i32::MAX as i64),
+        ValueType::I64,
+        [
+            false, false, true, true, true, false, false, true, true, true, true,
+        ],
+    ),
+    (
+        StaticNode::I64(i64::MIN),
+        ValueType::I64,
+        [
+            false, false, false, true, true, false, false, false, false, false, false,
+        ],
+    ),
+    (
+        StaticNode::I64(i64::MAX),
+        ValueType::I64,
+        [
+            false, false, false, true, true, false, false, false, true, true, true,
+        ],
+    ),
+    (
+        StaticNode::I128(i128::MIN),
+        ValueType::I128,
+        [
+            false, false, false, false, true, false, false, false, false, false, false,
+        ],
+    ),
+    (
+        StaticNode::I128(i128::MAX),
+        ValueType::I128,
+        [
+            false, false, false, false, true, false, false, false, false, true, false,
+        ],
+    ),
+    (
+        StaticNode::U64(u8::MIN as u64),
+        ValueType::U64,
+        [
+            true, true, true, true, true, true, true, true, true, true, true,
+        ],
+    ),
+    (
+        StaticNode::U64(u8::MAX as u64),
+        ValueType::U64,
+        [
+            false, true, true, true, true, true, true, true, true, true, true,
+        ],
+    ),
+    (
+        StaticNode::U64(u16::MIN as u64),
+        ValueType::U64,
+        [
+            true, true, true, true, true, true, true, true, true, true, true,
+        ],
+    ),
+    (
+        StaticNode::U64(u16::MAX as u64),
+        ValueType::U64,
+        [
+            false, false, true, true, true, false, true, true, true, true, true,
+        ],
+    ),
+    (
+        StaticNode::U64(u32::MIN as u64),
+        ValueType::U64,
+        [
+            true, true, true, true, true, true, true, true, true, true, true,
+        ],
+    ),
+    (
+        StaticNode::U64(u32::MAX as u64),
+        ValueType::U64,
+        [
+            false, false, false, true, true, false, false, true, true, true, true,
+        ],
+    ),
+    (
+        StaticNode::U64(u64::MIN),
+        ValueType::U64,
+        [
+            true, true, true, true, true, true, true, true, true, true, true,
+        ],
+    ),
+    (
+        StaticNode::U64(u64::MAX),
+        ValueType::U64,
+        [
+            false, false, false, false, true, false, false, false, true, true, true,
+        ],
+    ),
+    (
+        StaticNode::U128(u128::MIN),
+        ValueType::U128,
+        [
+            true, true, true, true, true, true, true, true, true, true, true,
+        ],
+    ),
+    (
+        StaticNode::U128(u128::MAX),
+        ValueType::U128,
+        [
+            false, false, false, false, false, false, false, false, false, true, false,
+        ],
+    ),
+    (
+        StaticNode::U64(usize::MIN as u64),
+        ValueType::U64,
+        [
+            true, true, true, true, true, true, true, true, true, true, true,
+        ],
+    ),
+    (
+        StaticNode::U64(usize::MAX as u64),
+        ValueType::U64,
+        [
+            false, false, false, false, true, false, false, false, true, true, true,
+        ],
+    ),
+    (
+        StaticNode::I64(256),
+        ValueType::I64,
+        [
+            false, true, true, true, true, false, true, true, true, true, true,
+        ],
+    ),
+    (
+        StaticNode::I64(-129),
+        ValueType::I64,
+        [
+            false, true, true, true, true, false, false, false, false, false, false,
+        ],
+    ),
+    (
+        StaticNode::I128(18446744073709551616),
+        ValueType::I128,
+        [
+            false, false, false, false, true, false, false, false, false, true, false,
+        ],
+    ),
+    (
+        StaticNode::U128(170141183460469231731687303715884105728),
+        ValueType::U128,
+        [
+            false, false, false, false, false, false, false, false, false, true, false,
+        ],
+    ),
+    (
+        StaticNode::U128(255),
+        ValueType::U128,
+        [
+            false, true, true, true, true, true, true, true, true, true, true,
+        ],
+    ),
+    (
+        StaticNode::I128(-1),
+        ValueType::I128,
+        [
+            true, true, true, true, true, false, false, false, false, false, false,
+        ],
+    ),
+    (
+        StaticNode::U128(5),
+        ValueType::U128,
+        [
+            true, true, true, true, true, true, true, true, true, true, true,
+        ],
+    ),
+    (
+        StaticNode::I64(65536),
+        ValueType::I64,
+        [
+            false, false, true, true, true, false, false, true, true, true, true,
+        ],
+    ),
+    (
+        StaticNode::U64(9223372036854775808),
+        ValueType::U64,
+        [
+            false, false, false, false, true, false, false, false, true, true, true,
+        ],
+    ),
+    (
+        StaticNode::I128(-9223372036854775809),
+        ValueType::I128,
+        [
+            false, false, false, false, true, false, false, false, false, false, false,
+        ],
+    ),
 ];
 
 #[test]
