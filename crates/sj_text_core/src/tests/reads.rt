@@ -4,273 +4,106 @@ use crate::{
     ExtendedValueType, SameAs, StaticNode, TryTypeError, TypedValue, ValueAsScalar, ValueType,
 };
 
-/// In which of the integer types the value lies: the signed ones from `i8` on, then the unsigned.
-fn fits(node: StaticNode) -> [bool; 11] {
-    [
-        node.is_i8(),
-        node.is_i16(),
-        node.is_i32(),
-        node.is_i64(),
-        node.is_i128(),
-        node.is_u8(),
-        node.is_u16(),
-        node.is_u32(),
-        node.is_u64(),
-        node.is_u128(),
-        node.is_usize(),
-    ]
-}
-
-/// The same by the reads themselves, each of which gives the number back.
-fn reads(node: StaticNode) -> [bool; 11] {
-    [
-        node.as_i8().is_some_and(|n| node.same_as(&n)),
-        node.as_i16().is_some_and(|n| node.same_as(&n)),
-        node.as_i32().is_some_and(|n| node.same_as(&n)),
-        node.as_i64().is_some_and(|n| node.same_as(&n)),
-        node.as_i128().is_some_and(|n| node.same_as(&n)),
-        node.as_u8().is_some_and(|n| node.same_as(&n)),
-        node.as_u16().is_some_and(|n| node.same_as(&n)),
-        node.as_u32().is_some_and(|n| node.same_as(&n)),
-        node.as_u64().is_some_and(|n| node.same_as(&n)),
-        node.as_u128().is_some_and(|n| node.same_as(&n)),
-        node.as_usize().is_some_and(|n| node.same_as(&n)),
-    ]
-}
-
-const FITS: [(StaticNode, ValueType, [bool; 11]); 32] = [
-    (
-        StaticNode::I64(i8::MIN as i64),
-        ValueType::I64,
-        [
-            true, true, true, true, true, false, false, false, false, false, false,
-        ],
-    ),
-    (
-        StaticNode::I64(i8::MAX as i64),
-        ValueType::I64,
-        [
-            true, true, true, true, true, true, true, true, true, true, true,
-        ],
-    ),
-    (
-        StaticNode::I64(i16::MIN as i64),
-        ValueType::I64,
-        [
-            false, true, true, true, true, false, false, false, false, false, false,
-        ],
-    ),
-    (
-        StaticNode::I64(i16::MAX as i64),
-        ValueType::I64,
-        [
-            false, true, true, true, true, false, true, true, true, true, true,
-        ],
-    ),
-    (
-        StaticNode::I64(i32::MIN as i64),
-        ValueType::I64,
-        [
-            false, false, true, true, true, false, false, false, false, false, false,
-        ],
-    ),
-    (
-        StaticNode::I64(i32::MAX as i64),
-        ValueType::I64,
-        [
-            false, false, true, true, true, false, false, true, true, true, true,
-        ],
-    ),
-    (
-        StaticNode::I64(i64::MIN),
-        ValueType::I64,
-        [
-            false, false, false, true, true, false, false, false, false, false, false,
-        ],
-    ),
-    (
-        StaticNode::I64(i64::MAX),
-        ValueType::I64,
-        [
-            false, false, false, true, true, false, false, false, true, true, true,
-        ],
-    ),
-    (
-        StaticNode::I128(i128::MIN),
-        ValueType::I128,
-        [
-            false, false, false, false, true, false, false, false, false, false, false,
-        ],
-    ),
-    (
-        StaticNode::I128(i128::MAX),
-        ValueType::I128,
-        [
-            false, false, false, false, true, false, false, false, false, true, false,
-        ],
-    ),
-    (
-        StaticNode::U64(u8::MIN as u64),
-        ValueType::U64,
-        [
-            true, true, true, true, true, true, true, true, true, true, true,
-        ],
-    ),
-    (
-        StaticNode::U64(u8::MAX as u64),
-        ValueType::U64,
-        [
-            false, true, true, true, true, true, true, true, true, true, true,
-        ],
-    ),
-    (
-        StaticNode::U64(u16::MIN as u64),
-        ValueType::U64,
-        [
-            true, true, true, true, true, true, true, true, true, true, true,
-        ],
-    ),
-    (
-        StaticNode::U64(u16::MAX as u64),
-        ValueType::U64,
-        [
-            false, false, true, true, true, false, true, true, true, true, true,
-        ],
-    ),
-    (
-        StaticNode::U64(u32::MIN as u64),
-        ValueType::U64,
-        [
-            true, true, true, true, true, true, true, true, true, true, true,
-        ],
-    ),
-    (
-        StaticNode::U64(u32::MAX as u64),
-        ValueType::U64,
-        [
-            false, false, false, true, true, false, false, true, true, true, true,
-        ],
-    ),
-    (
-        StaticNode::U64(u64::MIN),
-        ValueType::U64,
-        [
-            true, true, true, true, true, true, true, true, true, true, true,
-        ],
-    ),
-    (
-        StaticNode::U64(u64::MAX),
-        ValueType::U64,
-        [
-            false, false, false, false, true, false, false, false, true, true, true,
-        ],
-    ),
-    (
-        StaticNode::U128(u128::MIN),
-        ValueType::U128,
-        [
-            true, true, true, true, true, true, true, true, true, true, true,
-        ],
-    ),
-    (
-        StaticNode::U128(u128::MAX),
-        ValueType::U128,
-        [
-            false, false, false, false, false, false, false, false, false, true, false,
-        ],
-    ),
-    (
-        StaticNode::U64(usize::MIN as u64),
-        ValueType::U64,
-        [
-            true, true, true, true, true, true, true, true, true, true, true,
-        ],
-    ),
-    (
-        StaticNode::U64(usize::MAX as u64),
-        ValueType::U64,
-        [
-            false, false, false, false, true, false, false, false, true, true, true,
-        ],
-    ),
-    (
-        StaticNode::I64(256),
-        ValueType::I64,
-        [
-            false, true, true, true, true, false, true, true, true, true, true,
-        ],
-    ),
-    (
-        StaticNode::I64(-129),
-        ValueType::I64,
-        [
-            false, true, true, true, true, false, false, false, false, false, false,
-        ],
-    ),
-    (
-        StaticNode::I128(18446744073709551616),
-        ValueType::I128,
-        [
-            false, false, false, false, true, false, false, false, false, true, false,
-        ],
-    ),
+/// Numbers, and the narrowest signed and unsigned type that each fits: 0 for 8 bits, 1 for 16 and so
+/// on up to 4 for 128, and 5 for none.
+const NUMBERS: [(StaticNode, usize, usize); 32] = [
+    (StaticNode::I64(i8::MIN as i64), 0, 5),
+    (StaticNode::I64(i8::MAX as i64), 0, 0),
+    (StaticNode::I64(i16::MIN as i64), 1, 5),
+    (StaticNode::I64(i16::MAX as i64), 1, 1),
+    (StaticNode::I64(i32::MIN as i64), 2, 5),
+    (StaticNode::I64(i32::MAX as i64), 2, 2),
+    (StaticNode::I64(i64::MIN), 3, 5),
+    (StaticNode::I64(i64::MAX), 3, 3),
+    (StaticNode::I128(i128::MIN), 4, 5),
+    (StaticNode::I128(i128::MAX), 4, 4),
+    (StaticNode::U64(u8::MIN as u64), 0, 0),
+    (StaticNode::U64(u8::MAX as u64), 1, 0),
+    (StaticNode::U64(u16::MIN as u64), 0, 0),
+    (StaticNode::U64(u16::MAX as u64), 2, 1),
+    (StaticNode::U64(u32::MIN as u64), 0, 0),
+    (StaticNode::U64(u32::MAX as u64), 3, 2),
+    (StaticNode::U64(u64::MIN), 0, 0),
+    (StaticNode::U64(u64::MAX), 4, 3),
+    (StaticNode::U128(u128::MIN), 0, 0),
+    (StaticNode::U128(u128::MAX), 5, 4),
+    (StaticNode::U64(usize::MIN as u64), 0, 0),
+    (StaticNode::U64(usize::MAX as u64), 4, 3),
+    (StaticNode::I64(256), 1, 1),
+    (StaticNode::I64(-129), 1, 5),
+    (StaticNode::I128(18446744073709551616), 4, 4),
     (
         StaticNode::U128(170141183460469231731687303715884105728),
-        ValueType::U128,
-        [
-            false, false, false, false, false, false, false, false, false, true, false,
-        ],
+        5,
+        4,
     ),
-    (
-        StaticNode::U128(255),
-        ValueType::U128,
-        [
-            false, true, true, true, true, true, true, true, true, true, true,
-        ],
-    ),
-    (
-        StaticNode::I128(-1),
-        ValueType::I128,
-        [
-            true, true, true, true, true, false, false, false, false, false, false,
-        ],
-    ),
-    (
-        StaticNode::U128(5),
-        ValueType::U128,
-        [
-            true, true, true, true, true, true, true, true, true, true, true,
-        ],
-    ),
-    (
-        StaticNode::I64(65536),
-        ValueType::I64,
-        [
-            false, false, true, true, true, false, false, true, true, true, true,
-        ],
-    ),
-    (
-        StaticNode::U64(9223372036854775808),
-        ValueType::U64,
-        [
-            false, false, false, false, true, false, false, false, true, true, true,
-        ],
-    ),
-    (
-        StaticNode::I128(-9223372036854775809),
-        ValueType::I128,
-        [
-            false, false, false, false, true, false, false, false, false, false, false,
-        ],
-    ),
+    (StaticNode::U128(255), 1, 0),
+    (StaticNode::I128(-1), 0, 5),
+    (StaticNode::U128(5), 0, 0),
+    (StaticNode::I64(65536), 2, 2),
+    (StaticNode::U64(9223372036854775808), 4, 3),
+    (StaticNode::I128(-9223372036854775809), 4, 5),
 ];
+
+/// Which signed types the value fits, and what they read of it is the value.
+fn signed(node: StaticNode) -> [(bool, bool); 5] {
+    [
+        (node.is_i8(), node.as_i8().is_some_and(|n| node.same_as(&n))),
+        (
+            node.is_i16(),
+            node.as_i16().is_some_and(|n| node.same_as(&n)),
+        ),
+        (
+            node.is_i32(),
+            node.as_i32().is_some_and(|n| node.same_as(&n)),
+        ),
+        (
+            node.is_i64(),
+            node.as_i64().is_some_and(|n| node.same_as(&n)),
+        ),
+        (
+            node.is_i128(),
+            node.as_i128().is_some_and(|n| node.same_as(&n)),
+        ),
+    ]
+}
+
+/// Which unsigned types the value fits, and what they read of it is the value.
+fn unsigned(node: StaticNode) -> [(bool, bool); 5] {
+    [
+        (node.is_u8(), node.as_u8().is_some_and(|n| node.same_as(&n))),
+        (
+            node.is_u16(),
+            node.as_u16().is_some_and(|n| node.same_as(&n)),
+        ),
+        (
+            node.is_u32(),
+            node.as_u32().is_some_and(|n| node.same_as(&n)),
+        ),
+        (
+            node.is_u64(),
+            node.as_u64().is_some_and(|n| node.same_as(&n)),
+        ),
+        (
+            node.is_u128(),
+            node.as_u128().is_some_and(|n| node.same_as(&n)),
+        ),
+    ]
+}
 
 #[test]
 fn numbers_are_read_by_their_ranges(rt: HostRuntime) {
-    for (node, kind, want) in FITS {
-        assert_eq!(rt; node.value_type(), kind);
-        assert_eq!(rt; fits(node), want, "at {node}");
-        assert_eq!(rt; reads(node), want, "at {node}");
+    for (node, narrowest_signed, narrowest_unsigned) in NUMBERS {
+        for (i, reads) in signed(node).into_iter().enumerate() {
+            let fits = narrowest_signed <= i;
+            assert_eq!(rt; reads, (fits, fits), "{node} at {i}");
+        }
+        for (i, reads) in unsigned(node).into_iter().enumerate() {
+            let fits = narrowest_unsigned <= i;
+            assert_eq!(rt; reads, (fits, fits), "{node} at {i}");
+        }
+        assert_eq!(rt; node.is_usize(), node.is_u64());
+        assert_eq!(rt; node.as_usize().is_some(), node.is_usize());
     }
 }
 
@@ -368,6 +201,15 @@ fn reads_answer_the_value(rt: HostRuntime) {
 
 #[test]
 fn kinds_are_told(rt: HostRuntime) {
+    let carriers = [
+        (StaticNode::I64(1), ValueType::I64),
+        (StaticNode::U64(1), ValueType::U64),
+        (StaticNode::I128(1), ValueType::I128),
+        (StaticNode::U128(1), ValueType::U128),
+    ];
+    for (node, kind) in carriers {
+        assert_eq!(rt; node.value_type(), kind);
+    }
     let nodes = [
         (StaticNode::Null, true, false),
         (StaticNode::Bool(false), false, true),
