@@ -4,6 +4,7 @@
 pub mod array;
 mod node;
 pub mod object;
+mod preorder;
 mod scalar;
 mod step;
 mod tape;
