@@ -8,6 +8,8 @@ mod preorder;
 mod scalar;
 mod step;
 mod tape;
+#[cfg(test)]
+mod tests;
 mod value;
 
 pub use array::Array;
