@@ -39,31 +39,31 @@ items_len-push : (is : Items) (t : Tree) → items_len (push t is) ≡ suc (item
 items_len-push no_items t = refl
 items_len-push (item u is) t = ap suc (items_len-push is t)
 
--- one item more
-record ItemMore (done at : ℕ) (ns : List Mark) (d : Mark) : Type 0 where
-  pub next : BeginsItems (done + 1) (at + width (get_or ns at d)) ns
-  pub inside : at + width (get_or ns at d) ≤ length ns
+-- how many nodes they leave
+items_leave : (len count : ℕ) (ns : List Mark) (b : BeginsItems len count ns) → length ns ≡ count + length b.rest
+items_leave len count ns b =
+    ap (λ (l : List Mark). length l) b.are ∙ (length-append (flat_items b.items) b.rest ∙ ap (λ n. n + length b.rest) b.wide)
 
-item_more : (done at : ℕ) (ns : List Mark) (d : Mark) → AllBegin ns → BeginsItems done at ns → at < length ns → ItemMore done at ns d
-item_more done at ns d h b l =
-    let lens : length ns ≡ at + length b.rest = ap (λ (l : List Mark). length l) b.are ∙ (length-append (flat_items b.items) b.rest ∙ ap (λ n. n + length b.rest) b.wide) in
-    let first = begins_first b.rest (AllBegin-append (flat_items b.items) b.rest (subst (λ ns. AllBegin ns) b.are h)) (omega (arith, lens)) in
-    let w : width (get_or ns at d) ≡ length (flat first.tree) =
-    ap (λ n. width (get_or ns n d)) (omega arith) ∙ (ap (λ m. width m) (get_or_behind ns (flat_items b.items) b.rest at 0 d b.are b.wide) ∙ width_first b.rest first d) in
-    let more : length (flat_items (push first.tree b.items)) ≡ at + length (flat first.tree) =
-    ap (λ (l : List Mark). length l) (flat_items-push b.items first.tree) ∙ (length-append (flat_items b.items) (flat first.tree) ∙ ap (λ n. n + length (flat first.tree)) b.wide) in
-    let rests : length b.rest ≡ length (flat first.tree) + length first.rest = ap (λ (l : List Mark). length l) first.are ∙ length-append (flat first.tree) first.rest in
+-- and one item more
+items_next : (done at : ℕ) (ns : List Mark) (b : BeginsItems done at ns) (first : BeginsTree b.rest) → BeginsItems (done + 1) (at + length (flat first.tree)) ns
+items_next done at ns b first =
     record {
-      next = record {
-        items = push first.tree b.items;
-        rest = first.rest;
-        are = b.are ∙ (ap (λ l. flat_items b.items ++ l) first.are ∙ (sym (append_assoc (flat_items b.items) (flat first.tree) first.rest)
-        ∙ ap (λ l. l ++ first.rest) (sym (flat_items-push b.items first.tree))));
-        counted = omega (arith, items_len-push b.items first.tree, b.counted);
-        wide = more ∙ ap (λ n. at + n) (sym w);
-      };
-      inside = omega (arith, lens, w, rests);
+      items = push first.tree b.items;
+      rest = first.rest;
+      are = b.are ∙ (ap (λ l. flat_items b.items ++ l) first.are ∙ (sym (append_assoc (flat_items b.items) (flat first.tree) first.rest)
+      ∙ ap (λ l. l ++ first.rest) (sym (flat_items-push b.items first.tree))));
+      counted = omega (arith, items_len-push b.items first.tree, b.counted);
+      wide = ap (λ (l : List Mark). length l) (flat_items-push b.items first.tree)
+      ∙ (length-append (flat_items b.items) (flat first.tree) ∙ ap (λ n. n + length (flat first.tree)) b.wide);
     }
+
+item_more : (done at : ℕ) (ns : List Mark) (d : Mark) → AllBegin ns → BeginsItems done at ns → at < length ns → BeginsItems (done + 1) (at + width (get_or ns at d)) ns
+item_more done at ns d h b l =
+    let begins = AllBegin-append (flat_items b.items) b.rest (subst (λ ns. AllBegin ns) b.are h) in
+    let first = begins_first b.rest begins (omega (arith, items_leave done at ns b)) in
+    let w = get_or_behind ns (flat_items b.items) b.rest at 0 d b.are b.wide in
+    subst (λ n. BeginsItems (done + 1) (at + n) ns)
+    (sym (width_first b.rest first d) ∙ (ap (λ m. width m) (sym w) ∙ ap (λ n. width (get_or ns n d)) (omega arith))) (items_next done at ns b first)
 
 -- where there are more items, a tree begins behind the fewer
 items_longer : (is js : Items) (r s : List Mark) → items_len js < items_len is → flat_items js ++ s ≡ flat_items is ++ r → BeginsTree s
@@ -77,10 +77,9 @@ items_longer (item t is) (item u js) r s l e =
 -- no more items follow where no nodes do
 pub items_end : (done at len count : ℕ) (ns : List Mark) → BeginsItems done at ns → done < len → length ns ≤ at → BeginsItems len count ns → ⊥
 items_end done at len count ns b l h c =
-    let lens : length ns ≡ at + length b.rest = ap (λ (l : List Mark). length l) b.are ∙ (length-append (flat_items b.items) b.rest ∙ ap (λ n. n + length b.rest) b.wide) in
     let more = items_longer c.items b.items c.rest b.rest (omega (arith, l, b.counted, c.counted)) (sym b.are ∙ c.are) in
-    let rests : length b.rest ≡ length (flat more.tree) + length more.rest = ap (λ (l : List Mark). length l) more.are ∙ length-append (flat more.tree) more.rest in
-    omega (arith, lens, h, rests, length-flat more.tree)
+    let rests = ap (λ (l : List Mark). length l) more.are ∙ length-append (flat more.tree) more.rest in
+    omega (arith, items_leave done at ns b, h, rests, length-flat more.tree)
 
 items_alike : (is js : Items) (r s : List Mark) → items_len is ≡ items_len js → flat_items is ++ r ≡ flat_items js ++ s → is ≡ js
 items_alike no_items no_items r s l e = refl
@@ -119,43 +118,47 @@ record BeginsMember (ns : List Mark) : Type 0 where
   rest : List Mark
   are : ns ≡ string name ∷ (flat tree ++ rest)
 
--- one member more
-record MemberMore (done at : ℕ) (ns : List Mark) (d : Mark) : Type 0 where
-  pub next : BeginsMembers (done + 1) (at + (1 + width (get_or ns (at + 1) d))) ns
-  pub inside : at + (1 + width (get_or ns (at + 1) d)) ≤ length ns
+-- how many nodes they leave
+members_leave : (len count : ℕ) (ns : List Mark) (b : BeginsMembers len count ns) → length ns ≡ count + length b.rest
+members_leave len count ns b =
+    ap (λ (l : List Mark). length l) b.are ∙ (length-append (flat_members b.members) b.rest ∙ ap (λ n. n + length b.rest) b.wide)
 
--- the first two nodes of a stretch, where the first is a key
-behind_key : (ns : List Mark) (d : Mark) (k : List ℕ) → 0 < length ns → get_or ns 0 d ≡ string k → ns ≡ string k ∷ drop 1 ns
-behind_key [] d k l e = absurd (omega (arith, l))
-behind_key (m ∷ ns) d k l e = ap (λ n. n ∷ ns) e
-
-member_more : (done at : ℕ) (ns : List Mark) (d : Mark) (k : List ℕ) → AllBegin ns → BeginsMembers done at ns → at + 1 < length ns → get_or ns at d ≡ string k → MemberMore done at ns d
-member_more done at ns d k h b l e =
-    let lens : length ns ≡ at + length b.rest = ap (λ (l : List Mark). length l) b.are ∙ (length-append (flat_members b.members) b.rest ∙ ap (λ n. n + length b.rest) b.wide) in
-    let begins = AllBegin-append (flat_members b.members) b.rest (subst (λ ns. AllBegin ns) b.are h) in
-    let key : get_or b.rest 0 d ≡ string k =
-    sym (get_or_behind ns (flat_members b.members) b.rest at 0 d b.are b.wide) ∙ (ap (λ n. get_or ns n d) (omega arith) ∙ e) in
-    let named : b.rest ≡ string k ∷ drop 1 b.rest = behind_key b.rest d k (omega (arith, lens)) key in
-    let behind : length b.rest ≡ suc (length (drop 1 b.rest)) = ap (λ (l : List Mark). length l) named in
-    let first = begins_first (drop 1 b.rest) (AllBegin-append (string k ∷ []) (drop 1 b.rest) (subst (λ ns. AllBegin ns) named begins)) (omega (arith, lens, behind)) in
-    let w : width (get_or ns (at + 1) d) ≡ length (flat first.tree) =
-    ap (λ m. width m) (get_or_behind ns (flat_members b.members) b.rest at 1 d b.are b.wide ∙ (ap (λ n. get_or b.rest n d) (omega arith) ∙ sym (get_or-drop 1 b.rest 0 d)))
-    ∙ width_first (drop 1 b.rest) first d in
-    let more : length (flat_members (with_member k first.tree b.members)) ≡ at + suc (length (flat first.tree)) =
-    ap (λ (l : List Mark). length l) (flat_members-with_member b.members k first.tree)
-    ∙ (length-append (flat_members b.members) (string k ∷ flat first.tree) ∙ ap (λ n. n + suc (length (flat first.tree))) b.wide) in
-    let rests : length (drop 1 b.rest) ≡ length (flat first.tree) + length first.rest = ap (λ (l : List Mark). length l) first.are ∙ length-append (flat first.tree) first.rest in
+-- and one member more
+members_next : (done at : ℕ) (ns : List Mark) (b : BeginsMembers done at ns) (first : BeginsMember b.rest) → BeginsMembers (done + 1) (at + (1 + length (flat first.tree))) ns
+members_next done at ns b first =
     record {
-      next = record {
-        members = with_member k first.tree b.members;
-        rest = first.rest;
-        are = b.are ∙ (ap (λ l. flat_members b.members ++ l) (named ∙ ap (λ l. string k ∷ l) first.are)
-        ∙ (sym (append_assoc (flat_members b.members) (string k ∷ flat first.tree) first.rest) ∙ ap (λ l. l ++ first.rest) (sym (flat_members-with_member b.members k first.tree))));
-        counted = omega (arith, members_len-with_member b.members k first.tree, b.counted);
-        wide = omega (arith, more, w);
-      };
-      inside = omega (arith, lens, w, rests, behind);
+      members = with_member first.name first.tree b.members;
+      rest = first.rest;
+      are = b.are ∙ (ap (λ l. flat_members b.members ++ l) first.are ∙ (sym (append_assoc (flat_members b.members) (string first.name ∷ flat first.tree) first.rest)
+      ∙ ap (λ l. l ++ first.rest) (sym (flat_members-with_member b.members first.name first.tree))));
+      counted = omega (arith, members_len-with_member b.members first.name first.tree, b.counted);
+      wide = omega (arith, ap (λ (l : List Mark). length l) (flat_members-with_member b.members first.name first.tree),
+      length-append (flat_members b.members) (string first.name ∷ flat first.tree), b.wide);
     }
+
+-- the member at the first node, where that is a key with a node behind it
+record FirstMember (ns : List Mark) (d : Mark) : Type 0 where
+  begins : BeginsMember ns
+  wide : width (get_or ns 1 d) ≡ length (flat begins.tree)
+
+first_member : (ns : List Mark) (d : Mark) (k : List ℕ) → AllBegin ns → 1 < length ns → get_or ns 0 d ≡ string k → FirstMember ns d
+first_member [] d k h l e = absurd (omega (arith, l))
+first_member (m ∷ []) d k h l e = absurd (omega (arith, l))
+first_member (m ∷ n ∷ ns) d k h l e =
+    let behind : BeginsTree (n ∷ ns) = h.1.0 in
+    record {
+      begins = record { name = k; tree = behind.tree; rest = behind.rest; are = ap (λ x. x ∷ n ∷ ns) e ∙ ap (λ l. string k ∷ l) behind.are };
+      wide = width_first (n ∷ ns) behind d;
+    }
+
+member_more : (done at : ℕ) (ns : List Mark) (d : Mark) (k : List ℕ) → AllBegin ns → BeginsMembers done at ns → at + 1 < length ns → get_or ns at d ≡ string k
+    → BeginsMembers (done + 1) (at + (1 + width (get_or ns (at + 1) d))) ns
+member_more done at ns d k h b l e =
+    let begins = AllBegin-append (flat_members b.members) b.rest (subst (λ ns. AllBegin ns) b.are h) in
+    let key = get_or_behind ns (flat_members b.members) b.rest at 0 d b.are b.wide in
+    let first = first_member b.rest d k begins (omega (arith, members_leave done at ns b)) (sym key ∙ (ap (λ n. get_or ns n d) (omega arith) ∙ e)) in
+    let w = get_or_behind ns (flat_members b.members) b.rest at 1 d b.are b.wide in
+    subst (λ n. BeginsMembers (done + 1) (at + (1 + n)) ns) (sym first.wide ∙ ap (λ m. width m) (sym w)) (members_next done at ns b first.begins)
 
 -- where there are more members, a member begins behind the fewer
 members_longer : (ms ns : Members) (r s : List Mark) → members_len ns < members_len ms → flat_members ns ++ s ≡ flat_members ms ++ r → BeginsMember s
@@ -172,10 +175,9 @@ members_longer (member k t ms) (member j u ns) r s l e =
 pub members_end : (done at len count : ℕ) (ns : List Mark) (d : Mark) → BeginsMembers done at ns → done < len
     → (at + 1 < length ns → (k : List ℕ) → get_or ns at d ≡ string k → ⊥) → BeginsMembers len count ns → ⊥
 members_end done at len count ns d b l h c =
-    let lens : length ns ≡ at + length b.rest = ap (λ (l : List Mark). length l) b.are ∙ (length-append (flat_members b.members) b.rest ∙ ap (λ n. n + length b.rest) b.wide) in
     let more = members_longer c.members b.members c.rest b.rest (omega (arith, l, b.counted, c.counted)) (sym b.are ∙ c.are) in
-    let rests : length b.rest ≡ suc (length (flat more.tree) + length more.rest) = ap (λ (l : List Mark). length l) more.are ∙ ap suc (length-append (flat more.tree) more.rest) in
-    h (omega (arith, lens, rests, length-flat more.tree)) more.name
+    let rests = ap (λ (l : List Mark). length l) more.are ∙ ap suc (length-append (flat more.tree) more.rest) in
+    h (omega (arith, members_leave done at ns b, rests, length-flat more.tree)) more.name
     (ap (λ n. get_or ns n d) (omega arith) ∙ (get_or_behind ns (flat_members b.members) b.rest at 0 d b.are b.wide ∙ ap (λ l. get_or l 0 d) more.are))
 
 members_alike : (ms ns : Members) (r s : List Mark) → members_len ms ≡ members_len ns → flat_members ms ++ r ≡ flat_members ns ++ s → length (flat_members ms) ≡ length (flat_members ns)
@@ -205,7 +207,7 @@ item_step done at nodes h b l =
     let lens : length (marks nodes) ≡ length nodes = length-map nodes mark in
     let more = item_more done at (marks nodes) (mark (Static Null)) h b (omega (arith, l, lens)) in
     let w : width (get_or (marks nodes) at (mark (Static Null))) ≡ width (mark (get_or nodes at (Static Null))) = ap (λ m. width m) (get_or-map mark nodes at (Static Null)) in
-    record { next = subst (λ n. BeginsItems (done + 1) (at + n) (marks nodes)) w more.next; inside = omega (arith, more.inside, w, lens) }
+    record { next = subst (λ n. BeginsItems (done + 1) (at + n) (marks nodes)) w more; inside = omega (arith, items_leave _ _ _ more, w, lens) }
 
 pub items_none : (done at len : ℕ) (nodes : List Node) → BeginsItems done at (marks nodes) → done < len → length nodes ≤ at → (count : ℕ) → BeginsItems len count (marks nodes) → ⊥
 items_none done at len nodes b l h count c =
@@ -222,7 +224,7 @@ member_step done at nodes h b l k =
     let lens : length (marks nodes) ≡ length nodes = length-map nodes mark in
     let more = member_more done at (marks nodes) (mark (Static Null)) k.0 h b (omega (arith, l, lens)) (get_or-map mark nodes at (Static Null) ∙ k.1) in
     let w : width (get_or (marks nodes) (at + 1) (mark (Static Null))) ≡ width (mark (get_or nodes (at + 1) (Static Null))) = ap (λ m. width m) (get_or-map mark nodes (at + 1) (Static Null)) in
-    record { next = subst (λ n. BeginsMembers (done + 1) (at + (1 + n)) (marks nodes)) w more.next; inside = omega (arith, more.inside, w, lens) }
+    record { next = subst (λ n. BeginsMembers (done + 1) (at + (1 + n)) (marks nodes)) w more; inside = omega (arith, members_leave _ _ _ more, w, lens) }
 
 pub members_none : (done at len : ℕ) (nodes : List Node) → BeginsMembers done at (marks nodes) → done < len → (at + 1 < length nodes → IsText (mark (get_or nodes at (Static Null))) → ⊥)
     → (count : ℕ) → BeginsMembers len count (marks nodes) → ⊥
