@@ -20,3 +20,5 @@ pub mod Runs
 pub mod PlainRuns
 pub mod Splits
 pub mod Containers
+pub mod Counts
+pub mod Preorders
