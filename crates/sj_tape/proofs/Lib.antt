@@ -18,3 +18,4 @@ pub mod Proper
 pub mod Lanes
 pub mod Runs
 pub mod PlainRuns
+pub mod Digits

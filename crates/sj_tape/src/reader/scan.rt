@@ -2,17 +2,17 @@
 
 ghost use Rattle.std.specs.Prelude.{◌≡◌, ◌+◌, ◌-◌, ◌<◌, ◌≤◌, ℕ, Some, None, length, drop, IfOk, IfErr, OnOk, OnErr, MatchResult, IsTrue, ◌↔◌, ◌≢◌, ◌==◌, slice_index};
 ghost use Rattle.sj_tape.specs.Pieces.{IsBetween, InOrder, Reads, ReadsPiece, ReadsItems, ReadsMembers, ReadsMember, Scans};
-ghost use Rattle.sj_text_core.specs.Scalars.{static_tree};
 ghost use Rattle.sj_tape.specs.Parse as parse;
 
 use crate::reader::blank::skip;
-use crate::reader::number::number;
+use crate::reader::number::number_piece;
 use crate::reader::piece::Piece;
 use crate::reader::string::text;
-use crate::reader::structure::{has_word, separator};
-use sj_text_core::{ErrorKind, StaticNode};
+use crate::reader::structure::{separator, word_end};
+use sj_text_core::ErrorKind;
 
 /// A string or a word that stands at `at`, or a number, and the place after it.
+#[inline(always)]
 fn scalar(bytes: &[u8], at: usize) -> Result<(Piece, usize), ErrorKind>
     requires at { at < length bytes.now }
     requires no_list { slice_index bytes.now at ≢ 91 }
@@ -28,30 +28,15 @@ fn scalar(bytes: &[u8], at: usize) -> Result<(Piece, usize), ErrorKind>
         return text(bytes, at + 1);
     }
     if byte == b'n' {
-        return word(bytes, at, b"null", StaticNode::Null);
+        return Ok((Piece::Null, word_end(bytes, at, b"null")?));
     }
     if byte == b't' {
-        return word(bytes, at, b"true", StaticNode::Bool(true));
+        return Ok((Piece::Bool(true), word_end(bytes, at, b"true")?));
     }
     if byte == b'f' {
-        return word(bytes, at, b"false", StaticNode::Bool(false));
+        return Ok((Piece::Bool(false), word_end(bytes, at, b"false")?));
     }
-    let (number, next) = number(bytes, at)?;
-    Ok((Piece::Static(number), next))
-}
-
-fn word(bytes: &[u8], at: usize, word: &[u8], node: StaticNode) -> Result<(Piece, usize), ErrorKind>
-    requires at { at < length bytes.now }
-    requires some { 0 < length word.now }
-    ensures within { IfOk result (λ p. (at < p.1) × (p.1 ≤ length bytes.now)) }
-    ensures ok { IfOk result (λ p. (p.0 ≡ Piece.Static node) × (parse.word_at word.now (static_tree node) (drop at bytes.now) ≡ Some (static_tree node, drop p.1 bytes.now))) }
-    ensures err { OnErr result (parse.word_at word.now (static_tree node) (drop at bytes.now) ≡ None) }
-    ensures kind { IfErr result (λ e. e ≢ ErrorKind.InvalidUtf8) }
-{
-    if !has_word(bytes, at, word) {
-        return Err(ErrorKind::Syntax);
-    }
-    Ok((Piece::Static(node), at + word.len()))
+    number_piece(bytes, at)
 }
 
 /// Reads the value at `at`, puts its nodes at the end, and answers the place after it.
