@@ -19,3 +19,4 @@ pub mod Lanes
 pub mod Runs
 pub mod PlainRuns
 pub mod Digits
+pub mod Blanks

@@ -24,11 +24,12 @@ pub(crate) fn lend<'i>(
 {
     let mut nodes = Vec::with_capacity(alloc, pieces.len())?;
     for piece in pieces {
-        nodes.push(node(bytes, *piece))?;
+        nodes.push_reserved(node(bytes, *piece));
     }
     Ok(nodes)
 }
 
+#[inline(always)]
 fn node<'i>(bytes: &'i [u8], piece: Piece) -> Node<'i>
     requires inside { IsInside bytes.now (length bytes.now) piece }
     requires text { IsTextMark (piece_mark bytes.now piece) }

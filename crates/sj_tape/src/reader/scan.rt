@@ -1,6 +1,6 @@
 //! The first pass: from bytes to pieces.
 
-ghost use Rattle.std.specs.Prelude.{◌≡◌, ◌+◌, ◌-◌, ◌<◌, ◌≤◌, ℕ, Some, None, length, drop, IfOk, IfErr, OnOk, OnErr, MatchResult, IsTrue, ◌↔◌, ◌≢◌, ◌==◌, slice_index};
+ghost use Rattle.std.specs.Prelude.{◌≡◌, ◌+◌, ◌-◌, ◌<◌, ◌≤◌, ℕ, Some, None, length, drop, IfOk, IfErr, OnOk, OnErr, MatchResult, IsTrue, ◌↔◌, ◌≢◌, ◌==◌, ◌++◌, ◌∷◌, [], slice_index};
 ghost use Rattle.sj_tape.specs.Pieces.{IsBetween, InOrder, Reads, ReadsPiece, ReadsItems, ReadsMembers, ReadsMember, Scans};
 ghost use Rattle.sj_tape.specs.Parse as parse;
 
@@ -10,6 +10,29 @@ use crate::reader::piece::Piece;
 use crate::reader::string::text;
 use crate::reader::structure::{separator, word_end};
 use sj_text_core::ErrorKind;
+
+/// Puts a piece at the end where there is no room for it yet.
+#[inline(never)]
+fn push_grown(out: &mut Vec<Piece>, piece: Piece) -> Result<(), ErrorKind>
+    ensures items { OnOk result (out.new.items ≡ out.old.items ++ piece ∷ []) }
+    ensures err { IfErr result (λ e. e ≡ ErrorKind.OutOfMemory) }
+{
+    out.push(piece)?;
+    Ok(())
+}
+
+/// Puts a piece at the end.
+#[inline(always)]
+fn push(out: &mut Vec<Piece>, piece: Piece) -> Result<(), ErrorKind>
+    ensures items { OnOk result (out.new.items ≡ out.old.items ++ piece ∷ []) }
+    ensures err { IfErr result (λ e. e ≡ ErrorKind.OutOfMemory) }
+{
+    if out.len() < out.capacity() {
+        out.push_reserved(piece);
+        return Ok(());
+    }
+    push_grown(out, piece)
+}
 
 /// A string or a word that stands at `at`, or a number, and the place after it.
 #[inline(always)]
@@ -41,6 +64,7 @@ fn scalar(bytes: &[u8], at: usize) -> Result<(Piece, usize), ErrorKind>
 
 /// Reads the value at `at`, puts its nodes at the end, and answers the place after it.
 #[cycle(scan)]
+#[inline(always)]
 fn value(bytes: &[u8], at: usize, depth: usize, out: &mut Vec<Piece>) -> Result<usize, ErrorKind>
     requires at { at ≤ length bytes.now }
     ensures within { IfOk result (λ next. (at < next) × (next ≤ length bytes.now)) }
@@ -65,12 +89,13 @@ fn value(bytes: &[u8], at: usize, depth: usize, out: &mut Vec<Piece>) -> Result<
         return object(bytes, at + 1, depth - 1, out);
     }
     let (piece, next) = scalar(bytes, at)?;
-    out.push(piece)?;
+    push(out, piece)?;
     Ok(next)
 }
 
 /// Reads an array behind its first bracket.
 #[cycle(scan)]
+#[inline(never)]
 fn array(bytes: &[u8], at: usize, depth: usize, out: &mut Vec<Piece>) -> Result<usize, ErrorKind>
     requires at { at ≤ length bytes.now }
     ensures within { IfOk result (λ next. (at < next) × (next ≤ length bytes.now)) }
@@ -80,7 +105,7 @@ fn array(bytes: &[u8], at: usize, depth: usize, out: &mut Vec<Piece>) -> Result<
     ensures kind { IfErr result (λ e. e ≢ ErrorKind.InvalidUtf8) }
 {
     let place = out.len();
-    out.push(Piece::Array { len: 0, count: 0 })?;
+    push(out, Piece::Array { len: 0, count: 0 })?;
     let first = skip(bytes, at);
     if first < bytes.len() && bytes[first] == b']' {
         return Ok(first + 1);
@@ -94,6 +119,7 @@ fn array(bytes: &[u8], at: usize, depth: usize, out: &mut Vec<Piece>) -> Result<
 /// Reads the items of an array up to its last bracket, and answers the place after it and how
 /// many there are.
 #[cycle(scan)]
+#[inline(always)]
 fn items(
     bytes: &[u8],
     at: usize,
@@ -122,6 +148,7 @@ fn items(
 
 /// Reads an object behind its first brace.
 #[cycle(scan)]
+#[inline(never)]
 fn object(bytes: &[u8], at: usize, depth: usize, out: &mut Vec<Piece>) -> Result<usize, ErrorKind>
     requires at { at ≤ length bytes.now }
     ensures within { IfOk result (λ next. (at < next) × (next ≤ length bytes.now)) }
@@ -131,7 +158,7 @@ fn object(bytes: &[u8], at: usize, depth: usize, out: &mut Vec<Piece>) -> Result
     ensures kind { IfErr result (λ e. e ≢ ErrorKind.InvalidUtf8) }
 {
     let place = out.len();
-    out.push(Piece::Object { len: 0, count: 0 })?;
+    push(out, Piece::Object { len: 0, count: 0 })?;
     let first = skip(bytes, at);
     if first < bytes.len() && bytes[first] == b'}' {
         return Ok(first + 1);
@@ -143,6 +170,7 @@ fn object(bytes: &[u8], at: usize, depth: usize, out: &mut Vec<Piece>) -> Result
 }
 
 #[cycle(scan)]
+#[inline(always)]
 fn members(
     bytes: &[u8],
     at: usize,
@@ -171,6 +199,7 @@ fn members(
 
 /// Reads one member of an object.
 #[cycle(scan)]
+#[inline(always)]
 fn member(bytes: &[u8], at: usize, depth: usize, out: &mut Vec<Piece>) -> Result<usize, ErrorKind>
     requires at { at ≤ length bytes.now }
     ensures within { IfOk result (λ next. (at < next) × (next ≤ length bytes.now)) }
@@ -183,7 +212,7 @@ fn member(bytes: &[u8], at: usize, depth: usize, out: &mut Vec<Piece>) -> Result
         return Err(ErrorKind::Syntax);
     }
     let (key, behind) = text(bytes, at + 1)?;
-    out.push(key)?;
+    push(out, key)?;
     let colon = skip(bytes, behind);
     if colon >= bytes.len() || bytes[colon] != b':' {
         return Err(ErrorKind::Syntax);

@@ -25,6 +25,7 @@ pub(crate) fn word_end(bytes: &[u8], at: usize, word: &[u8]) -> Result<usize, Er
 
 /// What stands behind a part: whether it is a comma, with the place of the next part, or the
 /// closing byte, with the place after it.
+#[inline(always)]
 pub(crate) fn separator(bytes: &[u8], at: usize, close: u8) -> Result<(usize, bool), ErrorKind>
     requires { at ≤ length bytes.now }
     ensures within { IfOk result (λ p. (at < p.0) × (p.0 ≤ length bytes.now)) }
