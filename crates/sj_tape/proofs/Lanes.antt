@@ -1,26 +1,9 @@
 -- A mask that is computed lane by lane is held to a predicate at each of the 256 bytes.
-use Rattle.std.proofs.Common.{◌≡◌, ℕ, zero, suc, ◌+◌, ◌%◌, ◌^◌, ◌<◌, ◌≤◌, ltb, Bool, true, false, ◌&&◌, not, cond, eqb, T, ◌⊎◌, inl, inr, List, [], ◌∷◌, map, length, refl, sym, ap, ap₂, ◌∙◌, subst, arith, w8, Fits, not-suc-le-zero}
+use Rattle.std.proofs.Common.{◌≡◌, ℕ, zero, suc, ◌%◌, ◌^◌, ◌<◌, ◌≤◌, Bool, true, false, ◌&&◌, not, cond, T, ◌⊎◌, inl, inr, List, [], ◌∷◌, map, length, refl, sym, ap, ap₂, ◌∙◌, subst, arith, w8, Fits, not-suc-le-zero}
 use Rattle.std.proofs.lemmas.Simd.{mask_l-mod}
 use Rattle.std.proofs.lemmas.List.{length-map}
 use Rattle.std.proofs.lemmas.Bool.{cases_order}
-use lib.Bits.{bit_or}
-use lib.Lanes.{zip2, mask_l, top, Each1}
-
--- the lane of an equality
-abbrev pub hit : ℕ → ℕ → ℕ
-hit a b = cond (eqb a b) 255 0
-
--- the lane of a strict order
-abbrev pub below : ℕ → ℕ → ℕ
-below a b = cond (ltb a b) 255 0
-
-zip2-map : (f g : ℕ → ℕ) (xs : List ℕ) → zip2 bit_or (map f xs) (map g xs) ≡ map (λ x. bit_or (f x) (g x)) xs
-zip2-map f g [] = refl
-zip2-map f g (x ∷ xs) = ap (λ r. bit_or (f x) (g x) ∷ r) (zip2-map f g xs)
-
--- one of two masks
-pub either : (f g : ℕ → ℕ) (v : List ℕ) {a b : List ℕ} → a ≡ map f v → b ≡ map g v → zip2 bit_or a b ≡ map (λ x. bit_or (f x) (g x)) v
-either f g v p q = ap₂ (zip2 bit_or) p q ∙ zip2-map f g v
+use lib.Lanes.{mask_l, top, Each1}
 
 -- a fact of each number below n, by computation
 abbrev pub upto : (ℕ → Bool) → ℕ → Bool

@@ -9,7 +9,7 @@ use Rattle.sj_text_core.specs.Tree.{Tree}
 use Rattle.sj_text_core.specs.Grammar.{value_of, number_of}
 use Rattle.sj_tape.specs.Parse.{numeral_at, goes_on}
 
-abbrev step : ℕ → ℕ → ℕ
+abbrev pub step : ℕ → ℕ → ℕ
 step n c = n * 10 + (c - 48)
 
 fold_grows : (ds : List ℕ) (n : ℕ) → n ≤ fold step n ds

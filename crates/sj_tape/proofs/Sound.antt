@@ -265,18 +265,20 @@ numeral_sound m b t r e =
       o.0,
     )
 
-pub number_sound : (d : ℕ) → Sound (Deep d) number_at
-number_sound d b t r e = by_cases (get_or b 0 0 == 45)
+-- a number was taken off the front
+pub number_front : (b : List ℕ) (t : Tree) (r : List ℕ) → number_at b ≡ Some (t, r) → (p : List ℕ) × (b ≡ p ++ r) × IsNumber p t
+number_front b t r e = by_cases (get_or b 0 0 == 45)
     (λ c. let f : numeral_at true (digits_len (drop 1 b)) (drop 1 b) ≡ Some (t, r) = sym (ap (λ k. cond k (numeral_at true (digits_len (drop 1 b)) (drop 1 b)) (numeral_at false (digits_len b) b)) c) ∙ e in
     let k = numeral_sound true (drop 1 b) t r f in
-    record {
-      front = 45 ∷ k.0;
-      is = first_is b 44 (eqb-true _ _ c) ∙ ap (λ l. 45 ∷ l) k.1;
-      has = number_deep d true (value_of k.0) t (45 ∷ k.0) k.3 (inr (k.0, refl, k.2, k.3));
-    })
+    (45 ∷ k.0, first_is b 44 (eqb-true _ _ c) ∙ ap (λ l. 45 ∷ l) k.1, inr (k.0, refl, k.2, k.3)))
     (λ c. let f : numeral_at false (digits_len b) b ≡ Some (t, r) = sym (ap (λ k. cond k (numeral_at true (digits_len (drop 1 b)) (drop 1 b)) (numeral_at false (digits_len b) b)) c) ∙ e in
     let k = numeral_sound false b t r f in
-    record { front = k.0; is = k.1; has = number_deep d false (value_of k.0) t k.0 k.3 (inl (k.2, k.3)) })
+    (k.0, k.1, inl (k.2, k.3)))
+
+pub number_sound : (d : ℕ) → Sound (Deep d) number_at
+number_sound d b t r e =
+    let k = number_front b t r e in
+    record { front = k.0; is = k.1; has = ⊎_elim (λ h. number_deep d false (value_of k.0) t k.0 h.1 k.2) (λ h. number_deep d true (value_of h.0) t k.0 h.3 k.2) k.2 }
 
 -- a text behind its first quote
 abbrev pub BehindQuote : List ℕ → List ℕ → Type 0

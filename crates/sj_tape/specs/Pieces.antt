@@ -1,12 +1,11 @@
 -- What pieces mean beside the bytes.
-use Rattle.std.specs.Prelude.{◌≡◌, ℕ, ◌+◌, ◌<◌, ◌≤◌, List, map, [], ◌∷◌, ◌++◌, length, slice_range, Option, Some, None, option_map, drop, All, IsUtf8}
-use Rattle.sj_text_core.specs.Tree.{Tree}
+use Rattle.std.specs.Prelude.{◌≡◌, ◌≢◌, ℕ, ◌+◌, ◌<◌, ◌≤◌, pos, List, map, [], ◌∷◌, ◌++◌, length, slice_range, Option, Some, None, option_map, drop, All, IsUtf8}
+use Rattle.sj_text_core.specs.Tree.{i64, u64, Tree, null, boolean, int, text, list, obj}
 use Rattle.sj_text_core.specs.Nodes.{Mark, nothing, truth, number, string, array, object, flat, flat_items, flat_members}
-use Rattle.sj_tape.specs.Marks.{static_mark}
-use Rattle.sj_tape.specs.Parse.{Read, text_at}
+use Rattle.sj_tape.specs.Parse.{Read, text_at, number_at}
 use Rattle.sj_text_core.specs.Tree.{items_from, members_from}
 use Rattle.sj_tape.specs.declared.reader.piece.Piece.{Piece}
-use Rattle.sj_tape.specs.declared.reader.piece.Piece.TheVariants.{Static, Text, Escaped, Array, Object}
+use Rattle.sj_tape.specs.declared.reader.piece.Piece.TheVariants.{Null, Bool, I64, U64, Wide, Text, Escaped, Array, Object}
 
 -- a text that was read, and what follows its quote
 abbrev pub text_of : Read (List ℕ) → List ℕ
@@ -16,8 +15,26 @@ text_of (Some p) = p.0
 abbrev pub after : Read (List ℕ) → Option (List ℕ)
 after read = option_map (λ p. p.1) read
 
+-- the node of a scalar
+abbrev pub scalar_mark : Tree → Mark
+scalar_mark null = nothing
+scalar_mark (boolean b) = truth b
+scalar_mark (int n c) = number n c
+scalar_mark (text s) = string s
+scalar_mark (list is) = nothing
+scalar_mark (obj ms) = nothing
+
+-- the node of a number that was read
+abbrev pub number_mark : Read Tree → Mark
+number_mark None = nothing
+number_mark (Some p) = scalar_mark p.0
+
 abbrev pub piece_mark : List ℕ → Piece → Mark
-piece_mark b (Static n) = static_mark n
+piece_mark b Null = nothing
+piece_mark b (Bool t) = truth t
+piece_mark b (I64 n) = number n i64
+piece_mark b (U64 n) = number (pos n) u64
+piece_mark b (Wide start end) = number_mark (number_at (slice_range b start end))
 piece_mark b (Text start end) = string (slice_range b start end)
 piece_mark b (Escaped start end) = string (text_of (text_at (drop start b)))
 piece_mark b (Array len count) = array len count
@@ -26,17 +43,25 @@ piece_mark b (Object len count) = object len count
 abbrev pub piece_marks : List ℕ → List Piece → List Mark
 piece_marks b ps = map (piece_mark b) ps
 
--- its text lies in the bytes
-abbrev pub IsInside : ℕ → Piece → Type 0
-IsInside len (Static n) = Unit {0}
-IsInside len (Text start end) = (start ≤ end) × (end ≤ len)
-IsInside len (Escaped start end) = ⊥
-IsInside len (Array l n) = Unit {0}
-IsInside len (Object l n) = Unit {0}
+-- its text lies in the first len bytes, or its number does
+abbrev pub IsInside : List ℕ → ℕ → Piece → Type 0
+IsInside b len Null = Unit {0}
+IsInside b len (Bool t) = Unit {0}
+IsInside b len (I64 n) = Unit {0}
+IsInside b len (U64 n) = Unit {0}
+IsInside b len (Wide start end) = (start < end) × (end ≤ len) × (number_at (slice_range b start end) ≢ None)
+IsInside b len (Text start end) = (start ≤ end) × (end ≤ len)
+IsInside b len (Escaped start end) = ⊥
+IsInside b len (Array l n) = Unit {0}
+IsInside b len (Object l n) = Unit {0}
 
--- its text and the quote behind it lie from lo up to hi
+-- its text and the quote behind it lie from lo up to hi, or its number does
 abbrev pub IsBetween : List ℕ → ℕ → ℕ → Piece → Type 0
-IsBetween b lo hi (Static n) = lo ≤ hi
+IsBetween b lo hi Null = lo ≤ hi
+IsBetween b lo hi (Bool t) = lo ≤ hi
+IsBetween b lo hi (I64 n) = lo ≤ hi
+IsBetween b lo hi (U64 n) = lo ≤ hi
+IsBetween b lo hi (Wide start end) = (lo ≤ start) × (start < end) × (end ≤ hi) × (number_at (slice_range b start end) ≢ None)
 IsBetween b lo hi (Text start end) = (lo ≤ start) × (start ≤ end) × (end < hi)
 IsBetween b lo hi (Escaped start end) = (lo ≤ start) × (start ≤ end) × (end < hi) × (after (text_at (drop start b)) ≡ Some (drop (end + 1) b))
 IsBetween b lo hi (Array l n) = lo ≤ hi
@@ -44,7 +69,11 @@ IsBetween b lo hi (Object l n) = lo ≤ hi
 
 -- where a text with escapes is spelled
 abbrev pub spelling_of : Piece → Option (ℕ × ℕ)
-spelling_of (Static n) = None
+spelling_of Null = None
+spelling_of (Bool t) = None
+spelling_of (I64 n) = None
+spelling_of (U64 n) = None
+spelling_of (Wide start end) = None
 spelling_of (Text start end) = None
 spelling_of (Escaped start end) = Some (start, end)
 spelling_of (Array l n) = None
@@ -73,8 +102,8 @@ pub record ReadsPiece (read : Read Tree) (b : List ℕ) (next : ℕ) (piece : Pi
   pub was : read ≡ Some (tree, drop next b)
   pub node : flat tree ≡ piece_mark b piece ∷ []
 
-abbrev pub AreInside : ℕ → List Piece → Type 0
-AreInside len ps = All (IsInside len) ps
+abbrev pub AreInside : List ℕ → List Piece → Type 0
+AreInside b ps = All (IsInside b (length b)) ps
 
 -- a list's items were read up to the place `next`, and their nodes were put behind the old ones
 pub record ReadsItems (read : Read (List Tree)) (b : List ℕ) (next len : ℕ) (old new : List Piece) : Type 0 where

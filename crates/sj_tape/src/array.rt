@@ -67,7 +67,7 @@ impl<'t, 'i> Array<'t, 'i> {
 }
 
 /// The items of an array in order, as parts of the tape.
-#[derive(Clone, Copy, Debug)]
+#[derive(Debug, Drop)]
 pub struct Iter<'t, 'i> {
     nodes: &'t [Node<'i>],
     ghost whole: { AreItems (marks nodes.now) } by { Coded-set (coded_list mark_code) _ _ },

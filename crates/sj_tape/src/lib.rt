@@ -5,10 +5,13 @@
 pub mod array;
 mod node;
 pub mod object;
+mod preorder;
 mod reader;
 mod scalar;
 mod step;
 mod tape;
+#[cfg(test)]
+mod tests;
 mod value;
 
 pub use array::Array;

@@ -90,7 +90,7 @@ impl<'t, 'i> Object<'t, 'i> {
 }
 
 /// The members of an object in order, as keys and parts of the tape.
-#[derive(Clone, Copy, Debug)]
+#[derive(Debug, Drop)]
 pub struct Iter<'t, 'i> {
     nodes: &'t [Node<'i>],
     ghost whole: { AreMembers (marks nodes.now) } by { Coded-set (coded_list mark_code) _ _ },
@@ -120,7 +120,7 @@ impl<'t, 'i> Iterator for Iter<'t, 'i> {
 }
 
 /// The keys of an object in order.
-#[derive(Clone, Copy, Debug)]
+#[derive(Debug, Drop)]
 pub struct Keys<'t, 'i> {
     members: Iter<'t, 'i>,
 }
@@ -142,7 +142,7 @@ impl<'t, 'i> Iterator for Keys<'t, 'i> {
 }
 
 /// The values of an object in order, as parts of the tape.
-#[derive(Clone, Copy, Debug)]
+#[derive(Debug, Drop)]
 pub struct Values<'t, 'i> {
     members: Iter<'t, 'i>,
 }

@@ -8,7 +8,7 @@ ghost use Rattle.sj_tape.specs.Marks.{mark, marks};
 use crate::node::Node;
 
 /// How many nodes the tree has that begins with the node.
-fn width_of(node: Node) -> usize
+pub(crate) fn width_of(node: Node) -> usize
     requires { width (mark node) < 2 ^ 64 }
     ensures { result ≡ width (mark node.entry) }
 {

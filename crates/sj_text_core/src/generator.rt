@@ -6,18 +6,21 @@ ghost use Rattle.sj_text_core.specs.Generators.{chosen, line, CanIndent};
 ghost use Rattle.sj_text_core.specs.Print.{quoted, compact};
 ghost use Rattle.sj_text_core.specs.Scalars.{static_tree};
 
-mod compact;
+mod dump;
 mod escape;
 mod line;
 mod plain;
 mod pretty;
+mod pretty_writer;
 mod text;
-
-pub use compact::{DumpGenerator, WriterGenerator};
-pub use pretty::{PrettyGenerator, PrettyWriterGenerator};
+mod writer;
 
 use crate::static_node::StaticNode;
+pub use dump::DumpGenerator;
+pub use pretty::PrettyGenerator;
+pub use pretty_writer::PrettyWriterGenerator;
 use std::alloc::AllocError;
+pub use writer::WriterGenerator;
 
 /// What prints are written through. Each call that writes appends exactly the bytes that it names,
 /// or, where a request for memory is refused, leaves what was written as it was.

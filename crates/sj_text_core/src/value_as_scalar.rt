@@ -9,11 +9,7 @@ use crate::typed_value::TypedValue;
 use crate::value_type::{ExtendedValueType, TryTypeError, ValueType};
 
 /// What was read, or that a value of another kind is there.
-fn or_fault<T>(
-    read: Option<T>,
-    expected: ValueType,
-    got: ValueType,
-) -> Result<T, TryTypeError>
+fn or_fault<T>(read: Option<T>, expected: ValueType, got: ValueType) -> Result<T, TryTypeError>
     ensures { result ≡ read_as read expected got }
 {
     match read {
@@ -118,7 +114,11 @@ pub trait ValueAsScalar: TypedValue {
     final fn try_as_i8(&self) -> Result<i8, TryTypeError>
         ensures { result ≡ read_as (as_signed 8 (Self.tree self.now)) (ValueType.Extended ExtendedValueType.I8) (kind_of (Self.tree self.now)) }
     {
-        or_fault(self.as_i8(), ValueType::Extended(ExtendedValueType::I8), self.value_type())
+        or_fault(
+            self.as_i8(),
+            ValueType::Extended(ExtendedValueType::I8),
+            self.value_type(),
+        )
     }
 
     /// The number, where the value is a whole number from -2^15 to 2^15-1, whatever carries it.
@@ -139,7 +139,11 @@ pub trait ValueAsScalar: TypedValue {
     final fn try_as_i16(&self) -> Result<i16, TryTypeError>
         ensures { result ≡ read_as (as_signed 16 (Self.tree self.now)) (ValueType.Extended ExtendedValueType.I16) (kind_of (Self.tree self.now)) }
     {
-        or_fault(self.as_i16(), ValueType::Extended(ExtendedValueType::I16), self.value_type())
+        or_fault(
+            self.as_i16(),
+            ValueType::Extended(ExtendedValueType::I16),
+            self.value_type(),
+        )
     }
 
     /// The number, where the value is a whole number from -2^31 to 2^31-1, whatever carries it.
@@ -160,7 +164,11 @@ pub trait ValueAsScalar: TypedValue {
     final fn try_as_i32(&self) -> Result<i32, TryTypeError>
         ensures { result ≡ read_as (as_signed 32 (Self.tree self.now)) (ValueType.Extended ExtendedValueType.I32) (kind_of (Self.tree self.now)) }
     {
-        or_fault(self.as_i32(), ValueType::Extended(ExtendedValueType::I32), self.value_type())
+        or_fault(
+            self.as_i32(),
+            ValueType::Extended(ExtendedValueType::I32),
+            self.value_type(),
+        )
     }
 
     /// The number, where the value is a whole number from -2^63 to 2^63-1, whatever carries it.
@@ -216,7 +224,11 @@ pub trait ValueAsScalar: TypedValue {
     final fn try_as_u8(&self) -> Result<u8, TryTypeError>
         ensures { result ≡ read_as (as_unsigned 8 (Self.tree self.now)) (ValueType.Extended ExtendedValueType.U8) (kind_of (Self.tree self.now)) }
     {
-        or_fault(self.as_u8(), ValueType::Extended(ExtendedValueType::U8), self.value_type())
+        or_fault(
+            self.as_u8(),
+            ValueType::Extended(ExtendedValueType::U8),
+            self.value_type(),
+        )
     }
 
     /// The number, where the value is a whole number from 0 to 2^16-1, whatever carries it.
@@ -237,7 +249,11 @@ pub trait ValueAsScalar: TypedValue {
     final fn try_as_u16(&self) -> Result<u16, TryTypeError>
         ensures { result ≡ read_as (as_unsigned 16 (Self.tree self.now)) (ValueType.Extended ExtendedValueType.U16) (kind_of (Self.tree self.now)) }
     {
-        or_fault(self.as_u16(), ValueType::Extended(ExtendedValueType::U16), self.value_type())
+        or_fault(
+            self.as_u16(),
+            ValueType::Extended(ExtendedValueType::U16),
+            self.value_type(),
+        )
     }
 
     /// The number, where the value is a whole number from 0 to 2^32-1, whatever carries it.
@@ -258,7 +274,11 @@ pub trait ValueAsScalar: TypedValue {
     final fn try_as_u32(&self) -> Result<u32, TryTypeError>
         ensures { result ≡ read_as (as_unsigned 32 (Self.tree self.now)) (ValueType.Extended ExtendedValueType.U32) (kind_of (Self.tree self.now)) }
     {
-        or_fault(self.as_u32(), ValueType::Extended(ExtendedValueType::U32), self.value_type())
+        or_fault(
+            self.as_u32(),
+            ValueType::Extended(ExtendedValueType::U32),
+            self.value_type(),
+        )
     }
 
     /// The number, where the value is a whole number from 0 to 2^64-1, whatever carries it.
@@ -314,7 +334,10 @@ pub trait ValueAsScalar: TypedValue {
     final fn try_as_usize(&self) -> Result<usize, TryTypeError>
         ensures { result ≡ read_as (as_unsigned 64 (Self.tree self.now)) (ValueType.Extended ExtendedValueType.Usize) (kind_of (Self.tree self.now)) }
     {
-        or_fault(self.as_usize(), ValueType::Extended(ExtendedValueType::Usize), self.value_type())
+        or_fault(
+            self.as_usize(),
+            ValueType::Extended(ExtendedValueType::Usize),
+            self.value_type(),
+        )
     }
-
 }

@@ -57,7 +57,7 @@ pub(crate) fn unescape(bytes: &mut [u8], start: usize, end: usize) -> usize
 pub(crate) fn decode(bytes: &mut [u8], pieces: &mut [Piece])
     requires { InOrder bytes.old 0 pieces.old (length bytes.old) }
     ensures nodes { piece_marks bytes.new pieces.new ≡ piece_marks bytes.old pieces.old }
-    ensures inside { AreInside (length bytes.new) pieces.new }
+    ensures inside { AreInside bytes.new pieces.new }
 {
     let mut place = 0;
     while place < pieces.len() {

@@ -1,39 +1,28 @@
 //! Whole numbers.
 
-ghost use Rattle.std.specs.Prelude.{◌≡◌, ◌+◌, ◌-◌, ◌<◌, ◌≤◌, ◌^◌, ℕ, Some, None, length, drop, IfOk, IfErr, ◌≢◌, OnErr, MatchOption, option_map, IsTrue, ◌↔◌, EachIndex, slice_index};
+ghost use Rattle.std.specs.Prelude.{◌≡◌, ◌+◌, ◌-◌, ◌<◌, ◌≤◌, ◌^◌, ℕ, Some, None, length, drop, IfOk, IfErr, ◌≢◌, OnErr, MatchOption, option_map, IsTrue, ◌↔◌, EachIndex, slice_index, slice_range, pos, neg_ℤ};
+ghost use Rattle.sj_tape.specs.Pieces.{IsBetween, ReadsPiece};
 ghost use Rattle.sj_tape.specs.Parse as parse;
 ghost use Rattle.sj_text_core.specs.Grammar.{value_of, number_of};
 ghost use Rattle.sj_text_core.specs.Scalars.{static_tree};
 
+use crate::reader::piece::Piece;
+use core::dec2flt::read_digits;
 use sj_text_core::{ErrorKind, StaticNode};
 
-/// The first place from `at` on that is no digit.
-fn digits_end(bytes: &[u8], at: usize) -> usize
+/// The first place from `at` on that is no digit, and what the digits write, where they are at
+/// most 19.
+#[inline(always)]
+fn digits(bytes: &[u8], at: usize) -> (usize, u64)
     requires { at ≤ length bytes.now }
-    ensures low { at ≤ result }
-    ensures high { result ≤ length bytes.now }
-    ensures count { parse.digits_len (drop at bytes.now) ≡ result - at }
-    ensures digits { (k : ℕ) → at ≤ k → k < result → (48 ≤ slice_index bytes.now k) × (slice_index bytes.now k ≤ 57) }
+    ensures low { at ≤ result.0 }
+    ensures high { result.0 ≤ length bytes.now }
+    ensures count { parse.digits_len (drop at bytes.now) ≡ result.0 - at }
+    ensures digits { (k : ℕ) → at ≤ k → k < result.0 → (48 ≤ slice_index bytes.now k) × (slice_index bytes.now k ≤ 57) }
+    ensures value { result.0 - at ≤ 19 → result.1 ≡ value_of (slice_range bytes.now at result.0) }
+    ensures bound { result.0 - at ≤ 18 → result.1 < 10 ^ 18 }
 {
-    let mut place = at;
-    while place < bytes.len() && bytes[place] >= b'0' && bytes[place] <= b'9' {
-        place += 1;
-    }
-    place
-}
-
-#[tactic(auto, using(crate::proofs::Numbers::next_digit_fits))]
-/// The number that at most 19 digits write.
-fn small(digits: &[u8]) -> u64
-    requires few { length digits.now ≤ 19 }
-    requires digits { EachIndex digits.now (λ k. (48 ≤ slice_index digits.now k) × (slice_index digits.now k ≤ 57)) }
-    ensures { result ≡ value_of digits.now }
-{
-    let mut n = 0;
-    for digit in digits {
-        n = n * 10 + u64::from(*digit - b'0');
-    }
-    n
+    read_digits(bytes, at, 0)
 }
 
 #[tactic(auto, using(crate::proofs::Numbers::too_large))]
@@ -53,17 +42,6 @@ fn large(digits: &[u8]) -> Option<u128>
         n = next;
     }
     Some(n)
-}
-
-fn magnitude(digits: &[u8]) -> Option<u128>
-    requires { EachIndex digits.now (λ k. (48 ≤ slice_index digits.now k) × (slice_index digits.now k ≤ 57)) }
-    ensures { MatchOption result (2 ^ 128 ≤ value_of digits.now) (λ n. n ≡ value_of digits.now) }
-{
-    if digits.len() <= 19 {
-        Some(u128::from(small(digits)))
-    } else {
-        large(digits)
-    }
 }
 
 /// The number with its carrier, where one has it.
@@ -90,6 +68,7 @@ fn carried(is_negative: bool, n: u128) -> Option<StaticNode>
 }
 
 /// The whole number that stands at `at`, and the place after it.
+#[inline(never)]
 pub(crate) fn number(bytes: &[u8], at: usize) -> Result<(StaticNode, usize), ErrorKind>
     requires { at < length bytes.now }
     ensures within { IfOk result (λ p. (at < p.1) × (p.1 ≤ length bytes.now)) }
@@ -105,6 +84,7 @@ pub(crate) fn number(bytes: &[u8], at: usize) -> Result<(StaticNode, usize), Err
 }
 
 /// Whether a fraction or an exponent stands at `at`.
+#[inline(always)]
 fn goes_on(bytes: &[u8], at: usize) -> bool
     requires { at ≤ length bytes.now }
     ensures { result ≡ parse.goes_on (drop at bytes.now) }
@@ -125,7 +105,7 @@ fn numeral(bytes: &[u8], at: usize, is_negative: bool) -> Result<(StaticNode, us
     ensures err { OnErr result (parse.numeral_at is_negative (parse.digits_len (drop at bytes.now)) (drop at bytes.now) ≡ None) }
     ensures kind { IfErr result (λ e. e ≢ ErrorKind.InvalidUtf8) }
 {
-    let end = digits_end(bytes, at);
+    let (end, _) = digits(bytes, at);
     if end == at {
         return Err(ErrorKind::Syntax);
     }
@@ -135,11 +115,94 @@ fn numeral(bytes: &[u8], at: usize, is_negative: bool) -> Result<(StaticNode, us
     if goes_on(bytes, end) {
         return Err(ErrorKind::Float);
     }
-    match magnitude(&bytes[at..end]) {
+    match large(&bytes[at..end]) {
         None => Err(ErrorKind::NumberTooLarge),
         Some(n) => match carried(is_negative, n) {
             None => Err(ErrorKind::NumberTooLarge),
             Some(node) => Ok((node, end)),
         },
+    }
+}
+
+/// The whole number that stands at `at` as a piece, and the place after it.
+#[inline(always)]
+pub(crate) fn number_piece(bytes: &[u8], at: usize) -> Result<(Piece, usize), ErrorKind>
+    requires { at < length bytes.now }
+    ensures within { IfOk result (λ p. (at < p.1) × (p.1 ≤ length bytes.now)) }
+    ensures between { IfOk result (λ p. IsBetween bytes.now at p.1 p.0) }
+    ensures ok { IfOk result (λ p. ReadsPiece (parse.number_at (drop at bytes.now)) bytes.now p.1 p.0) }
+    ensures err { OnErr result (parse.number_at (drop at bytes.now) ≡ None) }
+    ensures kind { IfErr result (λ e. e ≢ ErrorKind.InvalidUtf8) }
+{
+    let is_negative = bytes[at] == b'-';
+    let start = if is_negative { at + 1 } else { at };
+    numeral_piece(bytes, at, start, is_negative)
+}
+
+/// The same, where the digits begin at `start`.
+#[inline(always)]
+fn numeral_piece(
+    bytes: &[u8],
+    at: usize,
+    start: usize,
+    is_negative: bool,
+) -> Result<(Piece, usize), ErrorKind>
+    requires at { at < length bytes.now }
+    requires low { at ≤ start }
+    requires high { start ≤ length bytes.now }
+    requires sign { parse.number_at (drop at bytes.now) ≡ parse.numeral_at is_negative (parse.digits_len (drop start bytes.now)) (drop start bytes.now) }
+    ensures within { IfOk result (λ p. (at < p.1) × (p.1 ≤ length bytes.now)) }
+    ensures between { IfOk result (λ p. IsBetween bytes.now at p.1 p.0) }
+    ensures ok { IfOk result (λ p. ReadsPiece (parse.number_at (drop at bytes.now)) bytes.now p.1 p.0) }
+    ensures err { OnErr result (parse.number_at (drop at bytes.now) ≡ None) }
+    ensures kind { IfErr result (λ e. e ≢ ErrorKind.InvalidUtf8) }
+{
+    let (end, n) = digits(bytes, start);
+    let count = end - start;
+    if count == 0 {
+        return Err(ErrorKind::Syntax);
+    }
+    if count > 1 && bytes[start] == b'0' {
+        return Err(ErrorKind::Syntax);
+    }
+    if goes_on(bytes, end) {
+        return Err(ErrorKind::Float);
+    }
+    if is_negative {
+        if count > 18 {
+            return wide_piece(bytes, at);
+        }
+        return Ok((negative(n), end));
+    }
+    if count > 19 {
+        return wide_piece(bytes, at);
+    }
+    Ok((Piece::U64(n), end))
+}
+
+/// The piece of the number -n.
+#[inline(always)]
+fn negative(n: u64) -> Piece
+    requires { n < 2 ^ 63 }
+    ensures { result ≡ Piece.I64 (neg_ℤ (pos n)) }
+{
+    Piece::I64(0 - n as i64)
+}
+
+/// The same for a number of many digits.
+#[inline(never)]
+fn wide_piece(bytes: &[u8], at: usize) -> Result<(Piece, usize), ErrorKind>
+    requires { at < length bytes.now }
+    ensures within { IfOk result (λ p. (at < p.1) × (p.1 ≤ length bytes.now)) }
+    ensures between { IfOk result (λ p. IsBetween bytes.now at p.1 p.0) }
+    ensures ok { IfOk result (λ p. ReadsPiece (parse.number_at (drop at bytes.now)) bytes.now p.1 p.0) }
+    ensures err { OnErr result (parse.number_at (drop at bytes.now) ≡ None) }
+    ensures kind { IfErr result (λ e. e ≢ ErrorKind.InvalidUtf8) }
+{
+    let (number, end) = number(bytes, at)?;
+    match number {
+        StaticNode::I64(n) => Ok((Piece::I64(n), end)),
+        StaticNode::U64(n) => Ok((Piece::U64(n), end)),
+        _ => Ok((Piece::Wide { start: at, end }, end)),
     }
 }

@@ -3,12 +3,15 @@
 ghost use Rattle.std.specs.Prelude.{◌≡◌};
 ghost use Rattle.sj_tape.specs.Pieces.{spelling_of};
 
-use sj_text_core::StaticNode;
-
 /// A node whose text lies in the bytes from `start` up to `end`.
 #[derive(Clone, Copy, Debug)]
 pub(crate) enum Piece {
-    Static(StaticNode),
+    Null,
+    Bool(bool),
+    I64(i64),
+    U64(u64),
+    /// A number past 64 bits, spelled there.
+    Wide { start: usize, end: usize },
     Text { start: usize, end: usize },
     /// A text with escapes. Its spelling lies there, and its quote at `end`.
     Escaped { start: usize, end: usize },
@@ -22,7 +25,8 @@ pub(crate) fn spelling(piece: Piece) -> Option<(usize, usize)>
 {
     match piece {
         Piece::Escaped { start, end } => Some((start, end)),
-        Piece::Static(_) => None,
+        Piece::Null | Piece::Bool(_) | Piece::I64(_) | Piece::U64(_) => None,
+        Piece::Wide { .. } => None,
         Piece::Text { .. } => None,
         Piece::Array { .. } => None,
         Piece::Object { .. } => None,

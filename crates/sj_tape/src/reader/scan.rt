@@ -1,18 +1,41 @@
 //! The first pass: from bytes to pieces.
 
-ghost use Rattle.std.specs.Prelude.{◌≡◌, ◌+◌, ◌-◌, ◌<◌, ◌≤◌, ℕ, Some, None, length, drop, IfOk, IfErr, OnOk, OnErr, MatchResult, IsTrue, ◌↔◌, ◌≢◌, ◌==◌, slice_index};
+ghost use Rattle.std.specs.Prelude.{◌≡◌, ◌+◌, ◌-◌, ◌<◌, ◌≤◌, ℕ, Some, None, length, drop, IfOk, IfErr, OnOk, OnErr, MatchResult, IsTrue, ◌↔◌, ◌≢◌, ◌==◌, ◌++◌, ◌∷◌, [], slice_index};
 ghost use Rattle.sj_tape.specs.Pieces.{IsBetween, InOrder, Reads, ReadsPiece, ReadsItems, ReadsMembers, ReadsMember, Scans};
-ghost use Rattle.sj_text_core.specs.Scalars.{static_tree};
 ghost use Rattle.sj_tape.specs.Parse as parse;
 
 use crate::reader::blank::skip;
-use crate::reader::number::number;
+use crate::reader::number::number_piece;
 use crate::reader::piece::Piece;
 use crate::reader::string::text;
-use crate::reader::structure::{has_word, separator};
-use sj_text_core::{ErrorKind, StaticNode};
+use crate::reader::structure::{separator, word_end};
+use sj_text_core::ErrorKind;
+
+/// Puts a piece at the end where there is no room for it yet.
+#[inline(never)]
+fn push_grown(out: &mut Vec<Piece>, piece: Piece) -> Result<(), ErrorKind>
+    ensures items { OnOk result (out.new.items ≡ out.old.items ++ piece ∷ []) }
+    ensures err { IfErr result (λ e. e ≡ ErrorKind.OutOfMemory) }
+{
+    out.push(piece)?;
+    Ok(())
+}
+
+/// Puts a piece at the end.
+#[inline(always)]
+fn push(out: &mut Vec<Piece>, piece: Piece) -> Result<(), ErrorKind>
+    ensures items { OnOk result (out.new.items ≡ out.old.items ++ piece ∷ []) }
+    ensures err { IfErr result (λ e. e ≡ ErrorKind.OutOfMemory) }
+{
+    if out.len() < out.capacity() {
+        out.push_reserved(piece);
+        return Ok(());
+    }
+    push_grown(out, piece)
+}
 
 /// A string or a word that stands at `at`, or a number, and the place after it.
+#[inline(always)]
 fn scalar(bytes: &[u8], at: usize) -> Result<(Piece, usize), ErrorKind>
     requires at { at < length bytes.now }
     requires no_list { slice_index bytes.now at ≢ 91 }
@@ -28,34 +51,20 @@ fn scalar(bytes: &[u8], at: usize) -> Result<(Piece, usize), ErrorKind>
         return text(bytes, at + 1);
     }
     if byte == b'n' {
-        return word(bytes, at, b"null", StaticNode::Null);
+        return Ok((Piece::Null, word_end(bytes, at, b"null")?));
     }
     if byte == b't' {
-        return word(bytes, at, b"true", StaticNode::Bool(true));
+        return Ok((Piece::Bool(true), word_end(bytes, at, b"true")?));
     }
     if byte == b'f' {
-        return word(bytes, at, b"false", StaticNode::Bool(false));
+        return Ok((Piece::Bool(false), word_end(bytes, at, b"false")?));
     }
-    let (number, next) = number(bytes, at)?;
-    Ok((Piece::Static(number), next))
-}
-
-fn word(bytes: &[u8], at: usize, word: &[u8], node: StaticNode) -> Result<(Piece, usize), ErrorKind>
-    requires at { at < length bytes.now }
-    requires some { 0 < length word.now }
-    ensures within { IfOk result (λ p. (at < p.1) × (p.1 ≤ length bytes.now)) }
-    ensures ok { IfOk result (λ p. (p.0 ≡ Piece.Static node) × (parse.word_at word.now (static_tree node) (drop at bytes.now) ≡ Some (static_tree node, drop p.1 bytes.now))) }
-    ensures err { OnErr result (parse.word_at word.now (static_tree node) (drop at bytes.now) ≡ None) }
-    ensures kind { IfErr result (λ e. e ≢ ErrorKind.InvalidUtf8) }
-{
-    if !has_word(bytes, at, word) {
-        return Err(ErrorKind::Syntax);
-    }
-    Ok((Piece::Static(node), at + word.len()))
+    number_piece(bytes, at)
 }
 
 /// Reads the value at `at`, puts its nodes at the end, and answers the place after it.
 #[cycle(scan)]
+#[inline(always)]
 fn value(bytes: &[u8], at: usize, depth: usize, out: &mut Vec<Piece>) -> Result<usize, ErrorKind>
     requires at { at ≤ length bytes.now }
     ensures within { IfOk result (λ next. (at < next) × (next ≤ length bytes.now)) }
@@ -80,12 +89,13 @@ fn value(bytes: &[u8], at: usize, depth: usize, out: &mut Vec<Piece>) -> Result<
         return object(bytes, at + 1, depth - 1, out);
     }
     let (piece, next) = scalar(bytes, at)?;
-    out.push(piece)?;
+    push(out, piece)?;
     Ok(next)
 }
 
 /// Reads an array behind its first bracket.
 #[cycle(scan)]
+#[inline(never)]
 fn array(bytes: &[u8], at: usize, depth: usize, out: &mut Vec<Piece>) -> Result<usize, ErrorKind>
     requires at { at ≤ length bytes.now }
     ensures within { IfOk result (λ next. (at < next) × (next ≤ length bytes.now)) }
@@ -95,7 +105,7 @@ fn array(bytes: &[u8], at: usize, depth: usize, out: &mut Vec<Piece>) -> Result<
     ensures kind { IfErr result (λ e. e ≢ ErrorKind.InvalidUtf8) }
 {
     let place = out.len();
-    out.push(Piece::Array { len: 0, count: 0 })?;
+    push(out, Piece::Array { len: 0, count: 0 })?;
     let first = skip(bytes, at);
     if first < bytes.len() && bytes[first] == b']' {
         return Ok(first + 1);
@@ -109,6 +119,7 @@ fn array(bytes: &[u8], at: usize, depth: usize, out: &mut Vec<Piece>) -> Result<
 /// Reads the items of an array up to its last bracket, and answers the place after it and how
 /// many there are.
 #[cycle(scan)]
+#[inline(always)]
 fn items(
     bytes: &[u8],
     at: usize,
@@ -137,6 +148,7 @@ fn items(
 
 /// Reads an object behind its first brace.
 #[cycle(scan)]
+#[inline(never)]
 fn object(bytes: &[u8], at: usize, depth: usize, out: &mut Vec<Piece>) -> Result<usize, ErrorKind>
     requires at { at ≤ length bytes.now }
     ensures within { IfOk result (λ next. (at < next) × (next ≤ length bytes.now)) }
@@ -146,7 +158,7 @@ fn object(bytes: &[u8], at: usize, depth: usize, out: &mut Vec<Piece>) -> Result
     ensures kind { IfErr result (λ e. e ≢ ErrorKind.InvalidUtf8) }
 {
     let place = out.len();
-    out.push(Piece::Object { len: 0, count: 0 })?;
+    push(out, Piece::Object { len: 0, count: 0 })?;
     let first = skip(bytes, at);
     if first < bytes.len() && bytes[first] == b'}' {
         return Ok(first + 1);
@@ -158,6 +170,7 @@ fn object(bytes: &[u8], at: usize, depth: usize, out: &mut Vec<Piece>) -> Result
 }
 
 #[cycle(scan)]
+#[inline(always)]
 fn members(
     bytes: &[u8],
     at: usize,
@@ -186,6 +199,7 @@ fn members(
 
 /// Reads one member of an object.
 #[cycle(scan)]
+#[inline(always)]
 fn member(bytes: &[u8], at: usize, depth: usize, out: &mut Vec<Piece>) -> Result<usize, ErrorKind>
     requires at { at ≤ length bytes.now }
     ensures within { IfOk result (λ next. (at < next) × (next ≤ length bytes.now)) }
@@ -198,7 +212,7 @@ fn member(bytes: &[u8], at: usize, depth: usize, out: &mut Vec<Piece>) -> Result
         return Err(ErrorKind::Syntax);
     }
     let (key, behind) = text(bytes, at + 1)?;
-    out.push(key)?;
+    push(out, key)?;
     let colon = skip(bytes, behind);
     if colon >= bytes.len() || bytes[colon] != b':' {
         return Err(ErrorKind::Syntax);

@@ -10,6 +10,7 @@ use crate::reader::run::plain_end;
 use sj_text_core::ErrorKind;
 
 /// The text whose first byte stands at `at`, and the place after its quote.
+#[inline(always)]
 pub(crate) fn text(bytes: &[u8], at: usize) -> Result<(Piece, usize), ErrorKind>
     requires { at ≤ length bytes.now }
     ensures within { IfOk result (λ p. (at < p.1) × (p.1 ≤ length bytes.now)) }
@@ -33,6 +34,7 @@ pub(crate) fn text(bytes: &[u8], at: usize) -> Result<(Piece, usize), ErrorKind>
 }
 
 /// The place of the quote that ends the text that goes on at `at`.
+#[inline(never)]
 fn escaped_end(bytes: &[u8], at: usize) -> Result<usize, ErrorKind>
     requires { at ≤ length bytes.now }
     ensures within { IfOk result (λ end. (at ≤ end) × (end < length bytes.now)) }

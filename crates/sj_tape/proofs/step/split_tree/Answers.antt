@@ -1,8 +1,8 @@
-use Rattle.std.proofs.Common.{◌≡◌, ◌^◌, ◌<◌, ◌≤◌, ◌∙◌, length, take, get_or, ap, sym, subst, arith}
-use Rattle.sj_text_core.specs.Nodes.{IsPreorder, width}
+use Rattle.std.proofs.Common.{◌∙◌, take, ap, sym, subst, arith}
+use Rattle.sj_text_core.specs.Nodes.{IsPreorder}
 use Rattle.sj_text_core.specs.declared.static_node.StaticNode.TheVariants.{Null}
 use Rattle.sj_tape.specs.declared.node.Node.TheVariants.{Static}
-use Rattle.sj_tape.specs.Marks.{mark, marks}
+use Rattle.sj_tape.specs.Marks.{marks}
 use Rattle.sj_tape.proofs.Splits.{first_width}
 use Rattle.sj_tape.proofs.step.split_tree.Goals as goal
 

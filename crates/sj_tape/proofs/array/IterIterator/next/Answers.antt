@@ -5,7 +5,7 @@ use Rattle.sj_text_core.specs.Tree.{Tree, item}
 use Rattle.sj_tape.specs.declared.node.Node.{Node}
 use Rattle.sj_tape.specs.Marks.{mark, marks}
 use Rattle.sj_tape.specs.Parts.{items_in, listed}
-use Rattle.sj_tape.proofs.Splits.{NextItem, next_item, BeginsTree-items}
+use Rattle.sj_tape.proofs.Splits.{next_item, BeginsTree-items}
 use Rattle.sj_tape.proofs.array.IterIterator.next.Goals as goal
 
 some_nodes : (nodes : List Node) (b : Bool) → b ≡ nat_eq (length nodes) 0 → b ≡ false → 0 < length (marks nodes)

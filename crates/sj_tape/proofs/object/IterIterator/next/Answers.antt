@@ -1,10 +1,9 @@
-use Rattle.std.proofs.Common.{◌≡◌, ◌<◌, ◌∙◌, ◌∷◌, List, ℕ, length, ap, sym, arith, rules}
+use Rattle.std.proofs.Common.{◌≡◌, ◌∙◌, ◌∷◌, List, ℕ, length, ap, sym, rules}
 use Rattle.sj_text_core.specs.Tree.{Tree, member}
-use Rattle.sj_text_core.specs.Nodes.{Mark, string, members_in}
-use Rattle.sj_tape.specs.declared.node.Node.{Node}
+use Rattle.sj_text_core.specs.Nodes.{string, members_in}
 use Rattle.sj_tape.specs.Marks.{mark, marks}
 use Rattle.sj_tape.specs.Parts.{paired}
-use Rattle.sj_tape.proofs.Splits.{NextMember, next_member, BeginsTree-member, string_node}
+use Rattle.sj_tape.proofs.Splits.{next_member, BeginsTree-member, string_node}
 use Rattle.sj_tape.proofs.object.IterIterator.next.Goals as goal
 
 pub unreachable-requires : goal.unreachable-requires

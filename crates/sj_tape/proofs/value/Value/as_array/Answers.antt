@@ -1,4 +1,4 @@
-use Rattle.std.proofs.Common.{◌≡◌, ◌∙◌, ap, Some}
+use Rattle.std.proofs.Common.{◌∙◌, ap, Some}
 use Rattle.sj_tape.proofs.Containers.{array_nodes}
 use Rattle.sj_tape.proofs.value.Value.as_array.Goals as goal
 

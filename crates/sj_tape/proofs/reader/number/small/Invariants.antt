@@ -1,9 +1,0 @@
-use Rattle.std.proofs.Common.{◌≡◌, ◌<◌, ◌^◌, take}
-use Rattle.sj_text_core.specs.Grammar.{value_of}
-use Rattle.sj_tape.proofs.reader.number.small.Given as goal
-
-abbrev pub invariant-loop-digit : goal.invariant-loop-digit
-invariant-loop-digit l = record {
-  value : l.n ≡ value_of (take l.digit-index l.digits);
-  bound : l.n < 10 ^ l.digit-index;
-}
