@@ -4,4 +4,5 @@ pub mod Answers
 pub mod Lines
 pub mod CommandLines
 pub mod Shown
+pub mod Document
 pub mod Laws

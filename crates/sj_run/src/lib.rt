@@ -2,6 +2,7 @@
 #![tactic(auto)]
 
 pub mod laws;
+mod document;
 mod lines;
 
 /// Which type holds a session's document.
