@@ -5,3 +5,4 @@ pub mod Documents
 pub mod Builds
 pub mod Puts
 pub mod Prints
+pub mod Inserts
