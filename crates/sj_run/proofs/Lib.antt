@@ -3,3 +3,9 @@ mod FirstPathLemmas
 mod Runs
 mod rows
 mod SessionLemmas
+pub mod Documents
+pub mod Builds
+pub mod Puts
+pub mod Prints
+pub mod Inserts
+pub mod Unread

@@ -7,4 +7,5 @@ pub mod Shown
 pub mod Session
 pub mod Answered
 pub mod FirstPath
+pub mod Document
 pub mod Laws

@@ -3,8 +3,9 @@
 #![tactic(auto)]
 
 mod command;
+mod document;
 pub mod laws;
 mod lines;
 mod sessions;
 
-pub use sessions::{Form, SessionFault, Way};
+pub use sessions::{Form, SessionFault, Way, session};

@@ -27,7 +27,8 @@ impl<'t, 'i> Value<'t, 'i> {
     ghost use Rattle.sj_text_core.specs.Tree.{null};
     ghost use Rattle.sj_tape.specs.Items.{items};
     ghost use Rattle.sj_tape.specs.Members.{members};
-    ghost use Rattle.sj_tape.specs.Value.{tree};
+    ghost use Rattle.sj_tape.specs.Value.{tree, as_scalar};
+    ghost use Rattle.sj_text_core.specs.Scalars.{static_tree};
 
     /// A null of its own.
     pub fn null() -> Self
@@ -149,6 +150,17 @@ impl<'t, 'i> Value<'t, 'i> {
     {
         match self.nodes[0] {
             Node::String(text) => Some(text),
+            _ => None,
+        }
+    }
+
+    /// The scalar with its carrier, where it is a null, a truth value or a whole number; else
+    /// None.
+    pub fn as_static(&self) -> Option<StaticNode>
+        ensures { option_map static_tree result ≡ as_scalar (tree self.now) }
+    {
+        match self.nodes[0] {
+            Node::Static(scalar) => Some(scalar),
             _ => None,
         }
     }
