@@ -1,10 +1,10 @@
 -- A tree is stored as its preorder.
-use Rattle.std.specs.Prelude.{◌≡◌, ◌⊎◌, ℕ, zero, suc, ℤ, Bool, List, [], ◌++◌, refl}
+use Rattle.std.specs.Prelude.{◌≡◌, ◌⊎◌, ℕ, zero, suc, ℤ, Bool, List, [], refl}
 use Rattle.std.proofs.Common.{inl, inr, ap, ◌∙◌, sym, append-nil}
 use Rattle.std.specs.Coded.{Coded, code_by, coded×, coded⊎, coded_ℕ, coded_ℤ, coded_bool, coded_list}
 use base.Stored.{coded_unit}
 use Rattle.sj_text_core.specs.Tree.{Carrier, i64, u64, i128, u128, Tree}
-use Rattle.sj_text_core.specs.Nodes.{Mark, nothing, truth, number, string, array, object, flat, trees_of, tree_of, first_tree}
+use Rattle.sj_text_core.specs.Nodes.{Mark, nothing, truth, number, string, array, object, flat, tree_of, first_tree}
 use Rattle.sj_text_core.specs.Flat.{trees_of-flat}
 
 abbrev carrier_number : Carrier → ℕ

@@ -1,7 +1,7 @@
 -- A tree is the only one with its preorder.
-use Rattle.std.proofs.Common.{◌≡◌, ℕ, zero, suc, ◌+◌, ◌*◌, List, [], ◌∷◌, ◌++◌, length, drop, refl, sym, ◌∙◌, ap, append_assoc, arith}
+use Rattle.std.proofs.Common.{◌≡◌, ℕ, suc, ◌*◌, List, [], ◌∷◌, ◌++◌, drop, refl, ap, append_assoc, arith}
 use Rattle.sj_text_core.specs.Tree.{Tree, null, boolean, int, text, list, obj, Items, no_items, item, Members, no_members, member, items_len, members_len}
-use Rattle.sj_text_core.specs.Nodes.{Mark, flat, flat_items, flat_members, trees_of, tree_of, first_tree, items_of, members_of, array, object, string, IsPreorder}
+use Rattle.sj_text_core.specs.Nodes.{Mark, flat, flat_items, flat_members, trees_of, items_of, members_of}
 
 -- items as a list
 abbrev listed : Items → List Tree

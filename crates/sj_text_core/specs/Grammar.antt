@@ -1,11 +1,11 @@
 -- The texts that spell a tree (RFC 8259), as a relation on whole texts.
-use Rattle.std.specs.Prelude.{◌≡◌, ◌≢◌, ◌⊎◌, ℕ, ◌+◌, ◌-◌, ◌*◌, ◌<◌, ◌≤◌, ◌^◌, ◌==◌, ◌||◌, ℤ, pos, neg_ℤ, Bool, true, false, List, [], ◌∷◌, ◌++◌, length, slice_index, fold, nat_lt, nat_le, if◌then◌else◌, Option, Some, None, codes}
+use Rattle.std.specs.Prelude.{◌≡◌, ◌≢◌, ◌⊎◌, ℕ, ◌+◌, ◌-◌, ◌*◌, ◌<◌, ◌≤◌, ◌^◌, ◌==◌, ◌||◌, pos, neg_ℤ, Bool, true, false, List, [], ◌∷◌, ◌++◌, length, slice_index, fold, nat_lt, nat_le, if◌then◌else◌, Option, Some, None, codes}
 use Rattle.std.specs.List.{AllByRecursion}
 use Rattle.std.specs.Char.{digit_value, encode_utf8, IsScalar}
 use Rattle.std.specs.Char.Utf16.{surrogate_pair_char}
 use Rattle.std.specs.Int.{IsInRange}
 use Rattle.std.specs.Str.{encode_utf8_all}
-use Rattle.sj_text_core.specs.Tree.{Carrier, i64, u64, i128, u128, Tree, null, boolean, int, text, list, obj, Items, no_items, item, Members, no_members, member, IsWithin}
+use Rattle.sj_text_core.specs.Tree.{i64, u64, i128, u128, Tree, null, boolean, int, text, list, obj, Items, no_items, item, Members, no_members, member, IsWithin}
 
 -- section 2: space, tab, line feed, carriage return
 abbrev pub IsSpace : ℕ → Type 0

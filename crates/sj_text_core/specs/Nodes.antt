@@ -1,5 +1,5 @@
 -- The nodes of a tree in preorder, and the tree of such nodes.
-use Rattle.std.specs.Prelude.{◌≡◌, ℕ, zero, suc, ◌+◌, ◌*◌, ℤ, Bool, true, false, bytes_eq, List, [], ◌∷◌, ◌++◌, length, take, drop}
+use Rattle.std.specs.Prelude.{◌≡◌, ℕ, zero, suc, ◌+◌, ◌*◌, ℤ, Bool, true, false, bytes_eq, List, [], ◌∷◌, ◌++◌, length, drop}
 use Rattle.sj_text_core.specs.Tree.{Carrier, Tree, null, boolean, int, text, list, obj, Items, no_items, item, Members, no_members, member, items_len, members_len}
 
 -- a node, without where its text lies

@@ -1,6 +1,6 @@
 -- What stands at a path in a tree.
 use Rattle.std.specs.Prelude.{ℕ, zero, suc, List, [], ◌∷◌, Option, Some, None, option_and_then}
-use Rattle.sj_text_core.specs.Tree.{Tree, null, boolean, int, text, list, obj, Items, no_items, item}
+use Rattle.sj_text_core.specs.Tree.{Tree, list, obj, Items, no_items, item}
 use Rattle.sj_text_core.specs.Find.{find, nth}
 use Rattle.sj_text_core.specs.Edits.{put}
 

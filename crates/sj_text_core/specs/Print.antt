@@ -1,5 +1,5 @@
 -- The printed text of a tree, compact and pretty (RFC 8259, sections 2 to 7).
-use Rattle.std.specs.Prelude.{◌≡◌, ℕ, suc, ◌+◌, ◌-◌, ◌*◌, ◌^◌, ℤ, pos, negsuc, Bool, true, false, List, [], ◌∷◌, ◌++◌, replicate, codes, nat_lt, ◌==◌, if◌then◌else◌, flat_map}
+use Rattle.std.specs.Prelude.{ℕ, ◌+◌, ◌-◌, ◌*◌, ◌^◌, ℤ, pos, negsuc, true, false, List, [], ◌∷◌, ◌++◌, replicate, codes, nat_lt, ◌==◌, if◌then◌else◌, flat_map}
 use Rattle.std.specs.Fmt.{signed_decimal}
 use Rattle.sj_text_core.specs.Tree.{Carrier, i64, u64, i128, u128, Tree, null, boolean, int, text, list, obj, Items, no_items, item, Members, no_members, member}
 

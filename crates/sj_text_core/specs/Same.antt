@@ -1,5 +1,5 @@
 -- When two trees mean the same document: numbers by value, lists in order, objects by the first member of each text.
-use Rattle.std.specs.Prelude.{◌≡◌, ℕ, Bool, List, Option, Some, None, MatchBool, MatchOption, bytes_eq}
+use Rattle.std.specs.Prelude.{◌≡◌, ℕ, List, Option, None, MatchBool, MatchOption, bytes_eq}
 use Rattle.sj_text_core.specs.Tree.{Tree, null, boolean, int, text, list, obj, Items, no_items, item, Members, no_members, member}
 use Rattle.sj_text_core.specs.Find.{find_member}
 

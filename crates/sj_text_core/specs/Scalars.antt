@@ -1,5 +1,5 @@
 -- What a scalar means.
-use Rattle.std.specs.Prelude.{ℕ, pos, List}
+use Rattle.std.specs.Prelude.{pos}
 use Rattle.sj_text_core.specs.Tree.{i64, u64, i128, u128, Tree, null, boolean, int}
 use Rattle.sj_text_core.specs.declared.static_node.StaticNode.{StaticNode}
 use Rattle.sj_text_core.specs.declared.static_node.StaticNode.TheVariants.{Null, Bool, I64, U64, I128, U128}

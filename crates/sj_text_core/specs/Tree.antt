@@ -1,6 +1,6 @@
 -- The tree that a text spells, a tape lists and a document holds (RFC 8259, section 3).
 -- An object keeps its members in order, and a text may name several of them (section 4).
-use Rattle.std.specs.Prelude.{◌≡◌, ℕ, suc, max, ◌<◌, ◌≤◌, ◌^◌, ℤ, pos, negsuc, neg_ℤ, ◌≤ℤ◌, ◌<ℤ◌, Bool, true, false, List, [], ◌∷◌, length, IsUtf8, nat_lt, if◌then◌else◌}
+use Rattle.std.specs.Prelude.{ℕ, suc, max, ◌≤◌, ◌^◌, ℤ, pos, neg_ℤ, ◌≤ℤ◌, ◌<ℤ◌, Bool, List, [], ◌∷◌, IsUtf8}
 
 -- the range of whole numbers that a number is carried in
 pub data Carrier : Type 0 where
