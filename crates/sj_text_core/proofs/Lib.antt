@@ -1,3 +1,8 @@
+pub mod Kept
+pub mod Preorders
+pub mod Characters
+pub mod Proper
+pub mod rows
 pub mod Escapes
 pub mod Lanes
 pub mod Runs

@@ -12,6 +12,7 @@ pub mod Flat
 pub mod Code
 pub mod Scalars
 pub mod Reads
+pub mod Laws
 pub mod ScalarValues
 pub mod Nulls
 pub mod Generators

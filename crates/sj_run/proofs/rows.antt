@@ -1,0 +1,4 @@
+-- What the definitions give on small sessions, by computation.
+pub mod Sessions
+pub mod Cuts
+pub mod Commands

@@ -1,0 +1,87 @@
+-- Which commands the trees of lines are.
+use Rattle.std.proofs.Common.{◌≡◌, ℕ, pos, negsuc, List, [], ◌∷◌, refl, codes}
+use Rattle.sj_text_core.specs.Tree.{u64, i64, u128, Tree, null, int, text, list, obj, no_items, no_members, member, items_from}
+use Rattle.sj_text_core.specs.Paths.{by_key, by_place}
+use Rattle.sj_run.specs.Commands.{unsigned, read, write, bad, fits, len, encode, insert, remove, has, push, put, pop}
+use Rattle.sj_run.specs.CommandLines.{command_in, served_first}
+
+abbrev line : List Tree → Tree
+line ts = list (items_from ts)
+
+abbrev word : List ℕ → Tree
+word s = text s
+
+abbrev root : Tree
+root = list no_items
+
+-- ["len",[-0]]
+command_in-minus_zero : command_in (line (word (codes "len") ∷ line (int (pos 0) i64 ∷ []) ∷ [])) ≡ read (by_place 0 ∷ []) len
+command_in-minus_zero = refl
+
+-- ["len",[-1]]
+command_in-negative : command_in (line (word (codes "len") ∷ line (int (negsuc 0) i64 ∷ []) ∷ [])) ≡ bad
+command_in-negative = refl
+
+-- a place past 2^64-1
+command_in-far : command_in (line (word (codes "kind") ∷ line (int (pos 340282366920938463463374607431768211455) u128 ∷ []) ∷ [])) ≡ bad
+command_in-far = refl
+
+-- ["encode",[],1]
+command_in-longer : command_in (line (word (codes "encode") ∷ root ∷ int (pos 1) u64 ∷ [])) ≡ bad
+command_in-longer = refl
+
+-- ["ENCODE",[]]
+command_in-upper : command_in (line (word (codes "ENCODE") ∷ root ∷ [])) ≡ bad
+command_in-upper = refl
+
+-- ["fits",[0],"i7"]
+command_in-width : command_in (line (word (codes "fits") ∷ line (int (pos 0) u64 ∷ []) ∷ word (codes "i7") ∷ [])) ≡ bad
+command_in-width = refl
+
+-- ["fits",["a",0],"usize"]
+command_in-usize : command_in (line (word (codes "fits") ∷ line (word (codes "a") ∷ int (pos 0) u64 ∷ []) ∷ word (codes "usize") ∷ [])) ≡ read (by_key (codes "a") ∷ by_place 0 ∷ []) (fits (unsigned 64))
+command_in-usize = refl
+
+-- {"a":1}
+command_in-object : command_in (obj (member (codes "a") (int (pos 1) u64) no_members)) ≡ bad
+command_in-object = refl
+
+-- ["insert",[],"k",null], and with a key that is no text
+command_in-insert : command_in (line (word (codes "insert") ∷ root ∷ word (codes "k") ∷ null ∷ [])) ≡ write [] (insert (codes "k") null)
+command_in-insert = refl
+
+command_in-insert_number : command_in (line (word (codes "insert") ∷ root ∷ int (pos 1) u64 ∷ null ∷ [])) ≡ bad
+command_in-insert_number = refl
+
+-- ["push",[],"s"], ["put",[],1], ["pop",[]], ["remove",[],"k"], ["has",[],"k"]
+command_in-push : command_in (line (word (codes "push") ∷ root ∷ word (codes "s") ∷ [])) ≡ write [] (push (text (codes "s")))
+command_in-push = refl
+
+command_in-put : command_in (line (word (codes "put") ∷ root ∷ int (pos 1) u64 ∷ [])) ≡ write [] (put (int (pos 1) u64))
+command_in-put = refl
+
+command_in-pop : command_in (line (word (codes "pop") ∷ root ∷ [])) ≡ write [] pop
+command_in-pop = refl
+
+command_in-remove : command_in (line (word (codes "remove") ∷ root ∷ word (codes "k") ∷ [])) ≡ write [] (remove (codes "k"))
+command_in-remove = refl
+
+command_in-has : command_in (line (word (codes "has") ∷ root ∷ word (codes "k") ∷ [])) ≡ read [] (has (codes "k"))
+command_in-has = refl
+
+-- the first path serves two commands at the empty path
+served_first-encode : served_first (read [] encode) ≡ read [] encode
+served_first-encode = refl
+
+served_first-insert : served_first (write [] (insert (codes "k") null)) ≡ write [] (insert (codes "k") null)
+served_first-insert = refl
+
+served_first-len : served_first (read [] len) ≡ bad
+served_first-len = refl
+
+served_first-path : served_first (read (by_place 0 ∷ []) encode) ≡ bad
+served_first-path = refl
+
+-- ["encode",[],1,2,3]
+command_in-too_long : command_in (line (word (codes "encode") ∷ root ∷ int (pos 1) u64 ∷ int (pos 2) u64 ∷ int (pos 3) u64 ∷ [])) ≡ bad
+command_in-too_long = refl

@@ -1,0 +1,15 @@
+//! Commands at documents, and what they answer.
+#![tactic(auto)]
+
+pub mod laws;
+
+/// Which type holds a session's document.
+#[derive(Clone, Copy, Debug, PartialEq, Eq)]
+pub enum Form {
+    /// Its texts are its own.
+    Owned,
+    /// Its texts lie in the input where they can.
+    Borrowed,
+    /// A tape until the first write.
+    Lazy,
+}

@@ -1,0 +1,10 @@
+pub mod Marks
+pub mod Parse
+pub mod Pieces
+pub mod Room
+pub mod Run
+pub mod Parts
+pub mod Fronts
+pub mod Value
+pub mod Items
+pub mod Members
