@@ -1,9 +1,8 @@
 -- The value of a scalar, whatever carries it.
 use Rattle.std.proofs.Common.{◌≡◌, ℕ, ℤ, pos, negsuc, Bool, true, false, Option, Some, None, refl, ap, suc}
 use Rattle.std.specs.Bool.{Decides, beq}
-use Rattle.std.specs.Ordering.{int_eq, on}
+use Rattle.std.specs.Ordering.{int_eq}
 use Rattle.std.specs.Cmp.{IsEquivalence, decided, booleans_Decides, signed_Decides}
-use Rattle.std.proofs.lemmas.Cmp.{on_equiv}
 use Rattle.sj_text_core.specs.declared.static_node.StaticNode.{StaticNode}
 use Rattle.sj_text_core.specs.declared.static_node.StaticNode.TheVariants.{Null, Bool as Truth, I64, U64, I128, U128}
 

@@ -2,8 +2,8 @@
 #![tactic(auto)]
 
 mod error;
-pub mod laws;
 mod generator;
+pub mod laws;
 mod meaning;
 mod refused;
 mod same_as;
