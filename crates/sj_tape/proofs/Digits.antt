@@ -42,6 +42,7 @@ small_value c e = (low c e, value c e)
   where
     low : (c : ℕ) → is_ascii_digit c ≡ true → digit_value c < 10
     low c e = grind (arith, nat_tests)
+
     value : (c : ℕ) → is_ascii_digit c ≡ true → digit_value c ≡ c - 48
     value c e = grind (arith, nat_tests)
 
@@ -50,6 +51,7 @@ digit_range c e = (low c e, high c e)
   where
     low : (c : ℕ) → is_ascii_digit c ≡ true → 48 ≤ c
     low c e = grind (arith, nat_tests)
+
     high : (c : ℕ) → is_ascii_digit c ≡ true → c ≤ 57
     high c e = grind (arith, nat_tests)
 

@@ -17,8 +17,10 @@ plain_is c e = (low c e, quote c e, back c e)
   where
     low : (c : ℕ) → is_plain c ≡ true → 32 ≤ c
     low c e = grind (arith, nat_tests)
+
     quote : (c : ℕ) → is_plain c ≡ true → c ≢ 34
     quote c e = grind (arith, nat_tests)
+
     back : (c : ℕ) → is_plain c ≡ true → c ≢ 92
     back c e = grind (arith, nat_tests)
 

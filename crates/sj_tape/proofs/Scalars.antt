@@ -12,7 +12,6 @@ use Rattle.sj_text_core.specs.declared.static_node.StaticNode.{StaticNode}
 use Rattle.sj_text_core.specs.declared.static_node.StaticNode.TheVariants.{Null, I64, U64, I128, U128}
 use Rattle.sj_text_core.specs.declared.static_node.StaticNode.TheVariants as nodes
 use Rattle.sj_tape.specs.Parse.{Read, value_by, word_at, number_at, text_at}
-
 use Rattle.sj_text_core.specs.declared.error.ErrorKind.{ErrorKind}
 use Rattle.sj_tape.specs.Pieces.{ReadsPiece}
 use Rattle.sj_tape.specs.declared.reader.piece.Piece.{Piece}

@@ -8,3 +8,6 @@ mod tape;
 pub use node::Node;
 pub use reader::{Buffers, DEPTH_LIMIT, to_tape, to_tape_with_buffers};
 pub use tape::Tape;
+
+#[cfg(test)]
+mod tests;

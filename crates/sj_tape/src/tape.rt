@@ -4,7 +4,7 @@ use crate::node::Node;
 use std::marker::Model;
 
 /// The nodes of one tree in preorder.
-#[derive(Drop)]
+#[derive(Debug, Drop)]
 pub struct Tape<'i> {
     nodes: Vec<Node<'i>>,
 }
