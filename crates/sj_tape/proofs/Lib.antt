@@ -20,3 +20,4 @@ pub mod Runs
 pub mod PlainRuns
 pub mod Digits
 pub mod Blanks
+pub mod NodeMarks

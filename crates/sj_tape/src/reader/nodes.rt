@@ -1,9 +1,10 @@
 //! The third pass: the nodes of the pieces, with texts that lie in the bytes.
 
-ghost use Rattle.std.specs.Prelude.{◌≡◌, ◌≢◌, ◌<◌, ◌≤◌, None, length, slice_range, IfOk, IfErr, IfSome, IsUtf8, All};
+ghost use Rattle.std.specs.Prelude.{◌≡◌, ◌≢◌, ◌+◌, ◌<◌, ◌≤◌, ◌++◌, ◌∷◌, [], None, length, slice_range, IfOk, IfErr, IfSome, IsUtf8, All};
 ghost use Rattle.sj_tape.specs.Pieces.{AreInside, IsInside, IsTextMark, number_mark, piece_mark, piece_marks};
-ghost use Rattle.sj_tape.specs.Marks.{static_mark, mark, marks};
+ghost use Rattle.sj_tape.specs.Marks.{static_mark, marks};
 ghost use Rattle.sj_tape.specs.Parse.{number_at};
+ghost use Rattle.std.specs.Vec.{vec_len, vec_capacity};
 
 use crate::node::Node;
 use crate::reader::number::number;
@@ -25,28 +26,37 @@ pub(crate) fn lend<'i>(
     let whole = simdutf8::basic::from_utf8(bytes).ok();
     let mut nodes = Vec::with_capacity(alloc, pieces.len())?;
     for piece in pieces {
-        nodes.push_reserved(node(bytes, whole, *piece));
+        push_node(&mut nodes, bytes, whole, *piece);
     }
     Ok(nodes)
 }
 
+/// Puts the node of a piece at the end.
+#[tactic(auto, using(crate::proofs::NodeMarks::marks_push))]
 #[inline(always)]
-fn node<'i>(bytes: &'i [u8], whole: Option<&'i str>, piece: Piece) -> Node<'i>
+fn push_node<'i>(nodes: &mut Vec<Node<'i>>, bytes: &'i [u8], whole: Option<&'i str>, piece: Piece)
+    requires room { vec_len nodes.old < vec_capacity nodes.old }
     requires whole { IfSome whole (λ t. t.now ≡ bytes.now) }
     requires inside { IsInside bytes.now (length bytes.now) piece }
     requires text { IsTextMark (piece_mark bytes.now piece) }
-    ensures { mark result ≡ piece_mark bytes.now piece }
+    ensures marks { marks nodes.new.items ≡ marks nodes.old.items ++ piece_mark bytes.now piece ∷ [] }
+    ensures len { vec_len nodes.new ≡ vec_len nodes.old + 1 }
+    ensures capacity { vec_capacity nodes.new ≡ vec_capacity nodes.old }
 {
     match piece {
-        Piece::Null => Node::Static(StaticNode::Null),
-        Piece::Bool(truth) => Node::Static(StaticNode::Bool(truth)),
-        Piece::I64(n) => Node::Static(StaticNode::I64(n)),
-        Piece::U64(n) => Node::Static(StaticNode::U64(n)),
-        Piece::Wide { start, end } => Node::Static(wide(&bytes[start..end])),
-        Piece::Text { start, end } => Node::String(text(bytes, whole, start, end)),
+        Piece::Null => nodes.push_reserved(Node::Static(StaticNode::Null)),
+        Piece::Bool(truth) => nodes.push_reserved(Node::Static(StaticNode::Bool(truth))),
+        Piece::I64(n) => nodes.push_reserved(Node::Static(StaticNode::I64(n))),
+        Piece::U64(n) => nodes.push_reserved(Node::Static(StaticNode::U64(n))),
+        Piece::Wide { start, end } => {
+            nodes.push_reserved(Node::Static(wide(&bytes[start..end])))
+        }
+        Piece::Text { start, end } => {
+            nodes.push_reserved(Node::String(text(bytes, whole, start, end)))
+        }
         Piece::Escaped { .. } => unreachable!(),
-        Piece::Array { len, count } => Node::Array { len, count },
-        Piece::Object { len, count } => Node::Object { len, count },
+        Piece::Array { len, count } => nodes.push_reserved(Node::Array { len, count }),
+        Piece::Object { len, count } => nodes.push_reserved(Node::Object { len, count }),
     }
 }
 
