@@ -133,6 +133,7 @@ numeral_zero minus b start e n many z =
 pub word_of : (n : ℕ) → n < 2 ^ 64 → number_of false n ≡ Some (int (pos n) u64)
 word_of n h = grind (arith, nat_tests)
 
+-- small negative numbers
 pub negative_of : (n : ℕ) → n < 10 ^ 18 → number_of true n ≡ Some (int (neg_ℤ (pos n)) i64)
 negative_of n h = grind (arith, nat_tests)
 
@@ -162,5 +163,6 @@ reads_wide b at e n h k w = record {
     scalar-static (nodes.I128 n) = refl
     scalar-static (nodes.U128 n) = refl
 
+-- and there is a number there
 pub spelled_wide : (b : List ℕ) (at e : ℕ) (t : Tree) → at ≤ e → e ≤ length b → number_at (drop at b) ≡ Some (t, drop e b) → number_at (slice_range b at e) ≢ None
 spelled_wide b at e t h k w = λ z. none-some (t, []) (sym z ∙ number_alone b at e t h k w)

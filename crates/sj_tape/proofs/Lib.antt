@@ -3,11 +3,13 @@ pub mod Scalars
 pub mod Parts
 pub mod Values
 pub mod Steps
+pub mod Fronts
 pub mod Sound
 pub mod Texts
 pub mod Complete
 pub mod Reading
 pub mod Escapes
+pub mod Strings
 pub mod Bytewise
 pub mod Order
 pub mod Places

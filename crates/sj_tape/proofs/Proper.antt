@@ -8,7 +8,8 @@ use lib.Utf8.{low_scalar}
 use lib.Dec.{le→leb}
 use Rattle.sj_text_core.specs.Tree.{i64, u64, i128, u128, Tree, null, boolean, int, text, list, obj, Items, no_items, item, Members, no_members, member, IsProper, AreProper, HasProper}
 use Rattle.sj_text_core.specs.Grammar.{IsSpace, IsBlank, IsDigit, IsNumber, IsHexDigit, IsUnit, IsItem, AreItems, IsString, Spaced, Spelling, SpellsItems, MoreItems, SpellsMembers, MoreMembers, Spells, value_of}
-use Rattle.sj_tape.proofs.Escapes.{string_utf8, hex_ascii, short_ascii}
+use Rattle.sj_tape.proofs.Escapes.{hex_ascii, short_ascii}
+use Rattle.sj_tape.proofs.Strings.{string_utf8}
 
 ascii : (c : ℕ) (p : List ℕ) → c < 128 → IsUtf8 p → IsUtf8 (c ∷ p)
 ascii c p h u = IsUtf8-append (c ∷ []) p (subst (λ l. IsUtf8 l) (encode_ascii c h) (IsUtf8-encode c (low_scalar c (omega (arith, h))))) u
@@ -21,6 +22,7 @@ abbrev pub is_ascii : List ℕ → Bool
 is_ascii [] = true
 is_ascii (c ∷ p) = nat_lt c 128 && is_ascii p
 
+-- ASCII is UTF-8
 pub ascii_text : (p : List ℕ) → is_ascii p ≡ true → IsUtf8 p
 ascii_text [] h = IsUtf8-nil
 ascii_text (c ∷ p) h = let k = and_parts (nat_lt c 128) (is_ascii p) h in ascii c p (ltb-true c 128 k.0) (ascii_text p k.1)
