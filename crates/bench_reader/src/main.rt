@@ -1,6 +1,7 @@
 //! Rates of reading: `to_tape`, `to_tape_with_buffers` and the tape of `json`, in turns, on texts
-//! that a seeded generator writes. Run `rt run -- ROUNDS MEGABYTES` in this folder; each line has
-//! the best rate of so many rounds, by the thread's own clock. Without words it does nothing.
+//! that a seeded generator writes. Run `rt run -- ROUNDS MEGABYTES KIND` in this folder (without
+//! KIND: each kind); each line has the best rate of so many rounds, by the thread's own clock.
+//! Without words it does nothing.
 #![tactic(auto)]
 
 mod texts;
@@ -92,7 +93,13 @@ fn main(rt: HostRuntime) -> io::Result<()> {
     };
     let size = megabytes.min(1000) * 1_000_000;
     for kind in Kind::ALL {
-        report(&rt, kind, size, rounds)?;
+        let is_wanted = match words.get(3) {
+            Some(word) => word.as_str() == kind.name(),
+            None => true,
+        };
+        if is_wanted {
+            report(&rt, kind, size, rounds)?;
+        }
     }
     Ok(())
 }

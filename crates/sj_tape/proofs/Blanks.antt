@@ -26,3 +26,8 @@ solid_rest b at h k = drop_more b at 0 h ∙ (sym (ap (λ t. cond t (after_blank
   where
     none : (c : ℕ) → 32 < c → is_space c ≡ false
     none c k = grind (arith, nat_tests)
+
+-- where there is one space
+pub space_rest : (b : List ℕ) (at : ℕ) → at + 1 < length b → get_or b at 0 ≡ 32 → 32 < get_or b (at + 1) 0 → drop (at + 1) b ≡ after_blank (drop at b)
+space_rest b at h e k =
+    solid_rest b (at + 1) h k ∙ sym (ap (λ l. after_blank l) (drop_more b at 0 (omega (arith, h)) ∙ ap (λ c. c ∷ drop (at + 1) b) e))

@@ -7,7 +7,7 @@ use Rattle.sj_text_core.specs.Tree.{Tree, null, boolean, int, text, list, obj, I
 use Rattle.sj_text_core.specs.Grammar.{IsSpace, IsBlank, IsDigit, IsString, IsNumeral, IsNumber, Spaced, Spelling, MoreItems, MoreMembers, value_of, number_of}
 use Rattle.sj_tape.specs.Parse.{Read, is_space, after_blank, text_at, is_digit, digits_len, goes_on, numeral_at, number_at, separator_at, separator_or, with_first, parts_at, all_parts_at, list_at, obj_at, member_at, after_key, value_at}
 use Rattle.sj_text_core.specs.Tree.{items_from, members_from}
-use Rattle.sj_tape.proofs.Escapes.{string_read}
+use Rattle.sj_tape.proofs.Strings.{string_read}
 use Rattle.sj_tape.proofs.Numbers.{numeral_is}
 use Rattle.sj_tape.proofs.Steps.{is_space_of}
 use Rattle.sj_tape.proofs.Scalars.{value_by_other}
@@ -27,10 +27,12 @@ ends_space c r h = record { digits = digits c r h; plain = plain c r h }
     plain : (c : ℕ) (r : List ℕ) → IsSpace c → goes_on (c ∷ r) ≡ false
     plain c r h = grind (arith, nat_tests)
 
+-- whitespace ends a number
 pub ends_blank : (w r : List ℕ) → IsBlank w → Ends r → Ends (w ++ r)
 ends_blank [] r h e = e
 ends_blank (c ∷ w) r h e = ends_space c (w ++ r) h.0
 
+-- whitespace in front is passed over
 pub after_blank-append : (w r : List ℕ) → IsBlank w → after_blank (w ++ r) ≡ after_blank r
 after_blank-append [] r h = refl
 after_blank-append (c ∷ w) r h = ap (λ t. cond t (after_blank (w ++ r)) (c ∷ (w ++ r))) (is_space_of c h.0) ∙ after_blank-append w r h.1
@@ -44,6 +46,7 @@ pub record Solid (p : List ℕ) : Type 0 where
   pub opens : (first == 93) ≡ false
   pub opens' : (first == 125) ≡ false
 
+-- a word is not passed over
 pub solid_stays : (p r : List ℕ) → Solid p → after_blank (p ++ r) ≡ p ++ r
 solid_stays p r s = ap (λ l. after_blank (l ++ r)) s.is ∙ (ap (λ t. cond t (after_blank (s.rest ++ r)) (s.first ∷ (s.rest ++ r))) s.solid ∙ ap (λ l. l ++ r) (sym s.is))
 
@@ -60,6 +63,7 @@ numeral_solid : (p : List ℕ) → IsNumeral p → Solid p
 numeral_solid [] h = absurd (omega (arith, h.some))
 numeral_solid (c ∷ p) h = record { first = c; rest = p; is = refl; solid = digit_solid c h.digits.0; opens = digit_opens c h.digits.0; opens' = digit_opens' c h.digits.0 }
 
+-- a spelling begins with no whitespace and closes nothing
 pub spelling_solid : (t : Tree) (p : List ℕ) → Spelling t p → Solid p
 spelling_solid null p h = record { first = 110; rest = codes "ull"; is = h; solid = refl; opens = refl; opens' = refl }
 spelling_solid (boolean true) p h = record { first = 116; rest = codes "rue"; is = h; solid = refl; opens = refl; opens' = refl }
@@ -134,6 +138,7 @@ abbrev pub listed : Items → List Tree
 listed no_items = []
 listed (item t is) = t ∷ listed is
 
+-- items as a list and back
 pub items_from-listed : (is : Items) → items_from (listed is) ≡ is
 items_from-listed no_items = refl
 items_from-listed (item t is) = ap (λ k. item t k) (items_from-listed is)
@@ -202,6 +207,7 @@ abbrev pub paired : Members → List (List ℕ × Tree)
 paired no_members = []
 paired (member k t ms) = (k, t) ∷ paired ms
 
+-- members as a list and back
 pub members_from-paired : (ms : Members) → members_from (paired ms) ≡ ms
 members_from-paired no_members = refl
 members_from-paired (member k t ms) = ap (λ l. member k t l) (members_from-paired ms)

@@ -42,6 +42,7 @@ small_value c e = (low c e, value c e)
   where
     low : (c : ℕ) → is_ascii_digit c ≡ true → digit_value c < 10
     low c e = grind (arith, nat_tests)
+
     value : (c : ℕ) → is_ascii_digit c ≡ true → digit_value c ≡ c - 48
     value c e = grind (arith, nat_tests)
 
@@ -50,6 +51,7 @@ digit_range c e = (low c e, high c e)
   where
     low : (c : ℕ) → is_ascii_digit c ≡ true → 48 ≤ c
     low c e = grind (arith, nat_tests)
+
     high : (c : ℕ) → is_ascii_digit c ≡ true → c ≤ 57
     high c e = grind (arith, nat_tests)
 
@@ -131,6 +133,7 @@ numeral_zero minus b start e n many z =
 pub word_of : (n : ℕ) → n < 2 ^ 64 → number_of false n ≡ Some (int (pos n) u64)
 word_of n h = grind (arith, nat_tests)
 
+-- small negative numbers
 pub negative_of : (n : ℕ) → n < 10 ^ 18 → number_of true n ≡ Some (int (neg_ℤ (pos n)) i64)
 negative_of n h = grind (arith, nat_tests)
 
@@ -160,5 +163,6 @@ reads_wide b at e n h k w = record {
     scalar-static (nodes.I128 n) = refl
     scalar-static (nodes.U128 n) = refl
 
+-- and there is a number there
 pub spelled_wide : (b : List ℕ) (at e : ℕ) (t : Tree) → at ≤ e → e ≤ length b → number_at (drop at b) ≡ Some (t, drop e b) → number_at (slice_range b at e) ≢ None
 spelled_wide b at e t h k w = λ z. none-some (t, []) (sym z ∙ number_alone b at e t h k w)

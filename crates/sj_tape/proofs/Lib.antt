@@ -6,7 +6,9 @@ pub mod Counts
 pub mod Decode
 pub mod Digits
 pub mod Escapes
+pub mod Fronts
 pub mod Lanes
+pub mod NodeMarks
 pub mod Numbers
 pub mod Order
 pub mod Parts
@@ -14,13 +16,13 @@ pub mod Passes
 pub mod Places
 pub mod PlainRuns
 pub mod Preorders
-pub mod Proper
 pub mod Reading
 pub mod Runs
 pub mod Scalars
 pub mod Sound
 pub mod Splits
 pub mod Steps
+pub mod Strings
 pub mod Texts
 pub mod Units
 pub mod Values

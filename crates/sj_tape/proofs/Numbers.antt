@@ -16,6 +16,7 @@ fold_grows : (ds : List ℕ) (n : ℕ) → n ≤ fold step n ds
 fold_grows [] n = omega arith
 fold_grows (d ∷ ds) n = omega (arith, fold_grows ds (step n d))
 
+-- fewer digits write no more
 pub value_of-take : (ds : List ℕ) (i : ℕ) → value_of (take i ds) ≤ value_of ds
 value_of-take ds i =
     let e : value_of ds ≡ fold step (value_of (take i ds)) (drop i ds) =
@@ -29,11 +30,13 @@ value_of_more ds i h = ap (λ xs. value_of xs) (take_more ds i 0 h) ∙ fold-app
 pub too_large : (ds : List ℕ) (i n d limit : ℕ) → i < length ds → n ≡ value_of (take i ds) → get_or ds i 0 ≡ d → limit ≤ n * 10 + (d - 48) → limit ≤ value_of ds
 too_large ds i n d limit h e f k = omega (arith, value_of-take ds (i + 1), value_of_more ds i h, ap (λ (m : ℕ). m * 10) e, f)
 
+-- 19 digits fit a word
 pub next_digit_fits : (n i : ℕ) → n < 10 ^ i → i < 19 → n * 10 + 9 < 2 ^ 64
 next_digit_fits n i h k =
     let e : 10 ^ i ≤ 10 ^ 18 = pow-le-pow_right {n = 10} (lit< tt) {i = i} {j = 18} (omega arith) in
     omega (arith, e)
 
+-- a numeral that is read
 pub numeral_is : (minus : Bool) (n : ℕ) (b : List ℕ) (t : Tree) → n ≢ 0 → (get_or b 0 0 ≡ 48 → n ≤ 1) → goes_on (drop n b) ≡ false
     → number_of minus (value_of (take n b)) ≡ Some t → numeral_at minus n b ≡ Some (t, drop n b)
 numeral_is minus n b t some plain ends e = grind (arith, common_steps, nat_tests)

@@ -15,6 +15,7 @@ pub record Progress {X : Type 0} (flats : List X → List Mark) (others : Read (
   pub nodes : new ≡ old ++ flats front
   pub count : len ≡ length front
 
+-- no part is read yet
 pub starts : {X : Type 0} (flats : List X → List Mark) (whole : Read (List X)) (old : List Mark) → flats [] ≡ [] → Progress flats whole whole old old 0
 starts flats None old e = record { front = []; so_far = refl; nodes = rw e (sym (append-nil old)); count = refl }
 starts flats (Some p) old e = record { front = []; so_far = refl; nodes = rw e (sym (append-nil old)); count = refl }
@@ -42,9 +43,11 @@ regroup : {X : Type 0} (front : List X) (x : X) (read : Read (List X)) → with_
 regroup front x None = refl
 regroup front x (Some p) = ap (λ xs. Some (xs, p.1)) (sym (append_assoc front (x ∷ []) p.0))
 
+-- where the others fail, all do
 pub fails : {X : Type 0} (flats : List X → List Mark) (others whole : Read (List X)) (old new : List Mark) (len : ℕ) → Progress flats others whole old new len → others ≡ None → whole ≡ None
 fails flats others whole old new len p e = sym p.so_far ∙ ap (λ o. with_front p.front o) e
 
+-- one part more
 pub goes_further : {X : Type 0} (flats : List X → List Mark) (one : X → List Mark) → ((xs : List X) (x : X) → flats (xs ++ x ∷ []) ≡ flats xs ++ one x)
     → (others later whole : Read (List X)) (old new newer : List Mark) (len : ℕ) (x : X)
     → Progress flats others whole old new len → others ≡ with_first x later → newer ≡ new ++ one x → Progress flats later whole old newer (len + 1)
@@ -62,6 +65,7 @@ pub record Done {X : Type 0} (flats : List X → List Mark) (whole : Read (List 
   pub nodes : newer ≡ old ++ flats parts
   pub count : len ≡ length parts
 
+-- the last part
 pub ends : {X : Type 0} (flats : List X → List Mark) (one : X → List Mark) → ((xs : List X) (x : X) → flats (xs ++ x ∷ []) ≡ flats xs ++ one x)
     → (others whole : Read (List X)) (rest : List ℕ) (old new newer : List Mark) (len : ℕ) (x : X)
     → Progress flats others whole old new len → others ≡ Some (x ∷ [], rest) → newer ≡ new ++ one x → Done flats whole rest old newer (len + 1)
@@ -81,26 +85,32 @@ member_flats ms = flat_members (members_from ms)
 abbrev pub member_flat : (List ℕ × Tree) → List Mark
 member_flat m = string m.0 ∷ flat m.1
 
+-- the nodes of one item more
 pub item_flats-push : (ts : List Tree) (t : Tree) → item_flats (ts ++ t ∷ []) ≡ item_flats ts ++ flat t
 item_flats-push [] t = append-nil (flat t)
 item_flats-push (u ∷ ts) t = ap (λ m. flat u ++ m) (item_flats-push ts t) ∙ sym (append_assoc (flat u) (item_flats ts) (flat t))
 
+-- the nodes of one member more
 pub member_flats-push : (ms : List (List ℕ × Tree)) (m : List ℕ × Tree) → member_flats (ms ++ m ∷ []) ≡ member_flats ms ++ member_flat m
 member_flats-push [] m = ap (λ n. string m.0 ∷ n) (append-nil (flat m.1))
 member_flats-push (l ∷ ms) m = ap (λ n. string l.0 ∷ n) (ap (λ n. flat l.1 ++ n) (member_flats-push ms m) ∙ sym (append_assoc (flat l.1) (member_flats ms) (member_flat m)))
 
+-- as many items as trees
 pub items_len-from : (ts : List Tree) → items_len (items_from ts) ≡ length ts
 items_len-from [] = refl
 items_len-from (t ∷ ts) = ap (λ n. suc n) (items_len-from ts)
 
+-- as many members as pairs
 pub members_len-from : (ms : List (List ℕ × Tree)) → members_len (members_from ms) ≡ length ms
 members_len-from [] = refl
 members_len-from (m ∷ ms) = ap (λ n. suc n) (members_len-from ms)
 
+-- what is false where its negation is true
 pub not-true : (b : Bool) → not b ≡ true → b ≡ false
 not-true true h = sym h
 not-true false h = refl
 
+-- what is true where its negation is false
 pub not-false : (b : Bool) → not b ≡ false → b ≡ true
 not-false true h = refl
 not-false false h = sym h

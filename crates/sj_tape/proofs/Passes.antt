@@ -83,6 +83,7 @@ pub record Decoding (old : List ℕ) (from : List Piece) (b : List ℕ) (ps : Li
   pub done : piece_marks b (take i ps) ≡ piece_marks old (take i from)
   pub inside : AllByRecursion (IsInside b mid) (take i ps)
 
+-- nothing is decoded yet
 pub start : (old : List ℕ) (from : List Piece) → InOrder old 0 from (length old) → Decoding old from old from 0
 start old from h = record { mid = 0; size = refl; rest = refl; ahead = h; same = refl; done = refl; inside = tt }
 
@@ -148,6 +149,7 @@ plain_inside b old lo hi (Escaped s t) n e h = absurd (none-some (s, t) (sym n))
 plain_inside b old lo hi (Array x y) n e h = tt
 plain_inside b old lo hi (Object x y) n e h = tt
 
+-- a piece that is no spelling stays
 pub skipped : (old : List ℕ) (from : List Piece) (b : List ℕ) (ps : List Piece) (i : ℕ) (p : Piece) → Decoding old from b ps i → drop i ps ≡ p ∷ drop (i + 1) ps → spelling_of p ≡ None → Decoding old from b ps (i + 1)
 skipped old from b ps i p d e n =
     let f : drop i from ≡ p ∷ drop (i + 1) ps = sym d.rest ∙ e in
@@ -185,9 +187,11 @@ spelled_between old lo hi s e (Escaped x y) n h = let k = some_pair_parts s x e 
 spelled_between old lo hi s e (Array x y) n h = absurd (none-some (s, e) (sym n))
 spelled_between old lo hi s e (Object x y) n h = absurd (none-some (s, e) (sym n))
 
+-- the next piece lies behind those decoded
 pub head_between : (old : List ℕ) (from : List Piece) (b : List ℕ) (ps : List Piece) (i : ℕ) (p : Piece) → (d : Decoding old from b ps i) → drop i ps ≡ p ∷ drop (i + 1) ps → InOrder old d.mid (p ∷ drop (i + 1) ps) (length old)
 head_between old from b ps i p d e = subst (λ l. InOrder old d.mid l (length old)) (sym d.rest ∙ e) d.ahead
 
+-- where the next spelling lies
 pub spelling_is : (old : List ℕ) (from : List Piece) (b : List ℕ) (ps : List Piece) (i : ℕ) (p : Piece) (s e : ℕ) → (d : Decoding old from b ps i) → (q : drop i ps ≡ p ∷ drop (i + 1) ps) → Some (s, e) ≡ spelling_of p
     → Spelling old b d.mid (head_between old from b ps i p d q).0 s e
 spelling_is old from b ps i p s e d q n =
@@ -204,6 +208,7 @@ spelling_is old from b ps i p s e d q n =
       ends = ap (λ l. after (text_at l)) same ∙ (k.3 ∙ ap (λ l. Some l) (sym (same_rest b old d.mid (e + 1) (omega (arith, k.0, k.1)) d.same)));
     }
 
+-- one spelling is decoded
 pub decoded : (old : List ℕ) (from : List Piece) (b new : List ℕ) (ps : List Piece) (i : ℕ) (p : Piece) (s e end : ℕ) → (d : Decoding old from b ps i) → (q : drop i ps ≡ p ∷ drop (i + 1) ps) → Some (s, e) ≡ spelling_of p
     → length new ≡ length b → s ≤ end → end ≤ e → slice_range new s end ≡ text_of (text_at (drop s b)) → take s new ≡ take s b → drop e new ≡ drop e b → Decoding old from new (set ps i (Text s end)) (i + 1)
 decoded old from b new ps i p s e end d q n z lo hi t before behind =
@@ -227,19 +232,23 @@ decoded old from b new ps i p s e end d q n z lo hi t before behind =
       inside = subst (λ l. AllByRecursion (IsInside new h.0) l) (sym taken) (all_push new h.0 (take i ps) (Text s end) (all_kept b new s d.mid h.0 (take i ps) k.low (omega (arith, k.fits, k.order)) (omega (arith, k.fits, k.order, z)) (sym before) (omega (arith, k.low, k.order, k.high)) d.inside) (lo, omega (arith, hi, k.high)));
     }
 
+-- at the end all pieces mean what they meant
 pub all_done : (old : List ℕ) (from : List Piece) (b : List ℕ) (ps : List Piece) (i : ℕ) → Decoding old from b ps i → length ps ≤ i → length from ≤ i → piece_marks b ps ≡ piece_marks old from
 all_done old from b ps i d h k = ap (λ l. piece_marks b l) (sym (take_all i ps h)) ∙ (d.done ∙ ap (λ l. piece_marks old l) (take_all i from k))
 
+-- at the end all pieces lie in the bytes
 pub all_inside : (old : List ℕ) (from : List Piece) (b : List ℕ) (ps : List Piece) (i : ℕ) → Decoding old from b ps i → length ps ≤ i → AreInside b ps
 all_inside old from b ps i d h =
     let le : d.mid ≤ length b = omega (arith, order_le old d.mid (drop i from) (length old) d.ahead, d.size) in
     All-from_recursion (IsInside b (length b)) ps (all_wider b d.mid (length b) ps le (subst (λ l. AllByRecursion (IsInside b d.mid) l) (take_all i ps h) d.inside))
 
+-- the same, for what the loop holds
 pub decoded_as : (old : List ℕ) (from : List Piece) (b new new' : List ℕ) (ps ps' : List Piece) (i : ℕ) (p : Piece) (s e end : ℕ) → (d : Decoding old from b ps i) → (q : drop i ps ≡ p ∷ drop (i + 1) ps) → Some (s, e) ≡ spelling_of p
     → length new ≡ length b → s ≤ end → end ≤ e → slice_range new s end ≡ text_of (text_at (drop s b)) → take s new ≡ take s b → drop e new ≡ drop e b → new' ≡ new → ps' ≡ set ps i (Text s end) → Decoding old from new' ps' (i + 1)
 decoded_as old from b new new' ps ps' i p s e end d q n z lo hi t before behind f g =
     subst (λ x. Decoding old from x ps' (i + 1)) (sym f) (subst (λ x. Decoding old from new x (i + 1)) (sym g) (decoded old from b new ps i p s e end d q n z lo hi t before behind))
 
+-- the same, for a piece that stays
 pub skipped_as : (old : List ℕ) (from : List Piece) (b b' : List ℕ) (ps ps' : List Piece) (i : ℕ) (p : Piece) → Decoding old from b ps i → drop i ps ≡ p ∷ drop (i + 1) ps → None ≡ spelling_of p → b' ≡ b → ps' ≡ ps → Decoding old from b' ps' (i + 1)
 skipped_as old from b b' ps ps' i p d q n f g =
     subst (λ x. Decoding old from x ps' (i + 1)) (sym f) (subst (λ x. Decoding old from b x (i + 1)) (sym g) (skipped old from b ps i p d q (sym n)))
@@ -248,5 +257,6 @@ skipped_as old from b b' ps ps' i p d q n f g =
 pub same_pieces : (new rest final : List Piece) (n : ℕ) → final ≡ take n (new ++ rest) → length new ≡ n → final ≡ new
 same_pieces new rest final n e k = e ∙ take_at new rest n k
 
+-- the nodes of the pieces as they are lent
 pub marks_of : (old b : List ℕ) (from first new rest final : List Piece) (n : ℕ) (ns : List Mark) → final ≡ take n (new ++ rest) → length new ≡ n → piece_marks b new ≡ piece_marks old first → first ≡ from → piece_marks old from ≡ ns → piece_marks b final ≡ ns
 marks_of old b from first new rest final n ns e k f g h = ap (λ l. piece_marks b l) (same_pieces new rest final n e k) ∙ (f ∙ (ap (λ l. piece_marks old l) g ∙ h))

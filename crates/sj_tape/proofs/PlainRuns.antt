@@ -17,8 +17,10 @@ plain_is c e = (low c e, quote c e, back c e)
   where
     low : (c : ℕ) → is_plain c ≡ true → 32 ≤ c
     low c e = grind (arith, nat_tests)
+
     quote : (c : ℕ) → is_plain c ≡ true → c ≢ 34
     quote c e = grind (arith, nat_tests)
+
     back : (c : ℕ) → is_plain c ≡ true → c ≢ 92
     back c e = grind (arith, nat_tests)
 
@@ -58,6 +60,7 @@ stop_is b at e h lt =
 pub plain_after : (b : List ℕ) (at e : ℕ) → e ≡ at + prefix_len is_plain (drop at b) → after (text_at (drop at b)) ≡ after (text_at (drop e b))
 plain_after b at e h = ap (λ o. after o) (plain_so_far b at e h) ∙ after_front (slice_range b at e) (text_at (drop e b))
 
+-- where nothing follows nothing was read
 pub none_after : (o : Read (List ℕ)) → after o ≡ None → o ≡ None
 none_after None e = refl
 none_after (Some p) e = absurd (none-some p.1 (sym e))

@@ -9,7 +9,8 @@ use Rattle.std.proofs.lemmas.List.Elements.{All-from_recursion}
 use Rattle.std.proofs.lemmas.Option.{none-some, same_Some, option_and_then_some}
 use Rattle.sj_tape.specs.Parse.{tree_at, value_at, after_blank, last}
 use Rattle.sj_tape.proofs.Steps.{Blank, blank_off}
-use Rattle.sj_tape.proofs.Sound.{Front, Deep, value_sound}
+use Rattle.sj_tape.proofs.Fronts.{Front}
+use Rattle.sj_tape.proofs.Sound.{Deep, value_sound}
 use Rattle.sj_tape.proofs.Texts.{texts, lift}
 use Rattle.sj_tape.proofs.Complete.{read_again, after_blank-append, solid_stays, spelling_solid, ends_blank}
 use Rattle.sj_tape.specs.Pieces.{piece_mark, piece_marks, IsTextMark}
@@ -31,12 +32,14 @@ tree_of_value d b q u t r utf8 f e z =
       texts u f.front spelled,
     )
 
+-- what is read is spelled, in the limit, with texts in UTF-8
 pub sound : (d : ℕ) (b : List ℕ) (t : Tree) → IsUtf8 b → tree_at d b ≡ Some t → Spells b t × (depth t ≤ d) × AllByRecursion IsTextMark (flat t)
 sound d b t u e =
     option_and_then_some _ (value_at d (after_blank b)) t e (λ p e1 e2.
     let k = last_is p.0 t (after_blank p.1) e2 in
     tree_of_value d b (blank_off b) p.0 t p.1 u (value_sound d (after_blank b) p.0 p.1 e1) k.0 k.1)
 
+-- what is spelled in the limit is read
 pub complete : (d : ℕ) (b : List ℕ) (t : Tree) → Spells b t → depth t ≤ d → tree_at d b ≡ Some t
 complete d b t s h =
     let e : b ≡ s.before ++ (s.word ++ (s.after ++ [])) = s.is ∙ ap (λ l. s.before ++ (s.word ++ l)) (sym (append-nil s.after)) in
@@ -53,9 +56,11 @@ only d b t u utf8 e s =
     let e2 : tree_at (max (depth t) (depth u)) b ≡ Some u = complete (max (depth t) (depth u)) b u s (omega arith) in
     cc
 
+-- what is not read is not readable
 pub unreadable : (b : List ℕ) → tree_at 1024 b ≡ None → IsReadable b → ⊥
 unreadable b e r = let k : tree_at 1024 b ≡ Some r.0 = complete 1024 b r.0 r.1 r.2 in cc
 
+-- texts of nodes are those of their pieces
 pub texts_of : (b : List ℕ) (ps : List Piece) → AllByRecursion IsTextMark (piece_marks b ps) → All (λ p. IsTextMark (piece_mark b p)) ps
 texts_of b ps h = All-from_recursion (λ p. IsTextMark (piece_mark b p)) ps (texts b ps h)
   where
@@ -63,9 +68,11 @@ texts_of b ps h = All-from_recursion (λ p. IsTextMark (piece_mark b p)) ps (tex
     texts b [] h = tt
     texts b (p ∷ ps) h = (h.0, texts b ps h.1)
 
+-- the nodes of a tree give it back
 pub tree_is : (ns : List Mark) (t : Tree) → ns ≡ flat t → tree_of ns ≡ t
 tree_is ns t e = ap (λ l. tree_of l) e ∙ tree_of-flat t
 
+-- the nodes of a tree are a preorder
 pub preorder_is : (ns : List Mark) (t : Tree) → ns ≡ flat t → IsPreorder ns
 preorder_is ns t e = e ∙ ap (λ u. flat u) (sym (tree_is ns t e))
 
@@ -75,6 +82,7 @@ pub record Read (b : List ℕ) (t : Tree) : Type 0 where
   pub within : depth t ≤ 1024
   pub only : (u : Tree) → Spells b u → u ≡ t
 
+-- what is known of a tree that was read
 pub is_read : (b : List ℕ) (t : Tree) → IsUtf8 b → tree_at 1024 b ≡ Some t → Read b t
 is_read b t utf8 was =
     let k = sound 1024 b t utf8 was in

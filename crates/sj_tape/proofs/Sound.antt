@@ -1,5 +1,5 @@
 -- What is read is spelled.
-use Rattle.std.proofs.Common.{◌≡◌, ◌⊎◌, ℕ, zero, suc, ◌+◌, ◌≤◌, Bool, true, false, cond, List, [], ◌∷◌, ◌++◌, length, take, drop, get_or, option_map, Option, Some, None, refl, sym, ap, subst, ◌∙◌, arith, append_assoc, append-nil, inl, inr, ⊎_elim, codes, ◌==◌, nat_lt, nat_le, ◌&&◌, ◌^◌, ℤ, pos, neg_ℤ, eqb-true}
+use Rattle.std.proofs.Common.{◌≡◌, ◌⊎◌, ℕ, zero, suc, ◌+◌, ◌≤◌, Bool, true, false, cond, List, [], ◌∷◌, ◌++◌, length, take, drop, get_or, option_map, Option, Some, None, refl, sym, ap, subst, ◌∙◌, arith, append_assoc, inl, inr, ⊎_elim, codes, ◌==◌, nat_lt, nat_le, ◌&&◌, ◌^◌, ℤ, pos, neg_ℤ, eqb-true}
 use Rattle.std.specs.List.{AllByRecursion, starts_with}
 use Rattle.std.proofs.lemmas.Bool.Decides.{nat_tests}
 use Rattle.std.proofs.lemmas.Option.{none-some, same_Some, option_and_then_some, cond_some, some_pair_parts}
@@ -8,123 +8,10 @@ use Rattle.sj_text_core.specs.Tree.{Carrier, i64, u64, i128, u128, Tree, null, b
 use Rattle.sj_text_core.specs.Grammar.{IsBlank, IsDigit, IsNumeral, IsNumber, value_of, number_of}
 use Rattle.sj_tape.proofs.Bytewise.{IsString, Spelling, SpellsItems, MoreItems, SpellsMembers, MoreMembers}
 use Rattle.sj_tape.proofs.Escapes.{text_ends}
-use Rattle.sj_tape.specs.Parse.{Read, after_blank, text_at, after_key, member_at, is_digit, digits_len, goes_on, numeral_at, number_at, word_at, separator_at, separator_or, with_first, parts_at, all_parts_at, list_at, obj_at, value_at, value_by, nothing_at}
+use Rattle.sj_tape.specs.Parse.{Read, after_blank, text_at, after_key, member_at, is_digit, digits_len, goes_on, numeral_at, number_at, word_at, parts_at, all_parts_at, list_at, obj_at, value_at, value_by, nothing_at}
 use Rattle.sj_text_core.specs.Tree.{items_from, members_from}
-use Rattle.sj_tape.proofs.Steps.{by_cases, blank_off, separator_is, digits_are}
-
--- a spelling was taken off the front
-pub record Front {X : Type 0} (P : X → List ℕ → Type 0) (b : List ℕ) (x : X) (r : List ℕ) : Type 0 where
-  pub front : List ℕ
-  pub is : b ≡ front ++ r
-  pub has : P x front
-
-abbrev pub Sound : {X : Type 0} → (X → List ℕ → Type 0) → (List ℕ → Read X) → Type 0
-Sound {X} P read = (b : List ℕ) (x : X) (r : List ℕ) → read b ≡ Some (x, r) → Front P b x r
-
--- a word, whitespace, and what R says of the rest
-pub record Word (W R : List ℕ → Type 0) (b : List ℕ) : Type 0 where
-  pub word : List ℕ
-  pub after : List ℕ
-  pub rest : List ℕ
-  pub is : b ≡ word ++ (after ++ rest)
-  pub spelled : W word
-  pub blank : IsBlank after
-  pub more : R rest
-
--- further parts, each behind a comma and whitespace
-abbrev pub More : {X : Type 0} → (X → List ℕ → Type 0) → List X → List ℕ → Type 0
-More P [] b = b ≡ []
-More P (x ∷ xs) b = (before : List ℕ) × (rest : List ℕ) × (b ≡ 44 ∷ (before ++ rest)) × IsBlank before × Word (λ w. P x w) (λ r. More P xs r) rest
-
-pub record Separated (close : ℕ) (b : List ℕ) (m : Bool) (s : List ℕ) : Type 0 where
-  pub after : List ℕ
-  pub blank : IsBlank after
-  pub which : ((m ≡ false) × (b ≡ after ++ (close ∷ s))) ⊎ ((m ≡ true) × ((before : List ℕ) × IsBlank before × (b ≡ after ++ (44 ∷ (before ++ s)))))
-
-separated : (close : ℕ) (b after rest : List ℕ) (m : Bool) (s : List ℕ) → IsBlank after → b ≡ after ++ rest → separator_or close rest ≡ Some (m, s) → Separated close b m s
-separated close b after [] m s h e f = absurd (none-some (m, s) f)
-separated close b after (c ∷ rest) m s h e f = record {
-  after = after;
-  blank = h;
-  which = ⊎_elim
-      (λ k. inl (k.0, e ∙ (ap (λ x. after ++ (x ∷ rest)) k.1 ∙ ap (λ l. after ++ (close ∷ l)) (sym k.2))))
-      (λ k. let q = blank_off rest in
-      inr (k.0, (q.front, q.blank, e ∙ (ap (λ x. after ++ (x ∷ rest)) k.1 ∙ (ap (λ l. after ++ (44 ∷ l)) q.is ∙ ap (λ l. after ++ (44 ∷ (q.front ++ l))) (sym k.2))))))
-      (separator_is close c rest m s f);
-}
-
-pub separator_off : (close : ℕ) (b : List ℕ) (m : Bool) (s : List ℕ) → separator_at close b ≡ Some (m, s) → Separated close b m s
-separator_off close b m s e = let q = blank_off b in separated close b q.front (after_blank b) m s q.blank q.is e
-
-with_first_some : {X : Type 0} (x : X) (o : Read (List X)) (xs : List X) (r : List ℕ) → with_first x o ≡ Some (xs, r) → (ys : List X) × (o ≡ Some (ys, r)) × (xs ≡ x ∷ ys)
-with_first_some x None xs r e = absurd (none-some (xs, r) e)
-with_first_some x (Some p) xs r e = let k = some_pair_parts (x ∷ p.0) xs p.1 r e in (p.0, ap (λ l. Some (p.0, l)) k.1, sym k.0)
-
-pub record PartsFront {X : Type 0} (P : X → List ℕ → Type 0) (close : ℕ) (b : List ℕ) (xs : List X) (r : List ℕ) : Type 0 where
-  pub head : X
-  pub tail : List X
-  pub split : xs ≡ head ∷ tail
-  pub inside : List ℕ
-  pub is : b ≡ inside ++ (close ∷ r)
-  pub spelled : Word (λ w. P head w) (λ l. More P tail l) inside
-
-module _ {X : Type 0} (P : X → List ℕ → Type 0) (close : ℕ) (read : List ℕ → Read X) where
-  finish : (n : ℕ) → ((b : List ℕ) (xs : List X) (r : List ℕ) → parts_at close read n b ≡ Some (xs, r) → PartsFront P close b xs r)
-      → (b : List ℕ) (x : X) (r1 : List ℕ) (m : Bool) (s : List ℕ) (xs : List X) (r : List ℕ) → Front P b x r1 → Separated close r1 m s
-      → cond m (with_first x (parts_at close read n s)) (Some (x ∷ [], s)) ≡ Some (xs, r) → PartsFront P close b xs r
-  finish n ih b x r1 true s xs r fr sep e =
-      let w = with_first_some x (parts_at close read n s) xs r e in
-      let k = ih s w.0 r w.1 in
-      ⊎_elim (λ q. absurd (false-true q.0))
-      (λ q. record {
-        head = x;
-        tail = w.0;
-        split = w.2;
-        inside = fr.front ++ (sep.after ++ (44 ∷ (q.1.0 ++ k.inside)));
-        is = fr.is ∙ (ap (λ l. fr.front ++ l) (q.1.2 ∙ ap (λ l. sep.after ++ (44 ∷ (q.1.0 ++ l))) k.is) ∙ regroup fr.front sep.after q.1.0 k.inside (close ∷ r));
-        spelled = record {
-          word = fr.front;
-          after = sep.after;
-          rest = 44 ∷ (q.1.0 ++ k.inside);
-          is = refl;
-          spelled = fr.has;
-          blank = sep.blank;
-          more = subst (λ l. More P l (44 ∷ (q.1.0 ++ k.inside))) (sym k.split) (q.1.0, k.inside, refl, q.1.1, k.spelled);
-        };
-      })
-      sep.which
-    where
-      false-true : true ≡ false → ⊥
-      false-true h = cc
-
-      regroup : (a b c d e : List ℕ) → a ++ (b ++ (44 ∷ (c ++ (d ++ e)))) ≡ (a ++ (b ++ (44 ∷ (c ++ d)))) ++ e
-      regroup a b c d e = simp append_assoc
-  finish n ih b x r1 false s xs r fr sep e =
-      let k = some_pair_parts (x ∷ []) xs s r e in
-      ⊎_elim (λ q. record {
-        head = x;
-        tail = [];
-        split = sym k.0;
-        inside = fr.front ++ (sep.after ++ []);
-        is = fr.is ∙ (ap (λ l. fr.front ++ l) (q.1 ∙ ap (λ l. sep.after ++ (close ∷ l)) k.1) ∙ regroup_last fr.front sep.after (close ∷ r));
-        spelled = record { word = fr.front; after = sep.after; rest = []; is = refl; spelled = fr.has; blank = sep.blank; more = refl };
-      })
-      (λ q. absurd (true-false q.0))
-      sep.which
-    where
-      true-false : false ≡ true → ⊥
-      true-false h = cc
-
-      regroup_last : (a b e : List ℕ) → a ++ (b ++ e) ≡ (a ++ (b ++ [])) ++ e
-      regroup_last a b e = simp (append_assoc, append-nil)
-
-  pub parts_sound : Sound P read → (n : ℕ) (b : List ℕ) (xs : List X) (r : List ℕ) → parts_at close read n b ≡ Some (xs, r) → PartsFront P close b xs r
-  unfolding parts_at
-  parts_sound h zero b xs r e = absurd (none-some (xs, r) e)
-  parts_sound h (suc n) b xs r e =
-      option_and_then_some _ (read b) (xs, r) e (λ p e1 e2.
-      option_and_then_some _ (separator_at close p.1) (xs, r) e2 (λ s f1 f2.
-      finish n (λ b' ys r' g. parts_sound h n b' ys r' g) b p.0 p.1 s.0 s.1 xs r (h b p.0 p.1 e1) (separator_off close p.1 s.0 s.1 f1) f2))
+use Rattle.sj_tape.proofs.Steps.{by_cases, blank_off, digits_are}
+use Rattle.sj_tape.proofs.Fronts.{parts_sound, Front, Sound, Word, More, PartsFront}
 
 -- lists
 abbrev pub Deep : ℕ → Tree → List ℕ → Type 0
@@ -169,6 +56,7 @@ first_is : (c : List ℕ) (k : ℕ) → get_or c 0 0 ≡ suc k → c ≡ suc k �
 first_is [] k e = absurd (omega (arith, e))
 first_is (x ∷ c) k e = ap (λ y. y ∷ c) e
 
+-- a result under a map
 pub option_map_pair : {X : Type 0} (g : X → Tree) (o : Read X) (t : Tree) (r : List ℕ) → option_map {U = Tree × List ℕ} (λ p. (g p.0, p.1)) o ≡ Some (t, r) → (x : X) × (o ≡ Some (x, r)) × (g x ≡ t)
 option_map_pair g None t r e = absurd (none-some (t, r) e)
 option_map_pair g (Some p) t r e = let k = some_pair_parts (g p.0) t p.1 r e in (p.0, ap (λ l. Some (p.0, l)) k.1, k.0)
@@ -189,6 +77,7 @@ list_of d b before c r xs h e f =
     regroup : (a b r : List ℕ) → a ++ (b ++ (93 ∷ r)) ≡ ((a ++ b) ++ 93 ∷ []) ++ r
     regroup a b r = simp append_assoc
 
+-- a list that is read is spelled
 pub list_sound : (d : ℕ) → Sound (Deep d) (value_at d) → Sound (InList d) (list_at (value_at d))
 list_sound d h b t r e =
     let q = blank_off b in
@@ -275,6 +164,7 @@ number_front b t r e = by_cases (get_or b 0 0 == 45)
     let k = numeral_sound false b t r f in
     (k.0, k.1, inl (k.2, k.3)))
 
+-- a number that is read is spelled
 pub number_sound : (d : ℕ) → Sound (Deep d) number_at
 number_sound d b t r e =
     let k = number_front b t r e in
@@ -284,6 +174,7 @@ number_sound d b t r e =
 abbrev pub BehindQuote : List ℕ → List ℕ → Type 0
 BehindQuote s p = IsString (34 ∷ p) s
 
+-- a text that is read ends with a quote
 pub text_sound : Sound BehindQuote text_at
 text_sound b s r e =
     let k = text_ends 0 b s r e in record {
@@ -310,6 +201,7 @@ starts_are (x ∷ w) (y ∷ b) e =
     let k = and_parts (x == y) (starts_with ◌==◌ b w) e in
     ap (λ l. y ∷ l) (starts_are w b k.1) ∙ ap (λ z. z ∷ (w ++ drop (length w) b)) (sym (eqb-true x y k.0))
 
+-- a word that is read is spelled
 pub word_sound : (d : ℕ) (w : List ℕ) (u : Tree) → Deep d u w → Sound (Deep d) (word_at w u)
 word_sound d w u h b t r e =
     let k = cond_some (starts_with ◌==◌ b w) (u, drop (length w) b) (t, r) e in
@@ -348,6 +240,7 @@ member_of d h b s c m r e f g =
     regroup : (a b c d r : List ℕ) → a ++ (b ++ (58 ∷ (c ++ (d ++ r)))) ≡ (a ++ (b ++ (58 ∷ (c ++ d)))) ++ r
     regroup a b c d r = simp append_assoc
 
+-- a member that is read is spelled
 pub member_sound : (d : ℕ) → Sound (Deep d) (value_at d) → Sound (DeepMember d) (member_at (value_at d))
 member_sound d h b m r e =
     let u = guarded (get_or b 0 0 == 34) _ (m, r) e in
@@ -404,6 +297,7 @@ obj_of d b before c r xs h e f =
     regroup : (a b r : List ℕ) → a ++ (b ++ (125 ∷ r)) ≡ ((a ++ b) ++ 125 ∷ []) ++ r
     regroup a b r = simp append_assoc
 
+-- an object that is read is spelled
 pub obj_sound : (d : ℕ) → Sound (Deep d) (value_at d) → Sound (InObj d) (obj_at (value_at d))
 obj_sound d h b t r e =
     let q = blank_off b in
@@ -434,6 +328,7 @@ text_front d b t r e =
     let f = text_sound b m.0 r m.1 in
     subst (λ u. Front (λ u' p. Deep d u' (34 ∷ p)) b u r) m.2 (record { front = f.front; is = f.is; has = (f.has, omega arith) })
 
+-- a value that is read is spelled, where lists and objects are
 pub value_by_sound : (d : ℕ) (f g : List ℕ → Read Tree)
     → ((b : List ℕ) (t : Tree) (r : List ℕ) → f b ≡ Some (t, r) → Front (λ u p. Deep d u (91 ∷ p)) b t r)
     → ((b : List ℕ) (t : Tree) (r : List ℕ) → g b ≡ Some (t, r) → Front (λ u p. Deep d u (123 ∷ p)) b t r) → Sound (Deep d) (value_by f g)
@@ -448,6 +343,7 @@ value_by_sound d f g hf hg (c ∷ b) t r e =
     (λ n6. number_sound d (c ∷ b) t r n6.1)
     (chosen (c == 102) _ _ (t, r) n5.1)) (chosen (c == 116) _ _ (t, r) n4.1)) (chosen (c == 110) _ _ (t, r) n3.1)) (chosen (c == 123) _ _ (t, r) n2.1)) (chosen (c == 91) _ _ (t, r) n1.1)) (chosen (c == 34) _ _ (t, r) e)
 
+-- a value that is read is spelled
 pub value_sound : (d : ℕ) → Sound (Deep d) (value_at d)
 unfolding value_at
 value_sound zero = value_by_sound 0 nothing_at nothing_at (λ b t r e. absurd (none-some (t, r) e)) (λ b t r e. absurd (none-some (t, r) e))

@@ -5,6 +5,7 @@ use Rattle.std.proofs.lemmas.Bool.Decides.{nat_tests, eqb_tells}
 use Rattle.sj_text_core.specs.Grammar.{IsSpace, IsBlank, IsDigit}
 use Rattle.sj_tape.specs.Parse.{is_space, after_blank, is_digit, digits_len, separator_or}
 
+-- by a truth value
 pub by_cases : {P : Type 0} (b : Bool) → (b ≡ true → P) → (b ≡ false → P) → P
 by_cases true t f = t refl
 by_cases false t f = f refl
@@ -16,6 +17,7 @@ space_is c h = ⊎_elim (λ e. inl e.1) (λ n. ⊎_elim (λ e. inr (inl e.1)) (�
     last : (c : ℕ) → c ≢ 32 → c ≢ 9 → c ≢ 10 → is_space c ≡ true → c ≡ 13
     last c n m k h = grind (arith, nat_tests)
 
+-- whitespace is told
 pub is_space_of : (c : ℕ) → IsSpace c → is_space c ≡ true
 is_space_of c h = grind (arith, nat_tests)
 
@@ -24,6 +26,7 @@ pub record Blank (b : List ℕ) : Type 0 where
   pub is : b ≡ front ++ after_blank b
   pub blank : IsBlank front
 
+-- whitespace taken off the front
 pub blank_off : (b : List ℕ) → Blank b
 blank_off [] = record { front = []; is = refl; blank = tt }
 blank_off (c ∷ b) = by_cases (is_space c)
@@ -41,6 +44,7 @@ separator_is close c b m s h = grind (arith, nat_tests)
 pub digit_is : (c : ℕ) → is_digit c ≡ true → IsDigit c
 digit_is c h = grind (arith, nat_tests)
 
+-- as many digits as were counted
 pub digits_are : (b : List ℕ) → AllByRecursion IsDigit (take (digits_len b) b)
 digits_are [] = tt
 digits_are (c ∷ b) = by_cases (is_digit c)

@@ -7,7 +7,6 @@ mod node;
 pub mod object;
 mod preorder;
 mod reader;
-mod scalar;
 mod step;
 mod tape;
 #[cfg(test)]

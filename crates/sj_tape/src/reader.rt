@@ -19,7 +19,6 @@ ghost use Rattle.sj_tape.specs.Parse.{tree_at};
 ghost use Rattle.sj_tape.specs.Pieces.{Scans};
 
 pub use crate::reader::buffers::Buffers;
-
 use crate::reader::decode::decode;
 use crate::reader::nodes::lend;
 use crate::reader::piece::Piece;

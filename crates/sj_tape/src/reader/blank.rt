@@ -66,5 +66,8 @@ pub(crate) fn skip(bytes: &[u8], at: usize) -> usize
     if at < bytes.len() && bytes[at] > b' ' {
         return at;
     }
+    if at + 1 < bytes.len() && bytes[at] == b' ' && bytes[at + 1] > b' ' {
+        return at + 1;
+    }
     blank_end(bytes, at)
 }

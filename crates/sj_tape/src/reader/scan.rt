@@ -2,6 +2,7 @@
 
 ghost use Rattle.std.specs.Prelude.{◌≡◌, ◌+◌, ◌-◌, ◌<◌, ◌≤◌, ℕ, Some, None, length, drop, IfOk, IfErr, OnOk, OnErr, MatchResult, IsTrue, ◌↔◌, ◌≢◌, ◌==◌, ◌++◌, ◌∷◌, [], slice_index};
 ghost use Rattle.sj_tape.specs.Pieces.{IsBetween, InOrder, Reads, ReadsPiece, ReadsItems, ReadsMembers, ReadsMember, Scans};
+ghost use Rattle.std.specs.Vec.{vec_len, vec_capacity};
 ghost use Rattle.sj_tape.specs.Parse as parse;
 
 use crate::reader::blank::skip;
@@ -11,13 +12,14 @@ use crate::reader::string::text;
 use crate::reader::structure::{separator, word_end};
 use sj_text_core::ErrorKind;
 
-/// Puts a piece at the end where there is no room for it yet.
+/// Makes room for one piece more.
 #[inline(never)]
-fn push_grown(out: &mut Vec<Piece>, piece: Piece) -> Result<(), ErrorKind>
-    ensures items { OnOk result (out.new.items ≡ out.old.items ++ piece ∷ []) }
+fn grow(out: &mut Vec<Piece>) -> Result<(), ErrorKind>
+    ensures items { out.new.items ≡ out.old.items }
+    ensures room { OnOk result (vec_len out.new < vec_capacity out.new) }
     ensures err { IfErr result (λ e. e ≡ ErrorKind.OutOfMemory) }
 {
-    out.push(piece)?;
+    out.reserve(1)?;
     Ok(())
 }
 
@@ -27,11 +29,11 @@ fn push(out: &mut Vec<Piece>, piece: Piece) -> Result<(), ErrorKind>
     ensures items { OnOk result (out.new.items ≡ out.old.items ++ piece ∷ []) }
     ensures err { IfErr result (λ e. e ≡ ErrorKind.OutOfMemory) }
 {
-    if out.len() < out.capacity() {
-        out.push_reserved(piece);
-        return Ok(());
+    if out.len() >= out.capacity() {
+        grow(out)?;
     }
-    push_grown(out, piece)
+    out.push_reserved(piece);
+    Ok(())
 }
 
 /// A string or a word that stands at `at`, or a number, and the place after it.

@@ -1,7 +1,7 @@
 //! Tapes made of lists of nodes, and reads of their parts.
 
 use crate::{Node, Tape, Value};
-use sj_text_core::{StaticNode, ValueType};
+use sj_text_core::{StaticNode, TypedValue, ValueAsScalar, ValueType};
 use std::alloc::Global;
 use std::test::Fail;
 

@@ -31,9 +31,12 @@ returns-in_err-end-clause-err c =
 
 pub returns-clause-between : goal.returns-clause-between
 returns-clause-between c =
-    let b = c.args.bytes.now in
-    (omega arith, omega (arith, c.plain_end-end.ensures.value, c.in_ok-end.ensures.within.0), omega arith,
-    plain_after b c.args.at c.plain_end-end.result c.plain_end-end.ensures.value ∙ c.in_ok-end.ensures.ok)
+    let b = c.args.bytes.now in (
+      omega arith,
+      omega (arith, c.plain_end-end.ensures.value, c.in_ok-end.ensures.within.0),
+      omega arith,
+      plain_after b c.args.at c.plain_end-end.result c.plain_end-end.ensures.value ∙ c.in_ok-end.ensures.ok,
+    )
 
 pub returns-clause-ok : goal.returns-clause-ok
 returns-clause-ok c =
