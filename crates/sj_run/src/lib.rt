@@ -7,5 +7,7 @@ mod document;
 pub mod laws;
 mod lines;
 mod sessions;
+#[cfg(test)]
+mod tests;
 
 pub use sessions::{Form, SessionFault, Way, session};

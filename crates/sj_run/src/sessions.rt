@@ -1,6 +1,6 @@
 //! Sessions over bytes.
 
-ghost use Rattle.std.specs.Prelude.{◌≡◌, ◌≢◌, ◌↔◌, List, ℕ, ◌++◌, IfOk, OnOk, OnErr, IsErrOf, IsUtf8, Ok, Err, IsTrue};
+ghost use Rattle.std.specs.Prelude.{◌≡◌, ◌≢◌, ◌↔◌, List, ℕ, ◌++◌, IfOk, OnOk, OnErr, IsErrOf, IsUtf8, Ok, Err};
 ghost use Rattle.sj_text_core.specs.Grammar.{IsReadable};
 ghost use Rattle.sj_run.specs.Lines.{document as document_of};
 ghost use Rattle.sj_run.specs.Session.{IsServed, IsAnswered, ReadsDocument};
@@ -24,6 +24,21 @@ pub enum Form {
     Borrowed,
     /// A tape until the first write.
     Lazy,
+}
+
+impl Form {
+    ghost use Rattle.std.specs.Prelude.{◌↔◌, IsTrue};
+    ghost use Rattle.sj_run.specs.Session.{IsServed};
+
+    /// Whether a session serves the form in this way: today owned documents by text.
+    pub fn is_served(self, way: Way) -> bool
+        ensures { IsTrue result ↔ IsServed self way }
+    {
+        match (self, way) {
+            (Form::Owned, Way::ByText) => true,
+            _ => false,
+        }
+    }
 }
 
 /// How the keys of commands are looked up.
@@ -60,15 +75,6 @@ impl From<AllocError> for SessionFault {
 
     fn from(_error: AllocError) -> SessionFault {
         SessionFault::OutOfMemory
-    }
-}
-
-fn is_served(form: Form, way: Way) -> bool
-    ensures { IsTrue result ↔ IsServed form way }
-{
-    match (form, way) {
-        (Form::Owned, Way::ByText) => true,
-        _ => false,
     }
 }
 
@@ -119,7 +125,7 @@ pub fn session(
     ensures utf8 { IsServed form way → (IsErrOf result (SessionFault.Refused ErrorKind.InvalidUtf8) ↔ ¬ (IsUtf8 (document_of input.old))) }
     ensures too_long { result ≢ Err SessionFault.TooLong }
 {
-    if !is_served(form, way) {
+    if !form.is_served(way) {
         return Err(SessionFault::Usage);
     }
     let cut = cut_at_mark(input);
