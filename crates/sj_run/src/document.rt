@@ -9,6 +9,8 @@ ghost use Rattle.sj_run.specs.Document.{document_tree, members_tree, inserted_re
 
 mod build;
 mod print;
+#[cfg(test)]
+mod tests;
 
 pub(crate) use build::build;
 pub(crate) use print::write;
