@@ -14,7 +14,6 @@ mod tests;
 
 pub(crate) use build::build;
 pub(crate) use print::write;
-
 use sj_text_core::StaticNode;
 use std::alloc::AllocError;
 use std::mem;

@@ -1,8 +1,8 @@
 //! Commands at documents, and what they answer.
 #![tactic(auto)]
 
-pub mod laws;
 mod document;
+pub mod laws;
 mod lines;
 
 /// Which type holds a session's document.
