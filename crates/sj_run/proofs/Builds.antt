@@ -1,22 +1,14 @@
 -- Documents from tapes, item after item and member after member.
-use Rattle.std.proofs.Common.{◌≡◌, ℕ, ◌≤◌, ◌+◌, max, Bool, true, false, ◌||◌, List, [], ◌∷◌, ◌++◌, map, cond, if◌then◌else◌, Option, Some, None, is_some, Global, String, string_bytes, bytes_eq, refl, sym, ap, ◌∙◌, arith}
+use Rattle.std.proofs.Common.{◌≡◌, ℕ, ◌≤◌, ◌+◌, max, Bool, true, false, ◌||◌, List, [], ◌∷◌, ◌++◌, map, cond, if◌then◌else◌, Option, Some, is_some, Global, String, string_bytes, bytes_eq, refl, sym, ap, ◌∙◌, arith}
 use Rattle.std.specs.List.{list_any, position, position_from}
 use Rattle.std.proofs.lemmas.Iterator.Adapters.{position_from-zero}
-use Rattle.sj_text_core.specs.Tree.{Tree, null, boolean, int, text, list, obj, Items, no_items, item, Members, no_members, member, items_from, members_from, depth, items_depth, members_depth}
+use Rattle.std.proofs.lemmas.List.{append-nil}
+use Rattle.sj_text_core.specs.Tree.{Tree, null, boolean, int, text, list, obj, Items, no_items, item, Members, no_members, member, items_from, members_from, depth, members_depth}
 use Rattle.sj_text_core.specs.Keep.{is_seen, keep, keep_items, keep_members}
-use Rattle.sj_text_core.specs.Reads.{as_text, as_items, as_members}
+use Rattle.sj_text_core.specs.Reads.{as_members}
 use Rattle.sj_tape.specs.Parts.{listed}
-use Rattle.sj_tape.specs.Value.{as_scalar}
 use Rattle.sj_run.specs.Document.{document_tree, items_tree, members_tree}
 use Rattle.sj_run.specs.declared.document.Document.{Document}
-
-pub list_is : (t : Tree) (is : Items) → Some is ≡ as_items t → t ≡ list is
-list_is null is e = cc
-list_is (boolean b) is e = cc
-list_is (int n c) is e = cc
-list_is (text s) is e = cc
-list_is (list js) is e = ap list (cc)
-list_is (obj ms) is e = cc
 
 pub obj_is : (t : Tree) (ms : Members) → Some ms ≡ as_members t → t ≡ obj ms
 obj_is null ms e = cc
@@ -26,32 +18,6 @@ obj_is (text s) ms e = cc
 obj_is (list is) ms e = cc
 obj_is (obj ns) ms e = ap obj (cc)
 
-pub text_is : (t : Tree) (s : List ℕ) → Some s ≡ as_text t → t ≡ text s
-text_is null s e = cc
-text_is (boolean b) s e = cc
-text_is (int n c) s e = cc
-text_is (text r) s e = ap text (cc)
-text_is (list is) s e = cc
-text_is (obj ms) s e = cc
-
--- a scalar is kept as it is
-pub scalar_kept : (t u : Tree) → Some u ≡ as_scalar t → u ≡ keep t
-scalar_kept null u e = cc
-scalar_kept (boolean b) u e = cc
-scalar_kept (int n c) u e = cc
-scalar_kept (text s) u e = cc
-scalar_kept (list is) u e = cc
-scalar_kept (obj ms) u e = cc
-
--- a tree is a scalar, a text, a list or an object
-pub is_some_kind : (t : Tree) → None ≡ as_scalar t → None ≡ as_text t → None ≡ as_items t → None ≡ as_members t → ⊥
-is_some_kind null a b c d = cc
-is_some_kind (boolean x) a b c d = cc
-is_some_kind (int n x) a b c d = cc
-is_some_kind (text s) a b c d = cc
-is_some_kind (list is) a b c d = cc
-is_some_kind (obj ms) a b c d = cc
-
 pub items_from-listed : (is : Items) → items_from (listed is) ≡ is
 items_from-listed no_items = refl
 items_from-listed (item t is) = ap (item t) (items_from-listed is)
@@ -60,36 +26,10 @@ pub keep-listed : (is : Items) → items_from (map keep (listed is)) ≡ keep_it
 keep-listed no_items = refl
 keep-listed (item t is) = ap (item (keep t)) (keep-listed is)
 
-map-last : (ds : List Document) (d : Document) (ts : List Tree) → map document_tree (ds ++ d ∷ []) ++ ts ≡ map document_tree ds ++ (document_tree d ∷ ts)
-map-last [] d ts = refl
-map-last (e ∷ ds) d ts = ap (λ l. document_tree e ∷ l) (map-last ds d ts)
-
--- one more item
-pub more_items : (ds built : List Document) (d : Document) (t : Tree) (ahead rest all : List Tree)
-    → map document_tree ds ++ map keep ahead ≡ all → ahead ≡ t ∷ rest → document_tree d ≡ keep t → built ≡ ds ++ d ∷ [] → map document_tree built ++ map keep rest ≡ all
-more_items ds built d t ahead rest all e f g h =
-    ap (λ l. map document_tree l ++ map keep rest) h ∙ map-last ds d (map keep rest) ∙ ap (λ u. map document_tree ds ++ (u ∷ map keep rest)) g
-    ∙ ap (λ l. map document_tree ds ++ map keep l) (sym f) ∙ e
-
-append-none : (ts : List Tree) → ts ++ [] ≡ ts
-append-none [] = refl
-append-none (t ∷ ts) = ap (λ l. t ∷ l) (append-none ts)
-
 -- no item is left
 pub all_items : (ds : List Document) (ahead : List Tree) (is : Items) → map document_tree ds ++ map keep ahead ≡ map keep (listed is) → ahead ≡ [] → items_tree ds ≡ keep_items is
 all_items ds ahead is e f =
-    ap (λ l. items_from l) (sym (append-none (map document_tree ds)) ∙ ap (λ l. map document_tree ds ++ map keep l) (sym f) ∙ e) ∙ keep-listed is
-
--- the first item is no deeper than all
-pub item_depth : (ahead rest : List Tree) (t : Tree) (n : ℕ) → items_depth (items_from ahead) ≤ n → ahead ≡ t ∷ rest → depth t ≤ n
-item_depth ahead rest t n h e = let k : items_depth (items_from ahead) ≡ max (depth t) (items_depth (items_from rest)) = ap (λ l. items_depth (items_from l)) e in omega (arith, h, k)
-
--- nor are the others
-pub rest_depth : (ahead rest : List Tree) (t : Tree) (n : ℕ) → items_depth (items_from ahead) ≤ n → ahead ≡ t ∷ rest → items_depth (items_from rest) ≤ n
-rest_depth ahead rest t n h e = let k : items_depth (items_from ahead) ≡ max (depth t) (items_depth (items_from rest)) = ap (λ l. items_depth (items_from l)) e in omega (arith, h, k)
-
-pub value_depth : (ahead rest : List (List ℕ × Tree)) (k : List ℕ) (t : Tree) (n : ℕ) → members_depth (members_from ahead) ≤ n → ahead ≡ (k, t) ∷ rest → depth t ≤ n
-value_depth ahead rest k t n h e = let d : members_depth (members_from ahead) ≡ max (depth t) (members_depth (members_from rest)) = ap (λ l. members_depth (members_from l)) e in omega (arith, h, d)
+    ap (λ l. items_from l) (sym (append-nil (map document_tree ds)) ∙ ap (λ l. map document_tree ds ++ map keep l) (sym f) ∙ e) ∙ keep-listed is
 
 pub others_depth : (ahead rest : List (List ℕ × Tree)) (k : List ℕ) (t : Tree) (n : ℕ) → members_depth (members_from ahead) ≤ n → ahead ≡ (k, t) ∷ rest → members_depth (members_from rest) ≤ n
 others_depth ahead rest k t n h e = let d : members_depth (members_from ahead) ≡ max (depth t) (members_depth (members_from rest)) = ap (λ l. members_depth (members_from l)) e in omega (arith, h, d)

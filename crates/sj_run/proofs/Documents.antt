@@ -1,11 +1,8 @@
 -- A document, level by level, and the tree that it means.
 use Rattle.std.proofs.Common.{◌≡◌, List, [], ◌∷◌, map, Vec, Global, String, string_bytes, refl, ap, ◌∙◌, rules}
-use Rattle.sj_text_core.specs.Tree.{Tree, list, obj, member, members_from}
-use Rattle.sj_run.specs.Document.{document_tree, items_tree, members_tree}
-use Rattle.sj_run.specs.declared.document.Document.{Document, Array, Object, the_lemmas}
-
-pub document_tree-Array : (v : Vec Document Global) → document_tree (Array v) ≡ list (items_tree v.items)
-document_tree-Array v = search (rules, the_lemmas)
+use Rattle.sj_text_core.specs.Tree.{Tree, obj, member, members_from}
+use Rattle.sj_run.specs.Document.{document_tree, members_tree}
+use Rattle.sj_run.specs.declared.document.Document.{Document, Object, the_lemmas}
 
 -- members whose values are seen as trees first, and their keys then
 seen_twice : (ps : List (String Global × Document))

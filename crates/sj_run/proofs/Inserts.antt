@@ -31,7 +31,7 @@ first_by : (seen : List (List ℕ)) (k : List ℕ) (t : Tree) (ms : Members) (b 
     → (if b then keep_members seen ms else member k (keep t) (keep_members (k ∷ seen) ms)) ≡ member k t ms → First seen k t ms
 first_by seen k t ms true e h =
     absurd (let shorter = keep_shorter seen ms in let longer : members_len (keep_members seen ms) ≡ suc (members_len ms) = ap members_len h in omega (arith, shorter, longer))
-first_by seen k t ms false e h = record { unseen = e; value = cc; rest = cc; }
+first_by seen k t ms false e h = record { unseen = e; value = cc; rest = cc }
 
 put_by : (seen : List (List ℕ)) (k : List ℕ) (v : Tree) (l : List ℕ) (u : Tree) (ms : Members) (b : Bool) → keep v ≡ v → First seen l u ms
     → (b ≡ false → keep_members (l ∷ seen) (put k v ms) ≡ put k v ms)

@@ -41,7 +41,7 @@ pub record Behind (k : List ℕ) (ps : List Pair) (p : Pair) : Type 0 where
   pub written : string_bytes p.0 ≡ k → members_tree (ps ++ p ∷ []) ≡ put k (document_tree p.1) (members_tree ps)
 
 behind_from : (k : List ℕ) (ps : List Pair) (p : Pair) (n : ℕ) → position_from (has_key k) n ps ≡ None → Behind k ps p
-behind_from k [] p n e = record { absent = refl; written = λ h x. member (h x) (document_tree p.1) (members_tree []); }
+behind_from k [] p n e = record { absent = refl; written = λ h x. member (h x) (document_tree p.1) (members_tree []) }
 behind_from k (q ∷ ps) p n e = by_test (has_key k q) refl e (behind_from k ps p (n + 1))
   where
     by_test : (b : Bool) → has_key k q ≡ b → cond b (Some n) (position_from (has_key k) (n + 1) ps) ≡ None → (position_from (has_key k) (n + 1) ps ≡ None → Behind k ps p)

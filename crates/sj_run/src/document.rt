@@ -9,10 +9,11 @@ ghost use Rattle.sj_run.specs.Document.{document_tree, members_tree, inserted_re
 
 mod build;
 mod print;
+#[cfg(test)]
+mod tests;
 
 pub(crate) use build::build;
 pub(crate) use print::write;
-
 use sj_text_core::StaticNode;
 use std::alloc::AllocError;
 use std::mem;

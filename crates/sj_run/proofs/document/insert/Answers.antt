@@ -49,6 +49,6 @@ pub returns-in_err-old-in-Object-clause-refused : goal.returns-in_err-old-in-Obj
 returns-in_err-old-in-Object-clause-refused c =
     let e : _ ≡ Object c.put.new.members = search (rules, the_lemmas) in
     on_err c.from_residual.result (
-      ap document_tree e ∙ document_tree-Object c.put.new.members
-      ∙ ap obj (c.in_err-old-in-Object.ensures.refused ∙ ap (λ m. members_tree m.items) c.in-Object.members-is)
-      ∙ sym (ap document_tree c.in-Object.is ∙ document_tree-Object c.in-Object.members))
+    ap document_tree e ∙ document_tree-Object c.put.new.members
+    ∙ ap obj (c.in_err-old-in-Object.ensures.refused ∙ ap (λ m. members_tree m.items) c.in-Object.members-is)
+    ∙ sym (ap document_tree c.in-Object.is ∙ document_tree-Object c.in-Object.members))

@@ -7,7 +7,7 @@ use Rattle.sj_run.proofs.document.put.Goals as goal
 
 at_key : (c : goal.After-drop-key) → At (string_bytes c.args.key) c.args.members.now.items c.in-Some.at c.index_mut.result.now c.args.value
 at_key c = at_place (string_bytes c.args.key) c.args.members.now.items c.in-Some.at c.index_mut.result.now c.args.value (
-  sym c.in-Some.is ∙ c.position_of.ensures ∙ (λ x. position (λ (p : Pair). bytes_eq (c.as_str.ensures.value x) (string_bytes p.0)) (c.deref.ensures.value x)))
+    sym c.in-Some.is ∙ c.position_of.ensures ∙ (λ x. position (λ (p : Pair). bytes_eq (c.as_str.ensures.value x) (string_bytes p.0)) (c.deref.ensures.value x)))
 
 pub returns-in-Some-clause-answer : goal.returns-in-Some-clause-answer
 returns-in-Some-clause-answer c =
@@ -19,7 +19,7 @@ returns-in-Some-clause-after c =
 
 behind_all : (c : goal.In_ok-push-in-None) → Behind (string_bytes c.args.key) c.args.members.now.items (c.args.key, c.args.value)
 behind_all c = behind (string_bytes c.args.key) c.args.members.now.items (c.args.key, c.args.value) (
-  sym c.in-None.is ∙ c.position_of.ensures ∙ (λ x. position (λ (p : Pair). bytes_eq (c.as_str.ensures.value x) (string_bytes p.0)) (c.deref.ensures.value x)))
+    sym c.in-None.is ∙ c.position_of.ensures ∙ (λ x. position (λ (p : Pair). bytes_eq (c.as_str.ensures.value x) (string_bytes p.0)) (c.deref.ensures.value x)))
 
 pub returns-in_ok-push-in-None-clause-answer : goal.returns-in_ok-push-in-None-clause-answer
 returns-in_ok-push-in-None-clause-answer c = (behind_all c).absent
