@@ -5,7 +5,7 @@ use Rattle.std.specs.Char.{digit_value, encode_utf8, IsScalar}
 use Rattle.std.specs.Str.{encode_utf8_all, all_scalars}
 use Rattle.std.specs.Char.Utf16.{surrogate_pair_char}
 use Rattle.std.specs.Int.{IsInRange}
-use lib.Utf8.{scalar_cases, low_scalar}
+use lib.Utf8.{scalar_cases}
 use Rattle.std.proofs.lemmas.Bool.Decides.{nat_tests, eqb_tells}
 use Rattle.std.proofs.lemmas.Option.{none-some, option_and_then_some, some_pair_parts}
 use Rattle.std.proofs.lemmas.List.{take-append-drop, drop_at, length-drop}
@@ -14,7 +14,6 @@ use Rattle.std.proofs.lemmas.Str.{encode_ascii, IsUtf8-drop, IsCharBoundary-afte
 use Rattle.sj_text_core.specs.Grammar.{IsHexDigit, IsRaw, IsShort, IsCode, IsPair, IsItem, AreItems, IsString, short_escape}
 use Rattle.sj_tape.specs.Parse.{is_hex, unit_at, is_high, is_low, pair_with, pair_at, code_with, code_at, escape_at, with_front, text_from, text_at}
 use Rattle.sj_tape.proofs.Escapes.{quote, backslash, control, plain, text_skip, text_quote, with_escape, text_backslash, text_control, with_front_some, text_run, Byte, byte_of, text_ends, encode_plain, escape_sound, false-true}
-use Rattle.sj_text_core.proofs.Characters.{short_scalar, string_utf8}
 
 -- what is spelled is read
 pub is_hex_of : (d : ℕ) → digit_value d < 16 → is_hex d ≡ true
