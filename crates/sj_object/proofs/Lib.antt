@@ -1,3 +1,5 @@
 pub mod Repeats
 pub mod Position
 pub mod Lent
+pub mod Shown
+pub mod Kept

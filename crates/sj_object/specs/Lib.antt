@@ -2,6 +2,7 @@ pub mod Texts
 pub mod Keys
 pub mod Entries
 pub mod HashMap
+pub mod Members
 pub mod Edits
 pub mod Steps
 pub mod Index
