@@ -3,3 +3,4 @@ pub mod Position
 pub mod Lent
 pub mod Shown
 pub mod Kept
+pub mod Walks
