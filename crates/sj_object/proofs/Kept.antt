@@ -1,7 +1,7 @@
 -- The objects of maps are kept: no two members have one text.
-use Rattle.std.proofs.Common.{◌≡◌, ℕ, Bool, true, false, List, [], ◌∷◌, refl, ap, ◌∙◌, bytes_eq}
+use Rattle.std.proofs.Common.{◌≡◌, ℕ, true, false, List, [], ◌∷◌, refl, ap, ◌∙◌, bytes_eq}
 use Rattle.std.specs.Bool.{if◌then◌else◌}
-use Rattle.sj_text_core.specs.Tree.{Tree, list, obj, Items, no_items, item, Members, no_members, member}
+use Rattle.sj_text_core.specs.Tree.{Tree, list, obj, Items, no_items, item, member}
 use Rattle.sj_text_core.specs.Keep.{is_seen, keep, keep_items, keep_members, IsKept}
 use Rattle.sj_object.specs.Texts.{no_repeats}
 use Rattle.sj_object.specs.Entries.{Entry, texts}

@@ -1,5 +1,5 @@
 -- Where a text stands among the keys, and what the calls of a map answer and leave there.
-use Rattle.std.proofs.Common.{◌≡◌, ℕ, zero, suc, ◌+◌, ◌<◌, Bool, true, false, ◌||◌, List, [], ◌∷◌, ◌++◌, length, get_or, slice_set, Option, Some, None, refl, sym, ap, ◌∙◌, arith, bytes_eq}
+use Rattle.std.proofs.Common.{◌≡◌, ℕ, suc, ◌+◌, ◌<◌, Bool, true, false, ◌||◌, List, [], ◌∷◌, ◌++◌, length, get_or, slice_set, Option, Some, None, refl, sym, ap, ◌∙◌, arith, bytes_eq}
 use Rattle.std.specs.List.{position_from, remove}
 use Rattle.std.specs.Bool.{if◌then◌else◌}
 use Rattle.sj_text_core.specs.Keep.{is_seen}
@@ -42,7 +42,7 @@ module _ {K V : Type 0} (t : K → List ℕ) (k : List ℕ) where
       lookup_at = λ x q. (λ i. if e i then Some p.1 else lookup k (entries_of t ps)) ∙ (λ i. Some (sym q i).1);
       set_at = λ x w q. (λ i. (((q i).0, t (q i).0), w) ∷ entries_of t ps) ∙ sym (λ i. after_set (e i) w);
       put_at = λ x q w f h. (λ i. (((f i).0, t (f i).0), w) ∷ entries_of t ps)
-        ∙ sym ((λ i. after_put (bytes_eq (h i) (t p.0)) q w) ∙ (λ i. after_put (e i) q w));
+          ∙ sym ((λ i. after_put (bytes_eq (h i) (t p.0)) q w) ∙ (λ i. after_put (e i) q w));
       cut_at = sym (λ i. after_cut (e i));
     }
 
@@ -52,7 +52,7 @@ module _ {K V : Type 0} (t : K → List ℕ) (k : List ℕ) where
       lookup_at = λ x q. (λ i. if e i then Some p.1 else lookup k (entries_of t ps)) ∙ f.lookup_at x q;
       set_at = λ x w q. ap (λ l. ((p.0, t p.0), p.1) ∷ l) (f.set_at x w q) ∙ sym (λ i. after_set (e i) w);
       put_at = λ x q w r h. ap (λ l. ((p.0, t p.0), p.1) ∷ l) (f.put_at x q w r h)
-        ∙ sym ((λ i. after_put (bytes_eq (h i) (t p.0)) q w) ∙ (λ i. after_put (e i) q w));
+          ∙ sym ((λ i. after_put (bytes_eq (h i) (t p.0)) q w) ∙ (λ i. after_put (e i) q w));
       cut_at = ap (λ l. ((p.0, t p.0), p.1) ∷ l) f.cut_at ∙ sym (λ i. after_cut (e i));
     }
 
@@ -60,7 +60,7 @@ module _ {K V : Type 0} (t : K → List ℕ) (k : List ℕ) where
     passed e a = record {
       lookup_none = (λ i. if e i then Some p.1 else lookup k (entries_of t ps)) ∙ a.lookup_none;
       put_last = λ q w h. ap (λ l. ((p.0, t p.0), p.1) ∷ l) (a.put_last q w h)
-        ∙ sym ((λ i. after_put (bytes_eq (h i) (t p.0)) q w) ∙ (λ i. after_put (e i) q w));
+          ∙ sym ((λ i. after_put (bytes_eq (h i) (t p.0)) q w) ∙ (λ i. after_put (e i) q w));
       cut_none = (λ i. after_cut (e i)) ∙ ap (λ l. ((p.0, t p.0), p.1) ∷ l) a.cut_none;
       unseen = (λ i. e i || is_seen k (texts (entries_of t ps))) ∙ a.unseen;
     }

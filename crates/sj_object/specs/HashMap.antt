@@ -21,8 +21,12 @@ module _ {K V S : Type 0} where
 
   -- contents that agree in what is data are the same
   pub same_contents : (m n : Contents K V S) → parts m ≡ parts n → m ≡ n
-  same_contents m n e = λ i. record { entries = (e i).0; hasher = (e i).1.0; buckets = (e i).1.1;
-    distinct = is_prop→PathP (λ j. no_repeats (texts (e j).0) ≡ true) (λ j. Coded-set coded_bool _ _) m.distinct n.distinct i }
+  same_contents m n e = λ i. record {
+    entries = (e i).0;
+    hasher = (e i).1.0;
+    buckets = (e i).1.1;
+    distinct = is_prop→PathP (λ j. no_repeats (texts (e j).0) ≡ true) (λ j. Coded-set coded_bool _ _) m.distinct n.distinct i;
+  }
 
   abbrev pub contents_code : Coded K → Coded V → Coded S → Coded (Contents K V S)
   contents_code k v s = coded_via (coded× (coded_list (coded× (coded× k (coded_list coded_ℕ)) v)) (coded× s (coded_option coded_ℕ))) parts same_contents

@@ -1,9 +1,8 @@
 -- `HashMap` as a type that may hold the type that holds it, by its values.
-use Rattle.std.specs.Prelude.{◌≡◌, ℕ, Bool, true, List, [], ◌∷◌, map, Option, None}
+use Rattle.std.specs.Prelude.{◌≡◌, ℕ, true, List, [], ◌∷◌, map, None}
 use mathlib.Core.Path.{PathP, refl, sym, ap, ◌∙◌, subst}
 use mathlib.Core.HLevel.{is_prop→PathP}
-use mathlib.Core.Former.{Former, Count, Row, over, one_more, this, const, pair, list, list_count, list_get, children}
-use native.Mathlib.Omega.{arith}
+use mathlib.Core.Former.{Former, Count, Row, over, one_more, this, const, pair, list, children}
 use base.Stored.{gcons, coded×, coded_list, coded_ℕ, coded_bool, Coded-set, code_map}
 use denote.RattleType.{RattleType}
 use denote.Struct.Tuple.{tuple_type}

@@ -1,4 +1,4 @@
-use Rattle.std.proofs.Common.{◌≡◌, ap, ◌∙◌}
+use Rattle.std.proofs.Common.{ap, ◌∙◌}
 use Rattle.sj_text_core.specs.Keep.{is_seen}
 use Rattle.sj_object.specs.Entries.{texts, entries_of}
 use Rattle.sj_object.specs.HashMap.{same_contents}
@@ -16,6 +16,6 @@ pub returns-clause-refused : goal.returns-clause-refused
 returns-clause-refused g c =
     let m = c.self.inside in
     elim c.match-push.branch [
-      in-Ok w ↦ rw w.result-is tt
+      | in-Ok w ↦ rw w.result-is tt
       | in-Err w ↦ rw w.result-is (same_contents _ _ (λ i. (entries_of g.K.KeyText.text_of (w.in-Err.ensures.items i), (m.hasher, buckets_of m.index))) ∙ c.self.view_is)
     ]

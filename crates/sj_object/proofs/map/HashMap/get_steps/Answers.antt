@@ -1,4 +1,4 @@
-use Rattle.std.proofs.Common.{◌≡◌, sym, ap, ◌∙◌, arith}
+use Rattle.std.proofs.Common.{sym, ap, ◌∙◌, arith}
 use Rattle.sj_object.specs.Edits.{lookup}
 use Rattle.sj_object.proofs.Position.{found, absent}
 use Rattle.sj_object.proofs.map.HashMap.get_steps.Goals as goal

@@ -1,4 +1,4 @@
-use Rattle.std.proofs.Common.{◌≡◌, ◌++◌, ◌∷◌, [], None, Some, slice_set, sym, ap, ◌∙◌, refl, arith, subst, true≢false, IsSome}
+use Rattle.std.proofs.Common.{◌++◌, ◌∷◌, [], Some, slice_set, sym, ap, ◌∙◌, refl, arith, subst, true≢false, IsSome}
 use Rattle.sj_text_core.specs.Keep.{is_seen}
 use Rattle.sj_object.specs.Texts.{no_repeats}
 use Rattle.sj_object.specs.Entries.{texts, entries_of}
