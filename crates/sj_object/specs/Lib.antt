@@ -7,4 +7,5 @@ pub mod Edits
 pub mod Steps
 pub mod Index
 pub mod Lends
+pub mod Builder
 pub mod formers

@@ -61,7 +61,7 @@ impl<K: KeyText, V, S: KeyHasher> HashMap<K, V, S> {
     }
 
     /// Puts a member last, whose key is not there.
-    fn append(&mut self, key: K, value: V) -> Result<(), Refused<AllocError, (K, V)>>
+    pub(crate) fn append(&mut self, key: K, value: V) -> Result<(), Refused<AllocError, (K, V)>>
         requires { is_seen (K.text_of key) (texts self.old.entries) ≡ false }
         ensures entries { OnOk result (self.new.entries ≡ self.old.entries ++ ((key, K.text_of key), value) ∷ []) }
         ensures hasher { self.new.hasher ≡ self.old.hasher }
