@@ -1,0 +1,73 @@
+-- Lists of texts stay without repeats.
+use Rattle.std.proofs.Common.{◌≡◌, ℕ, Bool, true, false, not, ◌&&◌, ◌||◌, List, [], ◌∷◌, ◌++◌, refl, sym, ap, ◌∙◌, true≢false, bytes_eq}
+use Rattle.std.specs.Bool.{if◌then◌else◌}
+use Rattle.std.proofs.lemmas.Slice.Eq.{bytes_eq-Decides}
+use Rattle.sj_text_core.specs.Keep.{is_seen}
+use Rattle.sj_object.specs.Texts.{no_repeats}
+use Rattle.sj_object.specs.Entries.{Entry, texts, entries_of}
+use Rattle.sj_object.specs.Edits.{cut}
+
+pub or_false : (a b : Bool) → a || b ≡ false → (a ≡ false) × (b ≡ false)
+or_false false b e = (refl, e)
+or_false true b e = absurd (true≢false e)
+
+pub or_of_false : (a b : Bool) → a ≡ false → b ≡ false → a || b ≡ false
+or_of_false a b p q = λ i. p i || q i
+
+pub not_and : (a b : Bool) → not a && b ≡ true → (a ≡ false) × (b ≡ true)
+not_and false b e = (refl, e)
+not_and true b e = absurd (true≢false (sym e))
+
+pub not_and_of : (a b : Bool) → a ≡ false → b ≡ true → not a && b ≡ true
+not_and_of a b p q = λ i. not (p i) && q i
+
+pub bytes_eq-sym : (a b : List ℕ) → bytes_eq a b ≡ false → bytes_eq b a ≡ false
+bytes_eq-sym a b e = by_test (bytes_eq b a) refl where
+  by_test : (r : Bool) → bytes_eq b a ≡ r → r ≡ false
+  by_test false q = refl
+  by_test true q = absurd (true≢false (sym ((bytes_eq-Decides a b).1 (sym ((bytes_eq-Decides b a).0 q))) ∙ e))
+
+is_seen-last : (x k : List ℕ) (ts : List (List ℕ)) → is_seen x ts ≡ false → bytes_eq x k ≡ false → is_seen x (ts ++ k ∷ []) ≡ false
+is_seen-last x k [] h e = or_of_false _ _ e refl
+is_seen-last x k (t ∷ ts) h e = let r = or_false (bytes_eq x t) _ h in or_of_false _ _ r.0 (is_seen-last x k ts r.1 e)
+
+pub no_repeats-last : (k : List ℕ) (ts : List (List ℕ)) → no_repeats ts ≡ true → is_seen k ts ≡ false → no_repeats (ts ++ k ∷ []) ≡ true
+no_repeats-last k [] d h = refl
+no_repeats-last k (t ∷ ts) d h =
+    let n = not_and (is_seen t ts) _ d in
+    let r = or_false (bytes_eq k t) _ h in
+    not_and_of _ _ (is_seen-last t k ts n.0 (bytes_eq-sym k t r.0)) (no_repeats-last k ts n.1 r.1)
+
+pub texts-append : {K V : Type 0} (es fs : List (Entry K V)) → texts (es ++ fs) ≡ texts es ++ texts fs
+texts-append [] fs = refl
+texts-append (e ∷ es) fs = ap (λ l. e.0.1 ∷ l) (texts-append es fs)
+
+pub entries_of-append : {K V : Type 0} (t : K → List ℕ) (ps qs : List (K × V)) → entries_of t (ps ++ qs) ≡ entries_of t ps ++ entries_of t qs
+entries_of-append t [] qs = refl
+entries_of-append t (p ∷ ps) qs = ap (λ l. ((p.0, t p.0), p.1) ∷ l) (entries_of-append t ps qs)
+
+-- where a push was done, or was refused
+pub no_repeats-push : {K V : Type 0} (t : K → List ℕ) (ps qs : List (K × V)) (b : Bool) (k : K) (v : V)
+    → no_repeats (texts (entries_of t ps)) ≡ true → is_seen (t k) (texts (entries_of t ps)) ≡ false → qs ≡ (if b then ps ++ (k, v) ∷ [] else ps)
+    → no_repeats (texts (entries_of t qs)) ≡ true
+no_repeats-push t ps qs true k v d h e = ap (λ l. no_repeats (texts (entries_of t l))) e
+    ∙ ap no_repeats (ap texts (entries_of-append t ps ((k, v) ∷ [])) ∙ texts-append (entries_of t ps) _)
+    ∙ no_repeats-last (t k) (texts (entries_of t ps)) d h
+no_repeats-push t ps qs false k v d h e = ap (λ l. no_repeats (texts (entries_of t l))) e ∙ d
+
+module _ {K V : Type 0} (k : List ℕ) where
+  is_seen-cut_by : (b : Bool) (x : List ℕ) (e : Entry K V) (es : List (Entry K V)) → is_seen x (texts (e ∷ es)) ≡ false → is_seen x (texts (cut k es)) ≡ false → is_seen x (texts (if b then es else e ∷ cut k es)) ≡ false
+  is_seen-cut_by true x e es h m = (or_false (bytes_eq x e.0.1) _ h).1
+  is_seen-cut_by false x e es h m = or_of_false _ _ (or_false (bytes_eq x e.0.1) _ h).0 m
+
+  is_seen-cut : (x : List ℕ) (es : List (Entry K V)) → is_seen x (texts es) ≡ false → is_seen x (texts (cut k es)) ≡ false
+  is_seen-cut x [] h = h
+  is_seen-cut x (e ∷ es) h = is_seen-cut_by (bytes_eq k e.0.1) x e es h (is_seen-cut x es (or_false (bytes_eq x e.0.1) _ h).1)
+
+  no_repeats-cut_by : (b : Bool) (e : Entry K V) (es : List (Entry K V)) → no_repeats (texts (e ∷ es)) ≡ true → no_repeats (texts (cut k es)) ≡ true → no_repeats (texts (if b then es else e ∷ cut k es)) ≡ true
+  no_repeats-cut_by true e es d m = (not_and (is_seen e.0.1 (texts es)) _ d).1
+  no_repeats-cut_by false e es d m = not_and_of _ _ (is_seen-cut e.0.1 es (not_and (is_seen e.0.1 (texts es)) _ d).0) m
+
+  pub no_repeats-cut : (es : List (Entry K V)) → no_repeats (texts es) ≡ true → no_repeats (texts (cut k es)) ≡ true
+  no_repeats-cut [] d = d
+  no_repeats-cut (e ∷ es) d = no_repeats-cut_by (bytes_eq k e.0.1) e es d (no_repeats-cut es (not_and (is_seen e.0.1 (texts es)) _ d).1)

@@ -1,0 +1,41 @@
+use Rattle.std.proofs.Common.{◌≡◌, None, sym, ap, ◌∙◌, refl, arith, rules}
+use Rattle.sj_object.specs.Texts.{no_repeats}
+use Rattle.sj_object.specs.Entries.{texts, entries_of}
+use Rattle.sj_object.specs.Edits.{lookup, cut}
+use Rattle.sj_object.proofs.Repeats.{no_repeats-cut}
+use Rattle.sj_object.proofs.Position.{found, absent}
+use Rattle.sj_object.proofs.map.HashMap.remove.Goals as goal
+
+pub remove-value-requires : goal.remove-value-requires
+remove-value-requires g c =
+    let f = found g.K.KeyText.text_of c.args.key.now c.in_ok-i.was c.position_of.ensures refl c.deref.ensures.value in
+    omega (arith, f.within, c.self.inside.pairs.ok.0)
+
+pub invariant_of-self-inside : goal.invariant_of-self-inside
+invariant_of-self-inside g c =
+    let t = g.K.KeyText.text_of in
+    let k = c.args.key.now in
+    let f = found t k c.in_ok-i.was c.position_of.ensures refl c.deref.ensures.value in
+    (ap (λ es. no_repeats (texts es)) (ap (entries_of t) c.remove-value.ensures.items ∙ f.cut_at) ∙ no_repeats-cut k (entries_of t c.self.inside.pairs.items) c.self.inside.distinct, tt)
+
+pub returns-clause-answer : goal.returns-clause-answer
+returns-clause-answer g c =
+    let f = found g.K.KeyText.text_of c.args.key.now c.in_ok-i.was c.position_of.ensures refl c.deref.ensures.value in
+    sym (f.lookup_at _ c.remove-value.ensures.value) ∙ ap (λ m. lookup c.args.key.now m.entries) c.self.view_is
+
+pub returns-clause-entries : goal.returns-clause-entries
+returns-clause-entries g c =
+    let t = g.K.KeyText.text_of in
+    let f = found t c.args.key.now c.in_ok-i.was c.position_of.ensures refl c.deref.ensures.value in
+    ap (entries_of t) c.remove-value.ensures.items ∙ f.cut_at ∙ ap (λ m. cut c.args.key.now m.entries) c.self.view_is
+
+pub returns-in_err-i-clause-answer : goal.returns-in_err-i-clause-answer
+returns-in_err-i-clause-answer g c =
+    let a = absent g.K.KeyText.text_of c.args.key.now c.in_err-i.was c.position_of.ensures refl c.deref.ensures.value in
+    let none : c.from_residual.result ≡ None = search rules in
+    none ∙ sym a.lookup_none ∙ ap (λ m. lookup c.args.key.now m.entries) c.self.view_is
+
+pub returns-in_err-i-clause-entries : goal.returns-in_err-i-clause-entries
+returns-in_err-i-clause-entries g c =
+    let a = absent g.K.KeyText.text_of c.args.key.now c.in_err-i.was c.position_of.ensures refl c.deref.ensures.value in
+    ap (λ m. m.entries) (sym c.self.view_is) ∙ sym a.cut_none ∙ ap (λ m. cut c.args.key.now m.entries) c.self.view_is

@@ -1,0 +1,11 @@
+pub mod Texts
+pub mod Keys
+pub mod Entries
+pub mod HashMap
+pub mod Members
+pub mod Edits
+pub mod Steps
+pub mod Index
+pub mod Lends
+pub mod Builder
+pub mod formers

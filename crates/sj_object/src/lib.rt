@@ -1,0 +1,17 @@
+//! Ordered maps from texts, and the keys and hashers that they take.
+#![tactic(auto)]
+
+mod builder;
+mod hasher;
+mod key;
+mod map;
+mod steps;
+
+pub use builder::{Builder, Made, MapOf};
+pub use hasher::{KeyHasher, NotSoRandomState, ObjectHasher};
+pub use key::{KeyMade, KeyOf, KeyText};
+pub use map::{HashMap, IntoIter, Iter, Keys, Values};
+pub use steps::Steps;
+
+#[cfg(test)]
+mod tests;

@@ -1,0 +1,122 @@
+//! `HashMap`, and the types that its calls answer.
+
+ghost use Rattle.std.specs.Prelude.{◌≡◌, ◌↔◌, [], length, true, None, IsTrue, IfOk};
+ghost use Rattle.sj_object.specs.Texts.{no_repeats};
+ghost use Rattle.sj_object.specs.Entries.{texts, keys, values, entries_of};
+
+mod debug;
+mod get;
+mod index;
+mod insert;
+mod iter;
+mod remove;
+mod search;
+
+use crate::hasher::KeyHasher;
+use crate::key::KeyText;
+use index::Index;
+pub use iter::{IntoIter, Iter, Keys, Values};
+use std::alloc::{AllocError, Global};
+use std::marker::Model;
+
+/// A map from texts that keeps its members in the order of their insertion.
+///
+/// Contracts see the list of its members, no two of one text, beside its hasher and how many
+/// buckets it has. So far the body is the plain list at every size, and there are no buckets.
+#[derive(Drop)]
+pub struct HashMap<K: KeyText, V, S: KeyHasher> {
+    pairs: Vec<(K, V)>,
+    hasher: S,
+    index: Index,
+    ghost distinct: { no_repeats (texts (entries_of K.text_of pairs.items)) ≡ true },
+}
+
+impl<K: KeyText, V, S: KeyHasher> Model for HashMap<K, V, S> {
+    ghost use Rattle.std.specs.Prelude.{map};
+    ghost use Rattle.sj_object.specs.Entries.{entries_of};
+    ghost use Rattle.sj_object.specs.HashMap.{Contents, contents_code};
+    ghost use Rattle.sj_object.specs.Index.{IsIndexOf, buckets_of};
+
+    ghost Value = { Contents K V S };
+
+    ghost coded = { contents_code K.code V.code S.code };
+
+    ghost view = { λ m. record { entries = entries_of K.text_of m.pairs.items; hasher = m.hasher; buckets = buckets_of m.index; distinct = m.distinct } };
+
+    ghost invariant = { λ m. IsIndexOf (map (λ p. S.hash_of m.hasher (K.text_of p.0)) m.pairs.items) m.index };
+}
+
+impl<K: KeyText, V, S: KeyHasher> HashMap<K, V, S> {
+    /// An empty map with room for `capacity` members. It is refused only for want of memory.
+    pub fn with_capacity_and_hasher(
+        alloc: Global,
+        capacity: usize,
+        hasher: S,
+    ) -> Result<Self, AllocError>
+    where
+        S: Drop,
+        ensures entries { IfOk result (λ m. m.entries ≡ []) }
+        ensures hasher { IfOk result (λ m. m.hasher ≡ hasher) }
+        ensures buckets { IfOk result (λ m. m.buckets ≡ None) }
+    {
+        Ok(HashMap {
+            pairs: Vec::with_capacity(alloc, capacity)?,
+            hasher,
+            index: Index::new(alloc),
+        })
+    }
+
+    /// How many members there are.
+    pub fn len(&self) -> usize
+        ensures { result ≡ length self.now.entries }
+    {
+        self.pairs.len()
+    }
+
+    /// Whether there are no members.
+    pub fn is_empty(&self) -> bool
+        ensures { IsTrue result ↔ (self.now.entries ≡ []) }
+    {
+        self.pairs.is_empty()
+    }
+
+    /// How many buckets the members are hashed to; None where the map is a plain list.
+    pub fn buckets(&self) -> Option<usize>
+        ensures { result ≡ self.now.buckets }
+    {
+        self.index.buckets()
+    }
+
+    /// What hashes the keys.
+    pub fn hasher(&self) -> &S
+        ensures { result.now ≡ self.now.hasher }
+    {
+        &self.hasher
+    }
+
+    /// What the map's memory is taken from.
+    pub fn allocator(&self) -> Global {
+        *self.pairs.allocator()
+    }
+
+    /// The members in order, each a key and its value.
+    pub fn iter(&self) -> Iter<'_, K, V>
+        ensures { entries_of K.text_of result ≡ self.now.entries }
+    {
+        Iter::new(&self.pairs)
+    }
+
+    /// The keys in order.
+    pub fn keys(&self) -> Keys<'_, K, V>
+        ensures { result ≡ keys self.now.entries }
+    {
+        Keys::new(&self.pairs)
+    }
+
+    /// The values in order.
+    pub fn values(&self) -> Values<'_, K, V>
+        ensures { result ≡ values self.now.entries }
+    {
+        Values::new(&self.pairs)
+    }
+}

@@ -1,0 +1,79 @@
+//! What reads a member by its key, and what lends its value for writing.
+
+ghost use Rattle.std.specs.Prelude.{◌≡◌, ◌+◌, None, is_some};
+ghost use Rattle.std.specs.Borrow.{sem};
+ghost use Rattle.std.specs.Option.{option_copied, option_copied_mut};
+
+use super::HashMap;
+use super::search::{position_counted, position_of};
+use crate::hasher::KeyHasher;
+use crate::key::KeyText;
+use crate::steps::Steps;
+use std::sync::ledger::Ledger;
+
+impl<K: KeyText, V, S: KeyHasher> HashMap<K, V, S> {
+    ghost use Rattle.sj_object.specs.Edits.{lookup};
+    ghost use Rattle.sj_object.specs.Steps.{visited};
+    ghost use Rattle.sj_object.specs.Lends.{LendsValue};
+
+    /// The value of the key.
+    pub fn get(&self, key: &str) -> Option<&V>
+        ensures { option_copied result ≡ lookup key.now self.now.entries }
+    {
+        match position_of(&self.pairs, key) {
+            Some(i) => Some(&self.pairs[i].1),
+            None => None,
+        }
+    }
+
+    /// The value of the key, which hashes to `hash`.
+    pub fn get_hashed(&self, hash: u64, key: &str) -> Option<&V>
+        requires { hash ≡ S.hash_of self.now.hasher key.now }
+        ensures { option_copied result ≡ lookup key.now self.now.entries }
+    {
+        self.get(key)
+    }
+
+    /// The value of the key, with a step for each key that is compared: in a plain list one for
+    /// each member up to the one found, and for every member where none is found.
+    pub fn get_steps<L: Ledger>(&self, key: &str, steps: &mut Steps<L>) -> Option<&V>
+        ensures value { option_copied result ≡ lookup key.now self.now.entries }
+        ensures exact { self.now.buckets ≡ None → steps.new ≡ steps.old + visited key.now self.now.entries }
+    {
+        match position_counted(&self.pairs, key.as_bytes(), steps) {
+            Some(i) => Some(&self.pairs[i].1),
+            None => None,
+        }
+    }
+
+    /// Whether a member has the key.
+    pub fn contains_key(&self, key: &str) -> bool
+        ensures { result ≡ is_some (lookup key.now self.now.entries) }
+    {
+        self.get(key).is_some()
+    }
+
+    /// The value of the key, to write. The map is then as it was, with what the reference last
+    /// held in the place of that value.
+    pub fn get_mut(&mut self, key: &str) -> Option<&mut V>
+        ensures* writes_back { sem 𝓛 (LendsValue K.row V.row S.row K.KeyText S.KeyHasher self.entry key.now result) }
+        ensures value { option_copied_mut result ≡ lookup key.now self.old.entries }
+    {
+        match position_of(&self.pairs, key) {
+            Some(i) => {
+                let pair = &mut self.pairs[i];
+                Some(&mut pair.1)
+            }
+            None => None,
+        }
+    }
+
+    /// The same as `get_mut`, where the key hashes to `hash`.
+    pub fn get_hashed_mut(&mut self, hash: u64, key: &str) -> Option<&mut V>
+        requires { hash ≡ S.hash_of self.old.hasher key.now }
+        ensures* writes_back { sem 𝓛 (LendsValue K.row V.row S.row K.KeyText S.KeyHasher self.entry key.now result) }
+        ensures value { option_copied_mut result ≡ lookup key.now self.old.entries }
+    {
+        self.get_mut(key)
+    }
+}

@@ -1,0 +1,4 @@
+pub mod Trees
+pub mod Kept
+pub mod Walks
+pub mod Steps

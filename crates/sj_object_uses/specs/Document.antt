@@ -1,0 +1,34 @@
+-- The tree that a document means, where t gives the text of a key or a string.
+use Rattle.std.specs.Prelude.{ℕ, List, Option, Some, None}
+use Rattle.sj_text_core.specs.Tree.{Tree, text, list, obj, items_from, Members}
+use Rattle.sj_text_core.specs.Scalars.{static_tree}
+use Rattle.sj_text_core.specs.Edits.{put, cut}
+use Rattle.sj_object.specs.Members.{entry_members}
+use Rattle.sj_object_uses.specs.declared.value.Document.{Document, fold-Document}
+use Rattle.sj_object_uses.specs.declared.value.Document.TheOpen.{Document-F}
+
+module _ {T : Type 0} (t : T → List ℕ) where
+  -- one level, whose parts are seen as their trees
+  abbrev pub level_tree : Document-F T Tree → Tree
+  level_tree (Document-F.Static s) = static_tree s
+  level_tree (Document-F.String s) = text (t s)
+  level_tree (Document-F.Array v) = list (items_from v.value.items)
+  level_tree (Document-F.Object m) = obj (entry_members (λ u. u) m.value.entries)
+
+  abbrev pub tree : Document T → Tree
+  tree = fold-Document T Tree level_tree
+
+-- the members of an object
+abbrev pub object_of : Tree → Option Members
+object_of (obj ms) = Some ms
+object_of t = None
+
+-- an object with the value at the text; anything else stays
+abbrev pub with_member : List ℕ → Tree → Tree → Tree
+with_member k u (obj ms) = obj (put k u ms)
+with_member k u t = t
+
+-- an object without the member of the text; anything else stays
+abbrev pub without_member : List ℕ → Tree → Tree
+without_member k (obj ms) = obj (cut k ms)
+without_member k t = t

@@ -1,0 +1,70 @@
+use super::*;
+use sj_object::{HashMap, ObjectHasher};
+use sj_text_core::StaticNode;
+use std::alloc::Global;
+use std::borrow::CowStr;
+use std::test::Fail;
+
+/// An object with the members `a` and `b`, where `b` is an object with the member `a`.
+fn nested(alloc: Global) -> Result<OwnedValue, Fail> {
+    let mut outer = HashMap::with_capacity_and_hasher(alloc, 0, ObjectHasher::default())?;
+    let mut inner = HashMap::with_capacity_and_hasher(alloc, 0, ObjectHasher::default())?;
+    let key = String::from_str(alloc, "a")?;
+    inner.insert(key.clone()?, Document::Static(StaticNode::Null))?;
+    outer.insert(key, Document::String(String::from_str(alloc, "x")?))?;
+    let inner = Document::Object(Box::new(alloc, inner)?);
+    outer.insert(String::from_str(alloc, "b")?, inner)?;
+    Ok(Document::Object(Box::new(alloc, outer)?))
+}
+
+/// The outline of a document.
+fn outlined(alloc: Global, value: &OwnedValue) -> Result<Vec<u8>, Fail> {
+    let mut out = Vec::new(alloc);
+    outline(value, &mut out)?;
+    Ok(out)
+}
+
+#[test]
+fn writes_and_prints(rt: HostRuntime) -> Result<(), Fail> {
+    let alloc = rt.alloc();
+    let mut value = nested(alloc)?;
+    assert_eq!(rt;
+        outlined(alloc, &value)?.as_slice(),
+        b"{ax,b{a.,,".as_slice()
+    );
+    let copy = value.clone()?;
+    let path = vec![in alloc;
+        String::from_str(alloc, "b")?,
+        String::from_str(alloc, "a")?,
+    ]?;
+    replace_at(&mut value, path.as_slice(), copy);
+    assert_eq!(rt;
+        outlined(alloc, &value)?.as_slice(),
+        b"{ax,b{a{ax,b{a.,,,,".as_slice()
+    );
+    assert!(rt; value.set("a", Document::Static(StaticNode::Bool(true))));
+    assert!(rt; value.remove("b").is_some());
+    assert!(rt; value.get("b").is_none());
+    assert_eq!(rt; outlined(alloc, &value)?.as_slice(), b"{a.,".as_slice());
+    assert!(rt; value.is_kept());
+    Ok(())
+}
+
+#[test]
+fn lends_its_texts(rt: HostRuntime) -> Result<(), Fail> {
+    let alloc = rt.alloc();
+    let map = HashMap::with_capacity_and_hasher(alloc, 1, ObjectHasher::default())?;
+    let mut value: BorrowedValue<'_> = Document::Object(Box::new(alloc, map)?);
+    let before = value.insert(
+        CowStr::Borrowed("a"),
+        Document::String(CowStr::Borrowed("x")),
+    )?;
+    assert!(rt; before.is_none());
+    assert!(rt;
+        matches!(
+            value.get("a"),
+            Some(Document::String(CowStr::Borrowed("x")))
+        )
+    );
+    Ok(())
+}
