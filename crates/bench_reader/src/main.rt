@@ -10,9 +10,8 @@ use crate::texts::{Kind, text_of};
 use json::{Scratch, Tape};
 use sj_tape::{Buffers, to_tape, to_tape_with_buffers};
 use std::alloc::Global;
-use std::env;
-use std::io;
 use std::time::CpuClock;
+use std::{env, io};
 
 const WAYS: usize = 3;
 
@@ -74,7 +73,10 @@ fn report(rt: &HostRuntime, kind: Kind, size: usize, rounds: u32) -> io::Result<
     let len = bytes.len();
     for way in 0..WAYS {
         let name = name_of(way);
-        let rate = (len as u64).wrapping_mul(1000).checked_div(best[way]).unwrap_or(0);
+        let rate = (len as u64)
+            .wrapping_mul(1000)
+            .checked_div(best[way])
+            .unwrap_or(0);
         println!(rt; "{kind:>10} {len:>9} bytes {name:>16} {rate:>6} MB/s")?;
     }
     Ok(())

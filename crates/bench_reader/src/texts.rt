@@ -13,7 +13,12 @@ pub enum Kind {
 }
 
 impl Kind {
-    pub const ALL: [Kind; 4] = [Kind::Records, Kind::Integers, Kind::LongTexts, Kind::Messages];
+    pub const ALL: [Kind; 4] = [
+        Kind::Records,
+        Kind::Integers,
+        Kind::LongTexts,
+        Kind::Messages,
+    ];
 
     pub fn name(self) -> &'static str {
         match self {
@@ -109,7 +114,11 @@ fn put_record(out: &mut Vec<u8>, random: &mut Random) -> Result<(), AllocError> 
 
 fn put_integer(out: &mut Vec<u8>, random: &mut Random) -> Result<(), AllocError> {
     let digits = random.below(12) as u32;
-    let limit = 10_u64.checked_pow(digits).unwrap_or(1).saturating_mul(10).max(1);
+    let limit = 10_u64
+        .checked_pow(digits)
+        .unwrap_or(1)
+        .saturating_mul(10)
+        .max(1);
     if random.below(4) == 0 {
         put(out, "-")?;
     }
@@ -139,11 +148,17 @@ fn put_sentence(out: &mut Vec<u8>, random: &mut Random) -> Result<(), AllocError
 
 /// One message with its writer, indented, with escapes and letters past ASCII.
 fn put_message(out: &mut Vec<u8>, random: &mut Random) -> Result<(), AllocError> {
-    put(out, "\n    {\n      \"created_at\": \"Sun Aug 31 00:29:15 +0000 2014\",\n      \"id\": ")?;
+    put(
+        out,
+        "\n    {\n      \"created_at\": \"Sun Aug 31 00:29:15 +0000 2014\",\n      \"id\": ",
+    )?;
     put_number(out, random.next() >> 5)?;
     put(out, ",\n      \"text\": \"")?;
     put_sentence(out, random)?;
-    put(out, "\",\n      \"truncated\": false,\n      \"in_reply_to_status_id\": null,\n      \"user\": {\n        \"id\": ")?;
+    put(
+        out,
+        "\",\n      \"truncated\": false,\n      \"in_reply_to_status_id\": null,\n      \"user\": {\n        \"id\": ",
+    )?;
     put_number(out, random.below(3_000_000_000))?;
     put(out, ",\n        \"name\": \"")?;
     put_words(out, random, 2)?;
@@ -151,9 +166,15 @@ fn put_message(out: &mut Vec<u8>, random: &mut Random) -> Result<(), AllocError>
     put_sentence(out, random)?;
     put(out, "\",\n        \"followers_count\": ")?;
     put_number(out, random.below(5000))?;
-    put(out, ",\n        \"protected\": false\n      },\n      \"retweet_count\": ")?;
+    put(
+        out,
+        ",\n        \"protected\": false\n      },\n      \"retweet_count\": ",
+    )?;
     put_number(out, random.below(100))?;
-    put(out, ",\n      \"hashtags\": [],\n      \"lang\": \"ja\"\n    }")
+    put(
+        out,
+        ",\n      \"hashtags\": [],\n      \"lang\": \"ja\"\n    }",
+    )
 }
 
 fn put_one(out: &mut Vec<u8>, random: &mut Random, kind: Kind) -> Result<(), AllocError> {

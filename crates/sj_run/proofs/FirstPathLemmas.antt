@@ -1,10 +1,10 @@
 -- Which commands are served at first.
-use Rattle.std.proofs.Common.{◌≡◌, ℕ, Bool, true, false, List, [], ◌∷◌, refl, sym, ap, ◌∙◌, true≢false, codes, bytes_eq, if◌then◌else◌, Option, Some, None, option_map, option_and_then}
+use Rattle.std.proofs.Common.{◌≡◌, ℕ, Bool, true, false, List, [], ◌∷◌, refl, sym, ap, ◌∙◌, codes, bytes_eq, if◌then◌else◌, Option, Some, None, option_map, option_and_then}
 use Rattle.std.specs.Prelude.{unwrap_or}
 use Rattle.std.proofs.lemmas.Slice.Eq.{bytes_eq-Decides}
-use Rattle.sj_text_core.specs.Tree.{Tree, null, boolean, int, text, list, obj, Items, no_items, item, Members}
+use Rattle.sj_text_core.specs.Tree.{Tree, null, boolean, int, text, list, obj, Items, no_items, item}
 use Rattle.sj_text_core.specs.Paths.{Step}
-use Rattle.sj_run.specs.Commands.{Width, Read, kind, fits, str, len, keys, has, encode, encode_pp, Write, insert, remove, push, pop, put, PlainCommand, read, write, bad}
+use Rattle.sj_run.specs.Commands.{Width, kind, fits, str, len, keys, has, encode, encode_pp, insert, remove, push, pop, put, PlainCommand, read, write, bad}
 use Rattle.sj_run.specs.CommandLines.{width_named, step_in, steps_in, path_in, command_with_path, command_with_text, command_with_value, command_with_member, command_with, row_in, command_in, served_first}
 use Rattle.sj_run.specs.FirstPath.{first_two, first_four, first_of_items, first_in}
 

@@ -1,24 +1,20 @@
 -- Steps of a session.
-use Rattle.std.proofs.Common.{◌≡◌, ◌⊎◌, ℕ, zero, suc, ◌+◌, ◌-◌, ◌<◌, ◌≤◌, Bool, true, false, not, List, [], ◌∷◌, ◌++◌, length, take, drop, map, refl, sym, ap, ◌∙◌, subst, append_assoc, append-nil, length-append, arith, inl, inr, if◌then◌else◌, codes, bytes_eq, Option, Some, None, Result, Ok, Err, true≢false}
-use Rattle.std.specs.Prelude.{filter, OnOk, OnErr, ◌≢◌}
+use Rattle.std.proofs.Common.{◌≡◌, ℕ, ◌+◌, ◌-◌, ◌<◌, ◌≤◌, Bool, true, false, not, List, [], ◌∷◌, ◌++◌, length, take, drop, map, refl, sym, ap, ◌∙◌, subst, append_assoc, append-nil, length-append, arith, inl, inr, if◌then◌else◌, codes, bytes_eq, Result, Ok, Err, true≢false}
+use Rattle.std.specs.Prelude.{OnOk, OnErr, ◌≢◌}
 use Rattle.std.specs.Result.{is_err}
 use Rattle.std.specs.List.{slice_range}
 use Rattle.std.proofs.lemmas.List.Concat.{flat_map-cons}
 use Rattle.std.proofs.lemmas.Slice.{drop-put_mid}
 use borrow.Rule.Slice.PartMut.{put_mid}
 use Rattle.std.proofs.lemmas.List.{take_all, take-take, length-drop, length-take-le, drop-drop}
-use Rattle.sj_text_core.specs.Tree.{Tree, null, boolean, int, text, list, obj, Items, no_items, item, Members, IsWithin}
+use Rattle.sj_text_core.specs.Tree.{Tree, null, boolean, int, text, list, obj, Items, no_items, item, IsWithin}
 use Rattle.sj_text_core.specs.Grammar.{Spells, IsReadable}
 use Rattle.sj_text_core.specs.Keep.{keep, keep_items, IsKept}
-use Rattle.sj_text_core.specs.Find.{find_member}
-use Rattle.sj_text_core.specs.Edits.{put}
 use Rattle.sj_run.specs.Commands.{PlainCommand, read, write, bad, encode, insert}
-use Rattle.sj_run.specs.Commands as command
-use Rattle.sj_run.specs.CommandLines.{IsCommandOf, AreCommandsOf, served_first, command_in}
+use Rattle.sj_run.specs.CommandLines.{AreCommandsOf, served_first, command_in}
 use Rattle.sj_run.specs.Answers.{start, answer, changed, replies_of, tree_after}
 use Rattle.sj_run.specs.Answered.{Answers, AnswersLine, AnswersLines}
 use Rattle.sj_run.specs.Replies.{PlainReply}
-use Rattle.sj_run.specs.Replies as reply
 use Rattle.sj_run.specs.Shown.{shown, shown_all}
 use Rattle.sj_run.specs.Session.{IsServed, IsAnswered}
 use Rattle.sj_run.specs.declared.sessions.Form.{Form}
@@ -128,9 +124,9 @@ answers-more t u v line lines old mid new a b =
       are = (a.is, b.are);
       after = b.after ∙ ap (λ x. tree_after x cs) a.answers.after;
       shows =
-        b.shows ∙ ap (λ x. x ++ shown_all (replies_of u cs)) a.answers.shows ∙ append_assoc old (shown (answer t c).1) (shown_all (replies_of u cs))
-        ∙ ap (λ x. old ++ (shown (answer t c).1 ++ shown_all (replies_of x cs))) a.answers.after
-        ∙ ap (λ x. old ++ x) (sym (flat_map-cons shown (answer t c).1 (replies_of (answer t c).0 cs)));
+          b.shows ∙ ap (λ x. x ++ shown_all (replies_of u cs)) a.answers.shows ∙ append_assoc old (shown (answer t c).1) (shown_all (replies_of u cs))
+          ∙ ap (λ x. old ++ (shown (answer t c).1 ++ shown_all (replies_of x cs))) a.answers.after
+          ∙ ap (λ x. old ++ x) (sym (flat_map-cons shown (answer t c).1 (replies_of (answer t c).0 cs)));
     }
 
 -- the texts of lines, by whether the first has one
@@ -260,17 +256,17 @@ pub session_answered : (f : Form) (w : Way) (input part behind : List ℕ) (t u 
     → IsServed f w → part ≡ document input → line_texts (full_lines behind) ≡ lines input → Spells part t → IsWithin t
     → AnswersLines (keep t) (line_texts (full_lines behind)) u old new → (written : List ℕ) × (new ≡ old ++ written) × IsAnswered f input written
 session_answered f w input part behind t u old new served e lines_are s within a = (
-    shown_all (replies_of (keep t) (map served_first a.commands)),
-    a.shows,
-    record {
-      tree = t;
-      spelled = subst (λ (b : List ℕ). Spells b t) e s;
-      within = within;
-      commands = a.commands;
-      lines_are = subst (λ (ls : List (List ℕ)). AreCommandsOf ls a.commands) lines_are a.are;
-      replies = ap (λ x. shown_all (replies_of x (map served_first a.commands))) (sym (owned_start f w t served));
-    },
-  )
+  shown_all (replies_of (keep t) (map served_first a.commands)),
+  a.shows,
+  record {
+    tree = t;
+    spelled = subst (λ (b : List ℕ). Spells b t) e s;
+    within = within;
+    commands = a.commands;
+    lines_are = subst (λ (ls : List (List ℕ)). AreCommandsOf ls a.commands) lines_are a.are;
+    replies = ap (λ x. shown_all (replies_of x (map served_first a.commands))) (sym (owned_start f w t served));
+  },
+)
 
 pub on_ok_then : {A E P : Type 0} (r : Result A E) → is_err r ≡ false → OnOk r P → P
 on_ok_then (Ok x) e h = h

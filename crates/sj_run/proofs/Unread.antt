@@ -1,5 +1,5 @@
 -- What is not read is not readable.
-use Rattle.std.proofs.Common.{◌≡◌, ◌≢◌, ℕ, List, IsUtf8, Result, Ok, Err, refl}
+use Rattle.std.proofs.Common.{◌≢◌, ℕ, List, IsUtf8, Err, refl}
 use Rattle.std.specs.Prelude.{IsErrOf, ◌↔◌}
 use Rattle.sj_text_core.specs.Tree.{Tree}
 use Rattle.sj_text_core.specs.Grammar.{IsReadable}

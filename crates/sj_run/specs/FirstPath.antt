@@ -1,10 +1,9 @@
 -- The two commands that are served at first, as the code tells them apart. Only private clauses cite it.
-use Rattle.std.specs.Prelude.{ℕ, Bool, true, false, List, [], ◌∷◌, if◌then◌else◌, codes, bytes_eq}
+use Rattle.std.specs.Prelude.{ℕ, Bool, true, false, List, [], if◌then◌else◌, codes, bytes_eq}
 use Rattle.sj_text_core.specs.Tree.{Tree, null, boolean, int, text, list, obj, Items, no_items, item}
 use Rattle.sj_tape.specs.Value.{tree as value_tree}
 use Rattle.sj_run.specs.Commands.{PlainCommand, read, write, bad, encode, insert}
 use Rattle.sj_run.specs.declared.command.First.{First}
-use Rattle.sj_run.specs.declared.command.First.TheVariants as First
 
 -- `encode` and an empty path
 abbrev pub first_two : Tree → Tree → PlainCommand

@@ -10,7 +10,13 @@ use std::test::Fail;
 fn replies(alloc: Global, input: &str) -> Result<Result<String, SessionFault>, AllocError> {
     let mut bytes = input.as_bytes().to_vec(alloc)?;
     let mut out = b"> ".to_vec(alloc)?;
-    let answer = session(alloc, Form::Owned, Way::ByText, bytes.as_mut_slice(), &mut out);
+    let answer = session(
+        alloc,
+        Form::Owned,
+        Way::ByText,
+        bytes.as_mut_slice(),
+        &mut out,
+    );
     let text = match String::from_utf8(out) {
         Ok(text) => text,
         Err(_) => return Err(AllocError),
@@ -41,7 +47,10 @@ fn answers(rt: HostRuntime) -> Result<(), Fail> {
             "{\"q\\\"k\":\"a\\/b\\u0041\"}\n---\n[\"encode\",[]]",
             "> {\"q\\\"k\":\"a/bA\"}\n",
         ),
-        ("\"\\ud83d\\ude00\"\n---\n[\"encode\",[]]", "> \"\u{1f600}\"\n"),
+        (
+            "\"\\ud83d\\ude00\"\n---\n[\"encode\",[]]",
+            "> \"\u{1f600}\"\n",
+        ),
         // carriers at their limits print as they were read
         (
             "[18446744073709551615,18446744073709551616,-9223372036854775808,-9223372036854775809,-0]\n---\n[\"encode\",[]]",
@@ -61,7 +70,10 @@ fn answers(rt: HostRuntime) -> Result<(), Fail> {
         ("[1]\n---\n\n\r\n[\"encode\",[]]\n\n", "> [1]\n"),
         ("[1]\n---\n---\n", "> bad command\n"),
         // what is no array and no object
-        ("[1]\n---\n[\"insert\",[],\"k\",1]\n[\"encode\",[]]", "> not an object\n[1]\n"),
+        (
+            "[1]\n---\n[\"insert\",[],\"k\",1]\n[\"encode\",[]]",
+            "> not an object\n[1]\n",
+        ),
         // lines that are no command, or none that is served
         (
             "{\"a\":1}\n---\n[\"nonsense\"]\n{\"a\":1}\n[\"encode\",[]\n[\"encode\",[],1]\n[\"ENCODE\",[]]\n[\"encode\",[0]]\n[\"len\",[]]\n[\"insert\",[],\"a\",1.5]\n \n[\"encode\",[]]",
@@ -104,8 +116,14 @@ fn refuses(rt: HostRuntime) -> Result<(), Fail> {
         ("{\"a\":1", ErrorKind::Syntax),
         ("1.5", ErrorKind::Float),
         ("1e3", ErrorKind::Float),
-        ("340282366920938463463374607431768211456", ErrorKind::NumberTooLarge),
-        ("-170141183460469231731687303715884105729", ErrorKind::NumberTooLarge),
+        (
+            "340282366920938463463374607431768211456",
+            ErrorKind::NumberTooLarge,
+        ),
+        (
+            "-170141183460469231731687303715884105729",
+            ErrorKind::NumberTooLarge,
+        ),
         ("\"\\ud83d\"", ErrorKind::LoneSurrogate),
         ("\"\\ude00\"", ErrorKind::LoneSurrogate),
     ];

@@ -1,4 +1,4 @@
-use Rattle.std.proofs.Common.{◌≡◌, ◌∙◌, ℕ, List, ◌-◌, drop, take, length, sym, ap, subst, rules}
+use Rattle.std.proofs.Common.{◌∙◌, ◌-◌, drop, take, length, subst, rules}
 use Rattle.sj_text_core.specs.Tree.{Tree}
 use Rattle.sj_run.specs.Answered.{AnswersLines}
 use Rattle.sj_run.specs.Document.{document_tree}

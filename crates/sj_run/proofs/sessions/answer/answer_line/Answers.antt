@@ -1,11 +1,10 @@
-use Rattle.std.proofs.Common.{◌≡◌, subst, rules}
+use Rattle.std.proofs.Common.{subst, rules}
 use Rattle.std.proofs.lemmas.Result.{on_ok_weaker, on_err_weaker}
 use Rattle.sj_text_core.specs.Tree.{Tree}
 use Rattle.sj_text_core.specs.Keep.{keep}
 use Rattle.sj_run.specs.Answered.{Answers}
 use Rattle.sj_run.specs.Document.{document_tree}
 use Rattle.sj_run.specs.FirstPath.{first_in}
-use Rattle.sj_tape.specs.Value.{tree}
 use Rattle.sj_run.proofs.SessionLemmas.{readable_line, unreadable_line, begun_same}
 use Rattle.sj_run.proofs.Unread.{unreadable}
 use Rattle.sj_run.proofs.sessions.answer.answer_line.Goals as goal

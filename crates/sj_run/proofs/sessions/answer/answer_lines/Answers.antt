@@ -1,10 +1,10 @@
-use Rattle.std.proofs.Common.{◌≡◌, ℕ, ◌+◌, List, length, drop, take, arith, sym, subst, ◌∙◌}
+use Rattle.std.proofs.Common.{ℕ, ◌+◌, List, drop, take, arith, subst, ◌∙◌}
 use Rattle.std.proofs.lemmas.List.{length-drop}
 use Rattle.sj_run.specs.Answered.{AnswersLine}
 use Rattle.sj_run.specs.Document.{document_tree}
 use Rattle.sj_run.specs.Lines.{full_lines, line_texts}
 use Rattle.sj_run.proofs.LineLemmas.{line_at}
-use Rattle.sj_run.proofs.SessionLemmas.{TextAt, text_at, text_ahead, text-some, text-none, told-more, told-passed, line_taken, behind_line, begun_more, grown, written_length, part_length}
+use Rattle.sj_run.proofs.SessionLemmas.{TextAt, text_at, text_ahead, text-some, told-more, line_taken, behind_line, begun_more, grown, written_length, part_length}
 use Rattle.sj_run.proofs.sessions.answer.answer_lines.Goals as goal
 
 pub loop-at-preserved-in_ok-answer_line : goal.loop-at-preserved-in_ok-answer_line

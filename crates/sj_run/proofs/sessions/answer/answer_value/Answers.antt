@@ -1,7 +1,5 @@
-use Rattle.std.proofs.Common.{◌≡◌, ◌∙◌, sym, ap}
 use Rattle.std.proofs.lemmas.Result.{on_ok_weaker, on_err_weaker}
 use Rattle.sj_run.specs.Document.{document_tree}
-use Rattle.sj_run.specs.FirstPath.{meant}
 use Rattle.sj_tape.specs.Value.{tree}
 use Rattle.sj_run.proofs.SessionLemmas.{bad_kept, begun_same}
 use Rattle.sj_run.proofs.sessions.answer.answer_value.Goals as goal
