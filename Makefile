@@ -1,9 +1,14 @@
-.PHONY: demo test
+.PHONY: demo test check-program
 
-# Runs the program on the first example.
+# Builds the program and runs it on the first example.
 demo:
-	@echo "The program sjval is not written yet; 'make test' proves and tests what stands."
+	cd crates/sjval && rt run -- owned < stdin
 
 # Proves every crate from nothing, tries the edits that have to be refused, and runs the tests.
 test:
 	rt ci
+
+# Runs the built program as a user would.
+check-program:
+	cd crates/sjval && rt run -- owned < stdin > /dev/null
+	tools/program.sh crates/sjval/out/sjval
