@@ -1,12 +1,14 @@
 //! Ordered maps from texts, and the keys and hashers that they take.
 #![tactic(auto)]
 
+mod build;
 mod builder;
 mod hasher;
 mod key;
 mod map;
 mod steps;
 
+pub use build::build_from_tape;
 pub use builder::{Builder, Made, MapOf};
 pub use hasher::{KeyHasher, NotSoRandomState, ObjectHasher};
 pub use key::{KeyMade, KeyOf, KeyText};

@@ -1,0 +1,4 @@
+pub mod Splits
+pub mod Containers
+pub mod Counts
+pub mod Preorders

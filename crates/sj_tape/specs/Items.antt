@@ -1,0 +1,15 @@
+-- What an array of a tape means.
+use Rattle.std.specs.Prelude.{List}
+use Rattle.sj_text_core.specs.Tree.{Tree, Items}
+use Rattle.sj_tape.specs.Marks.{marks}
+use Rattle.sj_tape.specs.Parts.{items_in, listed}
+use Rattle.sj_tape.specs.declared.array.Array.{Array}
+use Rattle.sj_tape.specs.declared.array.Iter.{Iter}
+
+-- the items of an array
+abbrev pub items : Array → Items
+items a = items_in (marks a.nodes.now)
+
+-- the items that an iterator has left
+abbrev pub items_ahead : Iter → List Tree
+items_ahead it = listed (items_in (marks it.nodes.now))

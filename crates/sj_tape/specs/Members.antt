@@ -1,0 +1,26 @@
+-- What an object of a tape means.
+use Rattle.std.specs.Prelude.{ℕ, List, map}
+use Rattle.sj_text_core.specs.Tree.{Tree, Members}
+use Rattle.sj_text_core.specs.Nodes.{members_in}
+use Rattle.sj_tape.specs.Marks.{marks}
+use Rattle.sj_tape.specs.Parts.{paired}
+use Rattle.sj_tape.specs.declared.object.Object.{Object}
+use Rattle.sj_tape.specs.declared.object.Iter.{Iter}
+use Rattle.sj_tape.specs.declared.object.Keys.{Keys}
+use Rattle.sj_tape.specs.declared.object.Values.{Values}
+
+-- the members of an object, repeats too
+abbrev pub members : Object → Members
+members o = members_in (marks o.nodes.now)
+
+-- the members that an iterator has left
+abbrev pub members_ahead : Iter → List (List ℕ × Tree)
+members_ahead it = paired (members_in (marks it.nodes.now))
+
+-- the keys that an iterator has left
+abbrev pub keys_ahead : Keys → List (List ℕ)
+keys_ahead it = map (λ (p : List ℕ × Tree). p.0) (members_ahead it.members)
+
+-- the values that an iterator has left
+abbrev pub values_ahead : Values → List Tree
+values_ahead it = map (λ (p : List ℕ × Tree). p.1) (members_ahead it.members)
