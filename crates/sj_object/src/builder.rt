@@ -60,8 +60,7 @@ impl<K: KeyText + Drop, V: Drop> MapOf<K, V> for HashMap<K, V, ObjectHasher> {
     }
 }
 
-/// A document type that is made of parts which lend nothing. Its tree has one law for each of
-/// these; `built` holds of all that are made of parts of which it holds.
+/// A document type that is made of parts which lend nothing.
 pub trait Made<Key: KeyMade>: Sized + Drop {
     /// `HashMap<Key, Self, ObjectHasher>`.
     type Map: MapOf<Key, Self>;
@@ -69,7 +68,7 @@ pub trait Made<Key: KeyMade>: Sized + Drop {
     /// The tree of a value.
     ghost tree: { Self → Tree };
 
-    /// Holds of the values that are made.
+    /// Holds of the values that are made of keys and values that are.
     ghost built: { Self → Type 0 };
 
     /// A scalar.
@@ -86,7 +85,7 @@ pub trait Made<Key: KeyMade>: Sized + Drop {
     /// up.
     fn from_map(alloc: Global, members: Self::Map) -> Result<Self, AllocError>
         ensures means { IfOk result (λ v. tree v ≡ obj (entry_members tree (Self.Map.entries members))) }
-        ensures property { AreMade Key.made built (Self.Map.entries members) → IfOk result built };
+        ensures property { AreMade Key.is_made built (Self.Map.entries members) → IfOk result built };
 }
 
 /// A document type that texts which live as long as `'de` are read to.

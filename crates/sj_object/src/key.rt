@@ -1,6 +1,6 @@
 //! Keys that are seen as their texts.
 
-ghost use Rattle.std.specs.Prelude.{◌≡◌, ℕ, List, true, string_bytes, IfOk};
+ghost use Rattle.std.specs.Prelude.{◌≡◌, ℕ, List, Bool, true, string_bytes, IsTrue, IfOk};
 ghost use Rattle.std.specs.Bool.{Decides};
 ghost use Rattle.std.specs.Cow.{cow_str_bytes};
 ghost use Rattle.std.proofs.lemmas.Slice.Eq.{bytes_eq-Decides};
@@ -23,8 +23,8 @@ pub trait KeyText: Eq {
 
 /// A key that documents are made with.
 pub trait KeyMade: KeyText + Sized + Drop {
-    /// Holds of the keys that `KeyOf::of` makes.
-    ghost made: { Self → Type 0 };
+    /// What the keys that `KeyOf::of` makes pass.
+    ghost is_made: { Self → Bool };
 }
 
 /// A key that can be made of a text that lives as long as `'de`.
@@ -32,7 +32,7 @@ pub trait KeyOf<'de>: KeyMade {
     /// The key with that text. It is refused only for want of memory.
     fn of(alloc: Global, text: &'de str) -> Result<Self, AllocError>
         ensures text { IfOk result (λ k. Self.text_of k ≡ text.now) }
-        ensures property { IfOk result Self.made };
+        ensures property { IfOk result (λ k. IsTrue (Self.is_made k)) };
 }
 
 impl KeyText for String {
@@ -46,7 +46,7 @@ impl KeyText for String {
 }
 
 impl KeyMade for String {
-    ghost made = { λ _. Unit {0} };
+    ghost is_made = { λ _. true };
 }
 
 impl<'de> KeyOf<'de> for String {
@@ -66,7 +66,7 @@ impl<'k> KeyText for &'k str {
 }
 
 impl<'k> KeyMade for &'k str {
-    ghost made = { λ _. Unit {0} };
+    ghost is_made = { λ _. true };
 }
 
 impl<'de> KeyOf<'de> for &'de str {
@@ -87,7 +87,7 @@ impl<'k> KeyText for CowStr<'k> {
 
 /// A key that is made lends its text.
 impl<'k> KeyMade for CowStr<'k> {
-    ghost made = { λ k. is_borrowed k ≡ true };
+    ghost is_made = { is_borrowed };
 }
 
 impl<'de> KeyOf<'de> for CowStr<'de> {

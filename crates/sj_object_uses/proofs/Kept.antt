@@ -1,5 +1,5 @@
 -- Every document means a tree in which no object has two members of one text.
-use Rattle.std.proofs.Common.{◌≡◌, ℕ, List, [], ◌∷◌, map, refl, sym, ap, ◌∙◌, subst}
+use Rattle.std.proofs.Common.{ℕ, List, [], ◌∷◌, map, refl, sym, ap, ◌∙◌, subst}
 use Rattle.sj_text_core.specs.Tree.{Tree, obj, items_from}
 use Rattle.sj_text_core.specs.Keep.{IsKept}
 use Rattle.sj_text_core.specs.Scalars.{static_tree}

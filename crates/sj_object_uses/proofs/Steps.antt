@@ -1,5 +1,5 @@
 -- One step of a path, on a map and on the tree that it means.
-use Rattle.std.proofs.Common.{◌≡◌, ℕ, List, [], ◌∷◌, ◌<◌, map, drop, length, get_or, Option, Some, None, option_map, unwrap_or, refl, sym, ap, ◌∙◌, drop-cons, take, ◌-◌, arith}
+use Rattle.std.proofs.Common.{◌≡◌, ℕ, List, ◌∷◌, ◌<◌, map, drop, length, get_or, Option, Some, None, option_map, unwrap_or, refl, sym, ap, ◌∙◌, drop-cons, take, ◌-◌, arith}
 use Rattle.std.proofs.lemmas.Grind.{common_steps}
 use Rattle.sj_text_core.specs.Tree.{Tree, obj}
 use Rattle.sj_text_core.specs.Find.{find_member}

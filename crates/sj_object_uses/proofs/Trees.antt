@@ -1,5 +1,5 @@
 -- A document, level by level, and the tree that it means.
-use Rattle.std.proofs.Common.{◌≡◌, ℕ, List, [], ◌∷◌, map, Option, Some, None, option_map, Box, Vec, Global, Bor, MutBor, refl, ap, ◌∙◌, rules}
+use Rattle.std.proofs.Common.{◌≡◌, ℕ, List, map, Option, Some, None, option_map, Box, Vec, Global, Bor, MutBor, refl, ap, ◌∙◌, rules}
 use Rattle.std.specs.Option.{option_copied, option_copied_mut}
 use Rattle.sj_text_core.specs.Tree.{Tree, null, boolean, int, text, list, obj, items_from, Members}
 use Rattle.sj_object.specs.declared.hasher.NotSoRandomState.{NotSoRandomState}

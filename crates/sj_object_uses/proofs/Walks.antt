@@ -1,8 +1,8 @@
 -- A walk over the items of a document, one after another.
-use Rattle.std.proofs.Common.{◌≡◌, ℕ, zero, suc, ◌+◌, ◌<◌, ◌≤◌, List, [], ◌∷◌, ◌++◌, map, length, get_or, take, drop, refl, sym, ap, ◌∙◌, arith, add-one, append_assoc, drop-cons, Result, Ok, Err, true≢false, false}
+use Rattle.std.proofs.Common.{◌≡◌, ℕ, zero, suc, ◌+◌, ◌<◌, ◌≤◌, List, [], ◌∷◌, ◌++◌, map, length, get_or, take, drop, sym, ap, ◌∙◌, arith, add-one, append_assoc, drop-cons, Result, Ok, Err, true≢false, false}
 use Rattle.std.specs.Result.{OnOk, is_err}
 use Rattle.std.proofs.lemmas.List.{map-append, take_more}
-use Rattle.sj_text_core.specs.Tree.{Tree, depth, items_depth, items_from}
+use Rattle.sj_text_core.specs.Tree.{depth, items_depth, items_from}
 use Rattle.sj_object_uses.specs.Document.{tree}
 use Rattle.sj_object_uses.specs.Outline.{outline_of, items_outline}
 use Rattle.sj_object_uses.specs.declared.value.Document.{Document}

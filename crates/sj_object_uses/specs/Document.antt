@@ -1,5 +1,5 @@
 -- The tree that a document means, where t gives the text of a key or a string.
-use Rattle.std.specs.Prelude.{ℕ, map, List, Option, Some, None}
+use Rattle.std.specs.Prelude.{ℕ, List, Option, Some, None}
 use Rattle.sj_text_core.specs.Tree.{Tree, text, list, obj, items_from, Members}
 use Rattle.sj_text_core.specs.Scalars.{static_tree}
 use Rattle.sj_text_core.specs.Edits.{put, cut}

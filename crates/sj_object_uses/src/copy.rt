@@ -71,8 +71,11 @@ fn copy_items<T: CopyText + Drop>(items: &Vec<Document<T>>) -> Result<Vec<Docume
 fn copy_members<T: CopyText + Drop>(members: &Object<T>) -> Result<Object<T>, AllocError>
     ensures { IfOk result (λ m. entry_members (tree T.text_of) m.entries ≡ entry_members (tree T.text_of) members.now.entries) }
 {
-    let mut copies =
-        HashMap::with_capacity_and_hasher(members.allocator(), members.len(), *members.hasher())?;
+    let mut copies = HashMap::with_capacity_and_hasher(
+        members.allocator(),
+        members.len(),
+        *members.hasher(),
+    )?;
     for (key, member) in members.iter() {
         let name = key.copy()?;
         let copied = copy(member)?;

@@ -25,7 +25,12 @@ pub fn replace_at<T: KeyText + Drop>(value: &mut Document<T>, path: &[String], n
 }
 
 #[cycle(replace)]
-fn replace_in<T: KeyText + Drop>(members: &mut Object<T>, key: &str, rest: &[String], new: Document<T>)
+fn replace_in<T: KeyText + Drop>(
+    members: &mut Object<T>,
+    key: &str,
+    rest: &[String],
+    new: Document<T>,
+)
     ensures found { (v : Document T) → lookup key.now members.old.entries ≡ Some v → (w : Document T) × ((tree T.text_of w ≡ set_at (map (λ s. by_key (string_bytes s)) rest.now) (tree T.text_of new) (tree T.text_of v)) × (members.new ≡ with_value members.old key.now w)) }
     ensures absent { lookup key.now members.old.entries ≡ None → members.new ≡ members.old }
 {

@@ -28,11 +28,20 @@ fn outlined(alloc: Global, value: &OwnedValue) -> Result<Vec<u8>, Fail> {
 fn writes_and_prints(rt: HostRuntime) -> Result<(), Fail> {
     let alloc = rt.alloc();
     let mut value = nested(alloc)?;
-    assert_eq!(rt; outlined(alloc, &value)?.as_slice(), b"{ax,b{a.,,".as_slice());
+    assert_eq!(rt;
+        outlined(alloc, &value)?.as_slice(),
+        b"{ax,b{a.,,".as_slice()
+    );
     let copy = value.clone()?;
-    let path = vec![in alloc; String::from_str(alloc, "b")?, String::from_str(alloc, "a")?]?;
+    let path = vec![in alloc;
+        String::from_str(alloc, "b")?,
+        String::from_str(alloc, "a")?,
+    ]?;
     replace_at(&mut value, path.as_slice(), copy);
-    assert_eq!(rt; outlined(alloc, &value)?.as_slice(), b"{ax,b{a{ax,b{a.,,,,".as_slice());
+    assert_eq!(rt;
+        outlined(alloc, &value)?.as_slice(),
+        b"{ax,b{a{ax,b{a.,,,,".as_slice()
+    );
     assert!(rt; value.set("a", Document::Static(StaticNode::Bool(true))));
     assert!(rt; value.remove("b").is_some());
     assert!(rt; value.get("b").is_none());
@@ -46,8 +55,16 @@ fn lends_its_texts(rt: HostRuntime) -> Result<(), Fail> {
     let alloc = rt.alloc();
     let map = HashMap::with_capacity_and_hasher(alloc, 1, ObjectHasher::default())?;
     let mut value: BorrowedValue<'_> = Document::Object(Box::new(alloc, map)?);
-    let before = value.insert(CowStr::Borrowed("a"), Document::String(CowStr::Borrowed("x")))?;
+    let before = value.insert(
+        CowStr::Borrowed("a"),
+        Document::String(CowStr::Borrowed("x")),
+    )?;
     assert!(rt; before.is_none());
-    assert!(rt; matches!(value.get("a"), Some(Document::String(CowStr::Borrowed("x")))));
+    assert!(rt;
+        matches!(
+            value.get("a"),
+            Some(Document::String(CowStr::Borrowed("x")))
+        )
+    );
     Ok(())
 }

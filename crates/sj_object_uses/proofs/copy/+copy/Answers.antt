@@ -1,8 +1,7 @@
-use Rattle.std.proofs.Common.{◌≡◌, ◌∷◌, map, sym, ap, ◌∙◌, arith}
+use Rattle.std.proofs.Common.{map, sym, ap, ◌∙◌, arith}
 use Rattle.sj_text_core.specs.Tree.{obj, depth, items_depth, members_depth, items_from}
 use Rattle.sj_text_core.specs.Edits as members
-use Rattle.sj_object.specs.Texts.{no_repeats}
-use Rattle.sj_object.specs.Entries.{texts, entries_of}
+use Rattle.sj_object.specs.Entries.{entries_of}
 use Rattle.sj_object.specs.Members.{entry_members}
 use Rattle.sj_object.proofs.Shown.{entry_members-put}
 use Rattle.sj_object.proofs.Walks.{put_all, put_all-distinct}
@@ -56,8 +55,8 @@ copy_members-loop-key-preserved g r c =
       can = tt;
       ends = tt;
       copied = ap (λ es. put_all (tree t) (entry_members (tree t) es) rest) done
-        ∙ ap (λ ms. put_all (tree t) ms rest) (entry_members-put (tree t) (c.in_ok-name.name, t c.in_ok-name.name) c.in_ok-copied.copied old)
-        ∙ (λ i. put_all (tree t) (members.put (c.in_ok-name.ensures i) (c.in_ok-copied.ensures i) (entry_members (tree t) old)) rest)
-        ∙ ap (put_all (tree t) (entry_members (tree t) old)) (sym ahead) ∙ c.loop-key.invariant.copied;
+          ∙ ap (λ ms. put_all (tree t) ms rest) (entry_members-put (tree t) (c.in_ok-name.name, t c.in_ok-name.name) c.in_ok-copied.copied old)
+          ∙ (λ i. put_all (tree t) (members.put (c.in_ok-name.ensures i) (c.in_ok-copied.ensures i) (entry_members (tree t) old)) rest)
+          ∙ ap (put_all (tree t) (entry_members (tree t) old)) (sym ahead) ∙ c.loop-key.invariant.copied;
       within = omega (arith, c.loop-key.invariant.within, ap (λ es. members_depth (entry_members (tree t) es)) ahead);
     }

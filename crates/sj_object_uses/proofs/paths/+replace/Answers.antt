@@ -16,7 +16,7 @@ replace_at-returns-in-Object g r c =
     let u = tree t c.args.new in
     let f = set_at (map (λ s. by_key (string_bytes s)) (take (length c.args.path.now - 1) (drop 1 c.args.path.now))) u in
     let same : obj (entry_members (tree t) m.entries) ≡ tree t c.args.value.now =
-      ap (λ n. obj (entry_members (tree t) n.entries)) (c.deref_mut.ensures.value ∙ ap (λ b. b.value) c.in-Object.members-is) ∙ sym (ap (tree t) c.in-Object.is ∙ tree-Object t c.in-Object.members) in
+    ap (λ n. obj (entry_members (tree t) n.entries)) (c.deref_mut.ensures.value ∙ ap (λ b. b.value) c.in-Object.members-is) ∙ sym (ap (tree t) c.in-Object.is ∙ tree-Object t c.in-Object.members) in
     let b : Box (Map g.row.T.Denot) Global = record c.in-Object.members { value = c.replace_in.new.members } in
     ap (tree t) (let e : _ ≡ Object b = search (rules, the_lemmas) in e) ∙ tree-Object t b
     ∙ placed t m c.replace_in.new.members c.as_str.result.now f c.replace_in.ensures.found c.replace_in.ensures.absent

@@ -1,4 +1,4 @@
-use Rattle.std.proofs.Common.{◌≡◌, [], ◌∷◌, ◌++◌, map, sym, ap, ◌∙◌, arith, append_assoc}
+use Rattle.std.proofs.Common.{[], ◌∷◌, ◌++◌, map, sym, ap, ◌∙◌, arith, append_assoc}
 use Rattle.std.proofs.lemmas.Result.{on_ok_weaker}
 use Rattle.sj_text_core.specs.Tree.{depth, items_depth, members_depth, items_from}
 use Rattle.sj_object.specs.Members.{entry_members}
@@ -18,16 +18,16 @@ outline-returns-in_ok-push-in-Array g r c =
     let t = g.T.KeyText.text_of in
     let o = c.args.out.now.items in
     on_ok_weaker c.outline_items.result (λ h.
-      h ∙ (λ i. c.in_ok-push-in-Array.ensures.items i ++ items_outline (items_from (map (tree t) (ap (λ v. v.items) c.deref.ensures i)))) ∙ append_assoc o (91 ∷ []) _
-      ∙ ap (λ u. o ++ outline_of u) (sym (ap (tree t) c.in-Array.is ∙ tree-Array t c.in-Array.items))) c.outline_items.ensures
+    h ∙ (λ i. c.in_ok-push-in-Array.ensures.items i ++ items_outline (items_from (map (tree t) (ap (λ v. v.items) c.deref.ensures i)))) ∙ append_assoc o (91 ∷ []) _
+    ∙ ap (λ u. o ++ outline_of u) (sym (ap (tree t) c.in-Array.is ∙ tree-Array t c.in-Array.items))) c.outline_items.ensures
 
 pub outline-returns-in_ok-push-in-Object : goal.outline-returns-in_ok-push-in-Object
 outline-returns-in_ok-push-in-Object g r c =
     let t = g.T.KeyText.text_of in
     let o = c.args.out.now.items in
     on_ok_weaker c.outline_members.result (λ h.
-      h ∙ (λ i. c.in_ok-push-in-Object.ensures.items i ++ members_outline (entry_members (tree t) (ap (λ m. m.entries) c.deref-in-Object.ensures i))) ∙ append_assoc o (123 ∷ []) _
-      ∙ ap (λ u. o ++ outline_of u) (sym (ap (tree t) c.in-Object.is ∙ tree-Object t c.in-Object.members))) c.outline_members.ensures
+    h ∙ (λ i. c.in_ok-push-in-Object.ensures.items i ++ members_outline (entry_members (tree t) (ap (λ m. m.entries) c.deref-in-Object.ensures i))) ∙ append_assoc o (123 ∷ []) _
+    ∙ ap (λ u. o ++ outline_of u) (sym (ap (tree t) c.in-Object.is ∙ tree-Object t c.in-Object.members))) c.outline_members.ensures
 
 pub outline_items-outline-requires : goal.outline_items-outline-requires
 outline_items-outline-requires g r c κs within =

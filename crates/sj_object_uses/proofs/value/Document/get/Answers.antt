@@ -1,4 +1,4 @@
-use Rattle.std.proofs.Common.{◌≡◌, option_map, sym, ap, ◌∙◌}
+use Rattle.std.proofs.Common.{option_map, sym, ap, ◌∙◌}
 use Rattle.sj_text_core.specs.Find.{find}
 use Rattle.sj_object.specs.Edits.{lookup}
 use Rattle.sj_object.proofs.Shown.{lookup-entry_members}

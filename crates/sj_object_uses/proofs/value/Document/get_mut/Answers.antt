@@ -1,4 +1,4 @@
-use Rattle.std.proofs.Common.{◌≡◌, option_map, sym, ap, ◌∙◌}
+use Rattle.std.proofs.Common.{option_map, sym, ap, ◌∙◌}
 use Rattle.sj_text_core.specs.Find.{find}
 use Rattle.sj_object.specs.Edits.{lookup}
 use Rattle.sj_object.proofs.Shown.{lookup-entry_members}
@@ -10,5 +10,7 @@ pub returns-in-Object : goal.returns-in-Object
 returns-in-Object g c =
     let t = g.T.KeyText.text_of in
     let k = c.args.key.now in
-    record { value = tree_of_mut t c.get_mut.result ∙ ap (option_map (tree t)) (c.get_mut.ensures.value ∙ ap (λ m. lookup k m.entries) (c.deref_mut.ensures.value ∙ ap (λ b. b.value) c.in-Object.members-is)) ∙ lookup-entry_members (tree t) k c.in-Object.members.value.entries
-    ∙ sym (ap (find k) (ap (tree t) c.in-Object.is ∙ tree-Object t c.in-Object.members)) }
+    record {
+      value = tree_of_mut t c.get_mut.result ∙ ap (option_map (tree t)) (c.get_mut.ensures.value ∙ ap (λ m. lookup k m.entries) (c.deref_mut.ensures.value ∙ ap (λ b. b.value) c.in-Object.members-is)) ∙ lookup-entry_members (tree t) k c.in-Object.members.value.entries
+          ∙ sym (ap (find k) (ap (tree t) c.in-Object.is ∙ tree-Object t c.in-Object.members));
+    }

@@ -1,4 +1,4 @@
-use Rattle.std.proofs.Common.{◌≡◌, Some, None, refl, sym, ap, ◌∙◌}
+use Rattle.std.proofs.Common.{sym, ap, ◌∙◌}
 use Rattle.sj_text_core.specs.Tree.{obj}
 use Rattle.sj_object.specs.Edits.{with_value}
 use Rattle.sj_object.proofs.Shown.{entry_members-set_value}
