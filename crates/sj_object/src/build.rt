@@ -85,7 +85,7 @@ fn take_members<'de, V: Builder<'de, Key>, Key: KeyOf<'de>>(
     requires { HasPairs len (pile V.tree parts.old.items) }
     ensures means { IfOk result (λ m. shown V.tree (V.Map.entries m) ≡ kept [] (pairs_seen len (pile V.tree parts.old.items))) }
     ensures rest { OnOk result (pile V.tree parts.new.items ≡ drop (2 * len) (pile V.tree parts.old.items)) }
-    ensures property { All (part_built V.built) parts.old.items → IfOk result (λ m. AreMade Key.made V.built (V.Map.entries m) × All (part_built V.built) parts.new.items) }
+    ensures property { All (part_built V.built) parts.old.items → IfOk result (λ m. AreMade Key.is_made V.built (V.Map.entries m) × All (part_built V.built) parts.new.items) }
 {
     let mut members = V::Map::with_capacity(alloc, len)?;
     for i in 0..len {
@@ -104,7 +104,7 @@ fn put_member<'de, V: Builder<'de, Key>, Key: KeyOf<'de>>(
     part: Part<'de, V>,
 ) -> Result<(), AllocError>
     ensures means { OnOk result (shown V.tree (V.Map.entries members.new) ≡ kept (shown V.tree (V.Map.entries members.old)) ((text.now, tree_seen (part_seen V.tree part.entry)) ∷ [])) }
-    ensures property { AreMade Key.made V.built (V.Map.entries members.old) → part_built V.built part.entry → OnOk result (AreMade Key.made V.built (V.Map.entries members.new)) }
+    ensures property { AreMade Key.is_made V.built (V.Map.entries members.old) → part_built V.built part.entry → OnOk result (AreMade Key.is_made V.built (V.Map.entries members.new)) }
 {
     if members.has(text) {
         return Ok(());

@@ -11,5 +11,5 @@ invariant-loop-i g l =
       left : HasPairs (l.len - l.i) (pile tree l.parts.items);
       told : kept (shown tree (g.V.Map.MapOf.entries l.members)) (pairs_seen (l.len - l.i) (pile tree l.parts.items)) ≡ kept [] (pairs_seen l.len (pile tree l.fn.parts.items));
       rest : drop (2 * (l.len - l.i)) (pile tree l.parts.items) ≡ drop (2 * l.len) (pile tree l.fn.parts.items);
-      made : All (part_built built) l.fn.parts.items → AreMade g.Key.KeyMade.made built (g.V.Map.MapOf.entries l.members) × All (part_built built) l.parts.items;
+      made : All (part_built built) l.fn.parts.items → AreMade g.Key.KeyMade.is_made built (g.V.Map.MapOf.entries l.members) × All (part_built built) l.parts.items;
     }
