@@ -1,9 +1,9 @@
 -- Piles, and the trees that nodes are.
-use Rattle.std.proofs.Common.{◌≡◌, ℕ, zero, suc, ◌+◌, ◌-◌, ◌*◌, ◌≤◌, ◌<◌, Bool, true, false, ◌||◌, List, [], ◌∷◌, ◌++◌, map, take, drop, length, get_or, refl, ap, sym, ◌∙◌, append_assoc, append-nil, arith, All, subst, Some, Bor, drop-cons, bytes_eq}
+use Rattle.std.proofs.Common.{◌≡◌, ℕ, zero, suc, ◌+◌, ◌*◌, ◌≤◌, ◌<◌, Bool, true, false, ◌||◌, List, [], ◌∷◌, ◌++◌, map, take, drop, length, get_or, refl, ap, sym, ◌∙◌, append_assoc, append-nil, arith, All, subst, Some, Bor, drop-cons, bytes_eq}
 use Rattle.std.specs.Bool.{if◌then◌else◌}
-use Rattle.std.proofs.lemmas.List.Elements.{All-pop, All-push}
+use Rattle.std.proofs.lemmas.List.Elements.{All-pop}
 use Rattle.sj_text_core.specs.Tree.{Tree, null, boolean, int, text, list, obj, Items, no_items, item, Members, no_members, member, items_len, members_len, items_from, members_from}
-use Rattle.sj_text_core.specs.Nodes.{Mark, nothing, truth, number, string, array, object, flat, flat_items, flat_members, trees_of, tree_of, first_tree, items_of, members_of, IsPreorder}
+use Rattle.sj_text_core.specs.Nodes.{Mark, nothing, truth, number, string, array, object, flat, flat_items, flat_members, trees_of, tree_of, items_of, members_of, IsPreorder}
 use Rattle.sj_text_core.specs.Keep.{is_seen, keep, keep_items, keep_members}
 use Rattle.sj_tape.specs.Marks.{static_mark}
 use Rattle.sj_text_core.specs.Scalars.{static_tree}
@@ -73,10 +73,11 @@ word_of n m e ps h = cases ps (subst (λ k. HasPairs k ps) e h)
 -- a member is taken off
 pub member_off : (n m : ℕ) → n ≡ suc m → (ps qs : List Seen) (k : List ℕ) (p : Seen) → ps ≡ word k ∷ p ∷ qs
     → (pairs_seen n ps ≡ (k, tree_seen p) ∷ pairs_seen m qs) × (drop (2 * n) ps ≡ drop (2 * m) qs) × (HasPairs n ps → HasPairs m qs)
-member_off n m e ps qs k p is =
-    (ap (λ x. pairs_seen x ps) e ∙ ap (λ x. pairs_seen (suc m) x) is,
-     ap (λ x. drop x ps) (let h : 2 * n ≡ suc (suc (2 * m)) = omega (arith, e) in h) ∙ ap (λ x. drop (suc (suc (2 * m))) x) is,
-     λ h. subst (HasPairs (suc m)) is (subst (λ x. HasPairs x ps) e h))
+member_off n m e ps qs k p is = (
+  ap (λ x. pairs_seen x ps) e ∙ ap (λ x. pairs_seen (suc m) x) is,
+  ap (λ x. drop x ps) (let h : 2 * n ≡ suc (suc (2 * m)) = omega (arith, e) in h) ∙ ap (λ x. drop (suc (suc (2 * m))) x) is,
+  λ h. subst (HasPairs (suc m)) is (subst (λ x. HasPairs x ps) e h),
+)
 
 -- ---- keeping the first member of each key
 
@@ -144,8 +145,8 @@ keeps_first (suc n) (text s ∷ []) done ks h a = absurd h
 keeps_first (suc n) (text s ∷ t ∷ ts) done ks h a =
     ap (λ u. members_from (kept (if is_seen s (keys_of done) then done else done ++ (s, u) ∷ []) (pairs_seen n (kept_seen ts)))) (seen_tree (keep t))
     ∙ choose (is_seen s (keys_of done)) (is_seen s ks) (a s) s (keep t) done (pairs_seen n (kept_seen ts)) _ _
-        (keeps_first n ts done ks h a)
-        (keeps_first n ts (done ++ (s, keep t) ∷ []) (s ∷ ks) h (agree_more done ks s (keep t) a))
+    (keeps_first n ts done ks h a)
+    (keeps_first n ts (done ++ (s, keep t) ∷ []) (s ∷ ks) h (agree_more done ks s (keep t) a))
 
 items_kept : (n : ℕ) (ts : List Tree) → items_from (map tree_seen (take n (kept_seen ts))) ≡ keep_items (items_of n ts)
 items_kept zero ts = refl

@@ -1,5 +1,5 @@
 -- The pile of what was read of the nodes behind, its top first. Only private clauses cite it.
-use Rattle.std.specs.Prelude.{◌≡◌, ℕ, zero, suc, ◌+◌, ◌*◌, ◌≤◌, Bool, if◌then◌else◌, List, [], ◌∷◌, ◌++◌, map, length, take, drop, ⊤}
+use Rattle.std.specs.Prelude.{ℕ, zero, suc, ◌*◌, ◌≤◌, if◌then◌else◌, List, [], ◌∷◌, ◌++◌, map, length, take, drop, ⊤}
 use Rattle.sj_text_core.specs.Tree.{Tree, null, boolean, int, text, list, obj, items_from, members_from}
 use Rattle.sj_text_core.specs.Nodes.{Mark, nothing, truth, number, string, array, object}
 use Rattle.sj_text_core.specs.Keep.{is_seen}

@@ -34,7 +34,9 @@ fn value_of<'de, V: Builder<'de, Key>, Key: KeyOf<'de>>(
 }
 
 /// Takes the top off the pile.
-fn take_part<'de, V: Builder<'de, Key>, Key: KeyOf<'de>>(parts: &mut Vec<Part<'de, V>>) -> Part<'de, V>
+fn take_part<'de, V: Builder<'de, Key>, Key: KeyOf<'de>>(
+    parts: &mut Vec<Part<'de, V>>,
+) -> Part<'de, V>
     requires { 0 < length parts.old.items }
     ensures { parts.old.items ≡ parts.new.items ++ result ∷ [] }
 {

@@ -1,9 +1,8 @@
 -- Documents whose texts all pass a test.
-use Rattle.std.proofs.Common.{◌≡◌, ℕ, Bool, true, false, ◌&&◌, List, [], ◌∷◌, map, All, Box, Vec, Global, refl, ap, ◌∙◌, rules, true≢false, sym}
+use Rattle.std.proofs.Common.{◌≡◌, Bool, true, false, ◌&&◌, List, [], ◌∷◌, map, All, Box, Vec, Global, refl, ap, ◌∙◌, rules, true≢false, sym}
 use Rattle.std.specs.List.{list_all}
 use Rattle.std.proofs.lemmas.List.Elements.{All-head, All-tail}
 use Rattle.sj_object.specs.Entries.{Entry}
-use Rattle.sj_object.specs.Builder.{AreMade}
 use Rattle.sj_object_uses.specs.Document.{all_texts}
 use Rattle.sj_object_uses.specs.declared.value.Document.{Document, Array, Object, the_lemmas}
 use Rattle.sj_object_uses.proofs.Trees.{Map}

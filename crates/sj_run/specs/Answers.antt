@@ -11,8 +11,8 @@ use Rattle.sj_run.specs.Commands.{Width, signed, unsigned, Read, Write, PlainCom
 use Rattle.sj_run.specs.Commands as command
 use Rattle.sj_run.specs.Replies.{PlainReply}
 use Rattle.sj_run.specs.Replies as reply
-use Rattle.sj_run.specs.declared.Form.{Form}
-use Rattle.sj_run.specs.declared.Form.TheVariants as form
+use Rattle.sj_run.specs.declared.sessions.Form.{Form}
+use Rattle.sj_run.specs.declared.sessions.Form.TheVariants as form
 
 -- whether the tree is a whole number in the type's range, whatever its carrier
 abbrev pub is_in : Width → Tree → Bool

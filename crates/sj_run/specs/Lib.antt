@@ -4,4 +4,8 @@ pub mod Answers
 pub mod Lines
 pub mod CommandLines
 pub mod Shown
+pub mod Session
+pub mod Answered
+pub mod FirstPath
+pub mod Document
 pub mod Laws

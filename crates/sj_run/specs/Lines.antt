@@ -41,6 +41,10 @@ abbrev pub is_empty : List ℕ → Bool
 is_empty [] = true
 is_empty (c ∷ b) = false
 
+-- the texts of the lines that have one
+abbrev pub line_texts : List (List ℕ) → List (List ℕ)
+line_texts ls = filter (λ l. not (is_empty l)) (map line_text ls)
+
 -- the lines behind that line which have bytes
 abbrev pub lines : List ℕ → List (List ℕ)
-lines b = filter (λ l. not (is_empty l)) (map line_text (after_mark (full_lines b)))
+lines b = line_texts (after_mark (full_lines b))

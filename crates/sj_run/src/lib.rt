@@ -1,15 +1,13 @@
-//! Commands at documents, and what they answer.
+//! Sessions: a document and commands at it come in as bytes, and replies go out as bytes. They are
+//! those that the same commands get on one plain tree.
 #![tactic(auto)]
 
+mod command;
+mod document;
 pub mod laws;
+mod lines;
+mod sessions;
+#[cfg(test)]
+mod tests;
 
-/// Which type holds a session's document.
-#[derive(Clone, Copy, Debug, PartialEq, Eq)]
-pub enum Form {
-    /// Its texts are its own.
-    Owned,
-    /// Its texts lie in the input where they can.
-    Borrowed,
-    /// A tape until the first write.
-    Lazy,
-}
+pub use sessions::{Form, SessionFault, Way, session};

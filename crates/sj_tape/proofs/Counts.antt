@@ -1,6 +1,6 @@
 -- How many nodes the first items and members have.
 use Rattle.std.proofs.Common.{◌≡◌, ℕ, suc, ◌+◌, ◌<◌, ◌≤◌, List, [], ◌∷◌, ◌++◌, length, drop, get_or, refl, sym, ap, subst, ◌∙◌, arith, append-nil, append_assoc, length-append}
-use Rattle.std.proofs.lemmas.List.{get_or-append-add, get_or-drop, length-map}
+use Rattle.std.proofs.lemmas.List.{get_or-append-add, length-map}
 use Rattle.std.proofs.Math.ListN.{get_or-map}
 use Rattle.sj_text_core.specs.Tree.{Tree, Items, no_items, item, items_len, Members, no_members, member, members_len}
 use Rattle.sj_text_core.specs.Edits.{push}
@@ -51,10 +51,10 @@ items_next done at ns b first =
       items = push first.tree b.items;
       rest = first.rest;
       are = b.are ∙ (ap (λ l. flat_items b.items ++ l) first.are ∙ (sym (append_assoc (flat_items b.items) (flat first.tree) first.rest)
-      ∙ ap (λ l. l ++ first.rest) (sym (flat_items-push b.items first.tree))));
+          ∙ ap (λ l. l ++ first.rest) (sym (flat_items-push b.items first.tree))));
       counted = omega (arith, items_len-push b.items first.tree, b.counted);
       wide = ap (λ (l : List Mark). length l) (flat_items-push b.items first.tree)
-      ∙ (length-append (flat_items b.items) (flat first.tree) ∙ ap (λ n. n + length (flat first.tree)) b.wide);
+          ∙ (length-append (flat_items b.items) (flat first.tree) ∙ ap (λ n. n + length (flat first.tree)) b.wide);
     }
 
 item_more : (done at : ℕ) (ns : List Mark) (d : Mark) → AllBegin ns → BeginsItems done at ns → at < length ns → BeginsItems (done + 1) (at + width (get_or ns at d)) ns
@@ -130,10 +130,14 @@ members_next done at ns b first =
       members = with_member first.name first.tree b.members;
       rest = first.rest;
       are = b.are ∙ (ap (λ l. flat_members b.members ++ l) first.are ∙ (sym (append_assoc (flat_members b.members) (string first.name ∷ flat first.tree) first.rest)
-      ∙ ap (λ l. l ++ first.rest) (sym (flat_members-with_member b.members first.name first.tree))));
+          ∙ ap (λ l. l ++ first.rest) (sym (flat_members-with_member b.members first.name first.tree))));
       counted = omega (arith, members_len-with_member b.members first.name first.tree, b.counted);
-      wide = omega (arith, ap (λ (l : List Mark). length l) (flat_members-with_member b.members first.name first.tree),
-      length-append (flat_members b.members) (string first.name ∷ flat first.tree), b.wide);
+      wide = omega (
+        arith,
+        ap (λ (l : List Mark). length l) (flat_members-with_member b.members first.name first.tree),
+        length-append (flat_members b.members) (string first.name ∷ flat first.tree),
+        b.wide,
+      );
     }
 
 -- the member at the first node, where that is a key with a node behind it

@@ -32,7 +32,7 @@ begins_array len count ns b =
       tree = list b.items;
       rest = b.rest;
       are = ap (λ l. array len count ∷ l) b.are
-      ∙ (ap (λ n. array n count ∷ (flat_items b.items ++ b.rest)) (sym b.counted) ∙ ap (λ n. array (items_len b.items) n ∷ (flat_items b.items ++ b.rest)) (sym b.wide));
+          ∙ (ap (λ n. array n count ∷ (flat_items b.items ++ b.rest)) (sym b.counted) ∙ ap (λ n. array (items_len b.items) n ∷ (flat_items b.items ++ b.rest)) (sym b.wide));
     }
 
 pub begins_object : (len count : ℕ) (ns : List Mark) → BeginsMembers len count ns → BeginsTree (object len count ∷ ns)
@@ -41,7 +41,7 @@ begins_object len count ns b =
       tree = obj b.members;
       rest = b.rest;
       are = ap (λ l. object len count ∷ l) b.are
-      ∙ (ap (λ n. object n count ∷ (flat_members b.members ++ b.rest)) (sym b.counted) ∙ ap (λ n. object (members_len b.members) n ∷ (flat_members b.members ++ b.rest)) (sym b.wide));
+          ∙ (ap (λ n. object n count ∷ (flat_members b.members ++ b.rest)) (sym b.counted) ∙ ap (λ n. object (members_len b.members) n ∷ (flat_members b.members ++ b.rest)) (sym b.wide));
     }
 
 pub items_of_array : (len count : ℕ) (ns : List Mark) → BeginsTree (array len count ∷ ns) → BeginsItems len count ns
@@ -123,18 +123,20 @@ pub array_test : (len count : ℕ) (n : Node) (ns : List Mark) (r : Option ℕ) 
     → IsTrue b ↔ BeginsTree (mark n ∷ ns)
 array_test len count n ns None b a none some e =
     (λ t. let h : true ≡ false = sym t ∙ e in cc, λ t. absurd (none count (items_of_array len count ns (subst (λ m. BeginsTree (mark m ∷ ns)) a t))))
-array_test len count n ns (Some m) b a none some e =
-    (λ t. subst (λ m. BeginsTree (mark m ∷ ns)) (sym a) (begins_array len count ns (subst (λ k. BeginsItems len k ns) (eqb-true m count (sym e ∙ t)) some)),
-    λ t. e ∙ eq-eqb m count (items_count len m count ns some (items_of_array len count ns (subst (λ m. BeginsTree (mark m ∷ ns)) a t))))
+array_test len count n ns (Some m) b a none some e = (
+  λ t. subst (λ m. BeginsTree (mark m ∷ ns)) (sym a) (begins_array len count ns (subst (λ k. BeginsItems len k ns) (eqb-true m count (sym e ∙ t)) some)),
+  λ t. e ∙ eq-eqb m count (items_count len m count ns some (items_of_array len count ns (subst (λ m. BeginsTree (mark m ∷ ns)) a t))),
+)
 
 pub object_test : (len count : ℕ) (n : Node) (ns : List Mark) (r : Option ℕ) (b : Bool) → n ≡ Object len count
     → IfNone r ((m : ℕ) → ¬ (BeginsMembers len m ns)) → IfSome r (λ m. BeginsMembers len m ns) → b ≡ option_eq nat_eq r (Some count)
     → IsTrue b ↔ BeginsTree (mark n ∷ ns)
 object_test len count n ns None b a none some e =
     (λ t. let h : true ≡ false = sym t ∙ e in cc, λ t. absurd (none count (members_of_object len count ns (subst (λ m. BeginsTree (mark m ∷ ns)) a t))))
-object_test len count n ns (Some m) b a none some e =
-    (λ t. subst (λ m. BeginsTree (mark m ∷ ns)) (sym a) (begins_object len count ns (subst (λ k. BeginsMembers len k ns) (eqb-true m count (sym e ∙ t)) some)),
-    λ t. e ∙ eq-eqb m count (members_count len m count ns some (members_of_object len count ns (subst (λ m. BeginsTree (mark m ∷ ns)) a t))))
+object_test len count n ns (Some m) b a none some e = (
+  λ t. subst (λ m. BeginsTree (mark m ∷ ns)) (sym a) (begins_object len count ns (subst (λ k. BeginsMembers len k ns) (eqb-true m count (sym e ∙ t)) some)),
+  λ t. e ∙ eq-eqb m count (members_count len m count ns some (members_of_object len count ns (subst (λ m. BeginsTree (mark m ∷ ns)) a t))),
+)
 
 -- the nodes from a place on, as the one there and those behind it
 pub marks_from : (nodes : List Node) (i : ℕ) → i < length nodes
@@ -163,6 +165,7 @@ empty_marks (n ∷ nodes) e = absurd (omega (arith, e))
 
 pub whole_test : (nodes first rest : List Node) (b : Bool) → IsPreorder (marks first) → marks nodes ≡ marks first ++ marks rest → b ≡ nat_eq (length rest) 0
     → IsTrue b ↔ IsPreorder (marks nodes)
-whole_test nodes first rest b f e h =
-    (λ t. preorder_first (marks nodes) (marks first) (marks rest) f e (empty_marks rest (eqb-true (length rest) 0 (sym h ∙ t))),
-    λ p. h ∙ eq-eqb (length rest) 0 (sym (length-map rest mark) ∙ ap (λ (l : List Mark). length l) (preorder_alone (marks nodes) (marks first) (marks rest) f e p)))
+whole_test nodes first rest b f e h = (
+  λ t. preorder_first (marks nodes) (marks first) (marks rest) f e (empty_marks rest (eqb-true (length rest) 0 (sym h ∙ t))),
+  λ p. h ∙ eq-eqb (length rest) 0 (sym (length-map rest mark) ∙ ap (λ (l : List Mark). length l) (preorder_alone (marks nodes) (marks first) (marks rest) f e p)),
+)

@@ -60,7 +60,7 @@ first_width nodes d b =
       some = omega (arith, lens, length-flat b.tree);
       fits = omega (arith, lens, w);
       whole = IsPreorder-flat b.tree _ (ap (λ n. marks (take n nodes)) w
-      ∙ (sym (take-map mark (length (flat b.tree)) nodes) ∙ (ap (λ l. take (length (flat b.tree)) l) b.are ∙ take_at (flat b.tree) b.rest (length (flat b.tree)) refl)));
+          ∙ (sym (take-map mark (length (flat b.tree)) nodes) ∙ (ap (λ l. take (length (flat b.tree)) l) b.are ∙ take_at (flat b.tree) b.rest (length (flat b.tree)) refl)));
     }
 
 trees_of-flat_items : (is : Items) → trees_of (flat_items is) ≡ listed is
@@ -174,7 +174,7 @@ next_member ns values name first rest a n p e =
     record {
       rest_are = AreMembers-flat f.others rest both.1;
       members = f.members ∙ (ap (λ k. member k f.tree f.others) named ∙ (ap (λ t. member name t f.others) (sym both.0)
-      ∙ ap (λ l. member name (tree_of first) l) (sym (members_in-flat f.others) ∙ ap (λ l. members_in l) (sym both.1))));
+          ∙ ap (λ l. member name (tree_of first) l) (sym (members_in-flat f.others) ∙ ap (λ l. members_in l) (sym both.1))));
     }
 
 -- an item by its place

@@ -1,4 +1,8 @@
 pub mod Marks
+pub mod Parse
+pub mod Pieces
+pub mod Room
+pub mod Run
 pub mod Parts
 pub mod Fronts
 pub mod Value

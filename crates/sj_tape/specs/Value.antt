@@ -1,5 +1,6 @@
 -- What a part of a tape means.
-use Rattle.sj_text_core.specs.Tree.{Tree}
+use Rattle.std.specs.Prelude.{Option, Some, None}
+use Rattle.sj_text_core.specs.Tree.{Tree, null, boolean, int, text, list, obj}
 use Rattle.sj_text_core.specs.Nodes.{tree_of}
 use Rattle.sj_tape.specs.Marks.{marks}
 use Rattle.sj_tape.specs.declared.value.Value.{Value}
@@ -7,3 +8,12 @@ use Rattle.sj_tape.specs.declared.value.Value.{Value}
 -- the tree that a part of a tape lists
 abbrev pub tree : Value → Tree
 tree v = tree_of (marks v.nodes.now)
+
+-- the tree itself, where it is a null, a truth value or a whole number
+abbrev pub as_scalar : Tree → Option Tree
+as_scalar null = Some null
+as_scalar (boolean b) = Some (boolean b)
+as_scalar (int n c) = Some (int n c)
+as_scalar (text s) = None
+as_scalar (list is) = None
+as_scalar (obj ms) = None

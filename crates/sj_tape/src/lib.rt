@@ -1,11 +1,12 @@
-//! Tapes: the nodes of one tree in preorder, and reads of them.
+//! Tapes: the nodes of one tree in preorder, the reader that makes them of a text, and reads of
+//! them.
 #![tactic(auto)]
 
 pub mod array;
 mod node;
 pub mod object;
 mod preorder;
-mod scalar;
+mod reader;
 mod step;
 mod tape;
 #[cfg(test)]
@@ -15,5 +16,6 @@ mod value;
 pub use array::Array;
 pub use node::Node;
 pub use object::Object;
+pub use reader::{Buffers, DEPTH_LIMIT, to_tape, to_tape_with_buffers};
 pub use tape::Tape;
 pub use value::Value;

@@ -3,7 +3,7 @@
 use sj_text_core::StaticNode;
 
 /// One node of a tape.
-#[derive(Clone, Copy, Debug)]
+#[derive(Clone, Copy, Debug, PartialEq, Eq)]
 pub enum Node<'i> {
     /// A null, a truth value or a whole number.
     Static(StaticNode),

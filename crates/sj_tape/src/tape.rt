@@ -35,7 +35,8 @@ impl<'i> Tape<'i> {
 
     /// The tape of the nodes, where they are the preorder of one tree, of any depth.
     ///
-    /// Else they are refused, and come back. It takes no memory and time in the number of nodes.
+    /// Else they are refused, and come back as given. It takes no memory, and time in proportion
+    /// to the number of nodes.
     pub fn new(nodes: Vec<Node<'i>>) -> Result<Tape<'i>, Refused<BadTape, Vec<Node<'i>>>>
         ensures accepts { IsOk result ↔ IsPreorder (marks nodes.entry.items) }
         ensures tree { IfOk result (λ t. flat t ≡ marks nodes.entry.items) }

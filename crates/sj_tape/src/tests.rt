@@ -1,1 +1,2 @@
+mod reader;
 mod values;

@@ -6,11 +6,12 @@ ghost use Rattle.sj_text_core.specs.Code.{mark_code};
 ghost use Rattle.sj_text_core.specs.Nodes.{IsPreorder};
 ghost use Rattle.sj_tape.specs.Marks.{marks};
 
+mod typed;
+
 use crate::array::Array;
 use crate::node::Node;
 use crate::object::Object;
-use crate::scalar;
-use sj_text_core::{StaticNode, ValueType};
+use sj_text_core::StaticNode;
 
 /// A part of a tape, or a null of its own.
 #[derive(Clone, Copy, Debug)]
@@ -20,14 +21,15 @@ pub struct Value<'t, 'i> {
 }
 
 impl<'t, 'i> Value<'t, 'i> {
-    ghost use Rattle.std.specs.Prelude.{◌≡◌, ◌↔◌, IsTrue, IsSome, is_some, option_map};
+    ghost use Rattle.std.specs.Prelude.{◌≡◌, is_some, option_map};
     ghost use Rattle.sj_text_core.specs.Find.{find, nth};
     ghost use Rattle.sj_text_core.specs.Nodes.{tree_of};
-    ghost use Rattle.sj_text_core.specs.Reads.{kind_of, as_boolean, as_items, as_members, as_signed, as_text, as_unsigned};
+    ghost use Rattle.sj_text_core.specs.Reads.{as_items, as_members, as_text};
     ghost use Rattle.sj_text_core.specs.Tree.{null};
     ghost use Rattle.sj_tape.specs.Items.{items};
     ghost use Rattle.sj_tape.specs.Members.{members};
-    ghost use Rattle.sj_tape.specs.Value.{tree};
+    ghost use Rattle.sj_tape.specs.Value.{tree, as_scalar};
+    ghost use Rattle.sj_text_core.specs.Scalars.{static_tree};
 
     /// A null of its own.
     pub fn null() -> Self
@@ -52,18 +54,6 @@ impl<'t, 'i> Value<'t, 'i> {
         ensures tree { tree_of (marks result.now) ≡ tree self.now }
     {
         self.nodes
-    }
-
-    /// The kind; of a number, its carrier.
-    pub fn value_type(&self) -> ValueType
-        ensures { result ≡ kind_of (tree self.now) }
-    {
-        match self.nodes[0] {
-            Node::Static(scalar) => scalar::kind(scalar),
-            Node::String(_) => ValueType::String,
-            Node::Array { .. } => ValueType::Array,
-            Node::Object { .. } => ValueType::Object,
-        }
     }
 
     /// The items, where it is an array; else None.
@@ -110,53 +100,23 @@ impl<'t, 'i> Value<'t, 'i> {
         self.as_array()?.get(index)
     }
 
-    /// The unit, where it is null; else None.
-    pub fn as_null(&self) -> Option<()>
-        ensures { IsSome result ↔ (tree self.now ≡ null) }
-    {
-        match self.nodes[0] {
-            Node::Static(StaticNode::Null) => Some(()),
-            _ => None,
-        }
-    }
-
-    /// The truth value, where it is one; else None.
-    pub fn as_bool(&self) -> Option<bool>
-        ensures { result ≡ as_boolean (tree self.now) }
-    {
-        match self.nodes[0] {
-            Node::Static(StaticNode::Bool(truth)) => Some(truth),
-            _ => None,
-        }
-    }
-
-    /// The number, where it is a whole number from -2^127 to 2^127-1, whatever its carrier; else
-    /// None.
-    pub fn as_i128(&self) -> Option<i128>
-        ensures { result ≡ as_signed 128 (tree self.now) }
-    {
-        match self.nodes[0] {
-            Node::Static(scalar) => scalar::signed(scalar),
-            _ => None,
-        }
-    }
-
-    /// The number, where it is a whole number from 0 to 2^128-1, whatever its carrier; else None.
-    pub fn as_u128(&self) -> Option<u128>
-        ensures { result ≡ as_unsigned 128 (tree self.now) }
-    {
-        match self.nodes[0] {
-            Node::Static(scalar) => scalar::unsigned(scalar),
-            _ => None,
-        }
-    }
-
     /// The text, where it is one, for as long as the input lives; else None.
     pub fn into_string(self) -> Option<&'i str>
         ensures { option_map (λ s. s.now) result ≡ as_text (tree self.entry) }
     {
         match self.nodes[0] {
             Node::String(text) => Some(text),
+            _ => None,
+        }
+    }
+
+    /// The scalar with its carrier, where it is a null, a truth value or a whole number; else
+    /// None.
+    pub fn as_static(&self) -> Option<StaticNode>
+        ensures { option_map static_tree result ≡ as_scalar (tree self.now) }
+    {
+        match self.nodes[0] {
+            Node::Static(scalar) => Some(scalar),
             _ => None,
         }
     }

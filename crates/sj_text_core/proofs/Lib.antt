@@ -3,3 +3,7 @@ pub mod Preorders
 pub mod Characters
 pub mod Proper
 pub mod rows
+pub mod Escapes
+pub mod Lanes
+pub mod Runs
+pub mod Utf8

@@ -13,3 +13,7 @@ pub mod Code
 pub mod Scalars
 pub mod Reads
 pub mod Laws
+pub mod ScalarValues
+pub mod Nulls
+pub mod Generators
+pub mod Runs

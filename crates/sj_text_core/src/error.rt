@@ -48,8 +48,10 @@ pub enum WriteError {
 /// Why a value was not changed.
 #[derive(Clone, Copy, Debug, PartialEq, Eq, Error)]
 pub enum AccessError {
+    /// The target is no object.
     #[error("not an object")]
     NotAnObject,
+    /// The target is no array.
     #[error("not an array")]
     NotAnArray,
     /// A request for memory was refused.
@@ -76,5 +78,49 @@ impl<T: Drop> From<AllocFailed<T>> for ErrorKind {
 
     fn from(_error: AllocFailed<T>) -> ErrorKind {
         ErrorKind::OutOfMemory
+    }
+}
+
+impl From<AllocError> for WriteError {
+    ghost use Rattle.std.specs.Prelude.{◌≡◌};
+    ghost use Rattle.sj_text_core.specs.declared.error.WriteError.TheVariants.{OutOfMemory};
+
+    ghost from_gives = { λ _ e. e ≡ OutOfMemory };
+
+    fn from(_error: AllocError) -> WriteError {
+        WriteError::OutOfMemory
+    }
+}
+
+impl<T: Drop> From<AllocFailed<T>> for WriteError {
+    ghost use Rattle.std.specs.Prelude.{◌≡◌};
+    ghost use Rattle.sj_text_core.specs.declared.error.WriteError.TheVariants.{OutOfMemory};
+
+    ghost from_gives = { λ _ e. e ≡ OutOfMemory };
+
+    fn from(_error: AllocFailed<T>) -> WriteError {
+        WriteError::OutOfMemory
+    }
+}
+
+impl From<AllocError> for AccessError {
+    ghost use Rattle.std.specs.Prelude.{◌≡◌};
+    ghost use Rattle.sj_text_core.specs.declared.error.AccessError.TheVariants.{OutOfMemory};
+
+    ghost from_gives = { λ _ e. e ≡ OutOfMemory };
+
+    fn from(_error: AllocError) -> AccessError {
+        AccessError::OutOfMemory
+    }
+}
+
+impl<T: Drop> From<AllocFailed<T>> for AccessError {
+    ghost use Rattle.std.specs.Prelude.{◌≡◌};
+    ghost use Rattle.sj_text_core.specs.declared.error.AccessError.TheVariants.{OutOfMemory};
+
+    ghost from_gives = { λ _ e. e ≡ OutOfMemory };
+
+    fn from(_error: AllocFailed<T>) -> AccessError {
+        AccessError::OutOfMemory
     }
 }

@@ -2,12 +2,33 @@
 #![tactic(auto)]
 
 mod error;
+mod generator;
 pub mod laws;
+mod meaning;
 mod refused;
+mod same_as;
 mod static_node;
+mod steps;
+mod try_make;
+mod typed_value;
+mod value_as_scalar;
 mod value_type;
+mod writable;
 
 pub use error::{AccessError, BadTape, ErrorKind, WriteError};
+pub use generator::{
+    BaseGenerator, DumpGenerator, PrettyGenerator, PrettyWriterGenerator, WriterGenerator,
+};
+pub use meaning::Meaning;
 pub use refused::Refused;
+pub use same_as::SameAs;
 pub use static_node::StaticNode;
+pub use steps::Steps;
+pub use try_make::TryMake;
+pub use typed_value::TypedValue;
+pub use value_as_scalar::ValueAsScalar;
 pub use value_type::{ExtendedValueType, TryTypeError, ValueType};
+pub use writable::Writable;
+
+#[cfg(test)]
+mod tests;

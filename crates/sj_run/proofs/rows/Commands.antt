@@ -81,3 +81,7 @@ served_first-len = refl
 
 served_first-path : served_first (read (by_place 0 ∷ []) encode) ≡ bad
 served_first-path = refl
+
+-- ["encode",[],1,2,3]
+command_in-too_long : command_in (line (word (codes "encode") ∷ root ∷ int (pos 1) u64 ∷ int (pos 2) u64 ∷ int (pos 3) u64 ∷ [])) ≡ bad
+command_in-too_long = refl

@@ -1,11 +1,12 @@
 //! Tapes made of lists of nodes, and reads of their parts.
 
 use crate::{Node, Tape, Value};
-use sj_text_core::{StaticNode, ValueType};
+use sj_text_core::{StaticNode, TypedValue, ValueAsScalar, ValueType};
 use std::alloc::Global;
 use std::test::Fail;
 
 const NULL: Node<'static> = Node::Static(StaticNode::Null);
+
 const KEY: Node<'static> = Node::String("k");
 
 fn number(n: u64) -> Node<'static> {
@@ -79,7 +80,17 @@ fn nested_arrays(rt: HostRuntime) -> Result<(), Fail> {
 fn members(rt: HostRuntime) -> Result<(), Fail> {
     // {"x":{"k":1},"k":2,"x":3}
     let x = Node::String("x");
-    let nodes = [object(3, 8), x, object(1, 2), KEY, number(1), KEY, number(2), x, number(3)];
+    let nodes = [
+        object(3, 8),
+        x,
+        object(1, 2),
+        KEY,
+        number(1),
+        KEY,
+        number(2),
+        x,
+        number(3),
+    ];
     let tape = tape(rt.alloc(), &nodes)?;
     let whole = tape.as_value();
     assert_eq!(rt; whole.get("k").and_then(|v| v.as_u128()), Some(2));
@@ -105,7 +116,14 @@ fn members(rt: HostRuntime) -> Result<(), Fail> {
 #[test]
 fn items(rt: HostRuntime) -> Result<(), Fail> {
     // [1,[2,3],4]
-    let nodes = [array(3, 5), number(1), array(2, 2), number(2), number(3), number(4)];
+    let nodes = [
+        array(3, 5),
+        number(1),
+        array(2, 2),
+        number(2),
+        number(3),
+        number(4),
+    ];
     let tape = tape(rt.alloc(), &nodes)?;
     let whole = tape.as_value();
     let array = whole.as_array().ok_or("an array")?;
@@ -127,9 +145,24 @@ fn scalars(rt: HostRuntime) -> Result<(), Fail> {
         (StaticNode::I64(-1), ValueType::I64, Some(-1), None),
         (StaticNode::I64(5), ValueType::I64, Some(5), Some(5)),
         (StaticNode::U64(7), ValueType::U64, Some(7), Some(7)),
-        (StaticNode::I128(i128::MIN), ValueType::I128, Some(i128::MIN), None),
-        (StaticNode::I128(i128::MAX), ValueType::I128, Some(i128::MAX), Some(i128::MAX as u128)),
-        (StaticNode::U128(u128::MAX), ValueType::U128, None, Some(u128::MAX)),
+        (
+            StaticNode::I128(i128::MIN),
+            ValueType::I128,
+            Some(i128::MIN),
+            None,
+        ),
+        (
+            StaticNode::I128(i128::MAX),
+            ValueType::I128,
+            Some(i128::MAX),
+            Some(i128::MAX as u128),
+        ),
+        (
+            StaticNode::U128(u128::MAX),
+            ValueType::U128,
+            None,
+            Some(u128::MAX),
+        ),
     ];
     for (scalar, kind, signed, unsigned) in rows {
         let tape = tape(rt.alloc(), &[Node::Static(scalar)])?;

@@ -89,3 +89,7 @@ hash-k00 = refl
 -- a hash past 2^64 is taken modulo that
 hash-AaAaAaAaAaAa : hash (codes "AaAaAaAaAaAa") ≡ 1732858124334809472
 hash-AaAaAaAaAaAa = refl
+
+-- as large as 64 bits hold
+hash-z14 : hash (codes "zzzzzzzzzzzzzz") ≡ 16079153662119467712
+hash-z14 = refl

@@ -93,3 +93,10 @@ not_same-empty h = h
 
 not_same-text : Same (text (codes "1")) one → ⊥
 not_same-text h = let e : one ≡ text (codes "1") = h in cc e
+
+-- [1] and [1,2]
+not_same-beginning : Same (list (item one no_items)) (list (item one (item two no_items))) → ⊥
+not_same-beginning h = let e : item two no_items ≡ no_items = h.1 in cc e
+
+not_same-beginning_back : Same (list (item one (item two no_items))) (list (item one no_items)) → ⊥
+not_same-beginning_back h = h.1

@@ -1,4 +1,4 @@
-use Rattle.std.proofs.Common.{◌≡◌, ◌+◌, ◌-◌, suc, drop, ap, sym, ◌∙◌, refl, arith, IfOk}
+use Rattle.std.proofs.Common.{◌≡◌, ◌-◌, drop, ap, ◌∙◌, refl, arith}
 use Rattle.std.proofs.lemmas.Result.{IfOk-weaker}
 use Rattle.sj_tape.specs.Marks.{mark, marks}
 use Rattle.sj_object.specs.Piles.{pile}

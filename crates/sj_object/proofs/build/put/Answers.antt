@@ -1,4 +1,4 @@
-use Rattle.std.proofs.Common.{◌≡◌, ◌∷◌, [], ◌++◌, refl}
+use Rattle.std.proofs.Common.{refl}
 use Rattle.sj_object.specs.Piles.{word}
 use Rattle.sj_object.proofs.Piles.{put_on, scalar_on, array_on, object_on}
 use Rattle.sj_object.proofs.build.put.Goals as goal

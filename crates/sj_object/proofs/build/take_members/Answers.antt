@@ -1,4 +1,4 @@
-use Rattle.std.proofs.Common.{◌≡◌, ◌+◌, ◌-◌, ℕ, suc, List, ◌∷◌, length, arith, refl, sym, ap, ◌∙◌}
+use Rattle.std.proofs.Common.{◌≡◌, ◌+◌, ◌-◌, suc, List, ◌∷◌, length, arith, refl, sym, ap, ◌∙◌}
 use Rattle.sj_object.specs.Piles.{Seen, word, part_seen, pile, pairs_seen, kept, shown}
 use Rattle.sj_object.proofs.Piles.{word_of, member_off, popped, built_popped, pile_len}
 use Rattle.sj_object.proofs.build.take_members.Goals as goal
@@ -30,7 +30,7 @@ loop-i-preserved g c =
       told = ap (λ d. kept d (pairs_seen m qs)) c.in_ok-put_member.ensures.means ∙ sym (ap (kept (shown tree (g.V.Map.MapOf.entries c.loop-i.members))) off.0) ∙ inv.told;
       rest = sym off.1 ∙ inv.rest;
       made = λ h.
-        let a = inv.made h in
-        let d = built_popped g.V.Made.built c.take_text-text.new.parts.items c.take_part-part.new.parts.items p c.take_part-part.ensures (c.take_text-text.ensures.property a.1) in
-        (c.in_ok-put_member.ensures.property a.0 d.1, d.0);
+          let a = inv.made h in
+          let d = built_popped g.V.Made.built c.take_text-text.new.parts.items c.take_part-part.new.parts.items p c.take_part-part.ensures (c.take_text-text.ensures.property a.1) in
+          (c.in_ok-put_member.ensures.property a.0 d.1, d.0);
     }

@@ -1,6 +1,6 @@
-use Rattle.std.proofs.Common.{rules, ◌≡◌, ◌≤◌, ◌+◌, ◌-◌, suc, [], ◌∷◌, ◌++◌, map, take, drop, length, All, arith, refl, sym, ap, ◌∙◌, subst, length-append}
+use Rattle.std.proofs.Common.{rules, ◌≡◌, ◌+◌, ◌-◌, suc, [], ◌∷◌, ◌++◌, map, take, drop, length, All, arith, sym, ap, ◌∙◌, subst, length-append}
 use Rattle.std.proofs.lemmas.List.Elements.{All-nil, All-push}
-use Rattle.sj_object.specs.Piles.{tree_seen, part_built, pile}
+use Rattle.sj_object.specs.Piles.{tree_seen, pile}
 use Rattle.sj_object.proofs.Piles.{taken, dropped, built_popped, pile_len}
 use Rattle.sj_object.proofs.build.take_values.Goals as goal
 
@@ -32,7 +32,7 @@ loop-i-preserved g c =
       rest = dropped tree _ _ _ e ps qs p inv.rest off;
       room = omega (arith, inv.room, ap length off, length-append qs (p ∷ []));
       made = λ h.
-        let a = inv.made h in
-        let d = built_popped built ps qs p off a.1 in
-        (subst (All built) (sym c.in_ok-push.ensures.items) (All-push built c.loop-i.items.items c.in_ok-value_of.field-0 a.0 (c.in_ok-value_of.ensures.property d.1)), d.0);
+          let a = inv.made h in
+          let d = built_popped built ps qs p off a.1 in
+          (subst (All built) (sym c.in_ok-push.ensures.items) (All-push built c.loop-i.items.items c.in_ok-value_of.field-0 a.0 (c.in_ok-value_of.ensures.property d.1)), d.0);
     }

@@ -11,9 +11,10 @@ pub begins_tree-requires : goal.begins_tree-requires
 begins_tree-requires c = AllBegin-behind c.args.nodes.now (c.loop-at.at - 1) c.loop-at.at (omega arith) c.loop-at.invariant
 
 pub returns-then-not-begins_tree : goal.returns-then-not-begins_tree
-returns-then-not-begins_tree c =
-    (λ t. absurd (cc),
-    λ p. absurd (let t = c.begins_tree.ensures.1 (begins_within c.args.nodes.now (c.loop-at.at - 1) (omega arith) p) in cc))
+returns-then-not-begins_tree c = (
+  λ t. absurd (cc),
+  λ p. absurd (let t = c.begins_tree.ensures.1 (begins_within c.args.nodes.now (c.loop-at.at - 1) (omega arith) p) in cc),
+)
 
 pub loop-at-preserved : goal.loop-at-preserved
 loop-at-preserved c =

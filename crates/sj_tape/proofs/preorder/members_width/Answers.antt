@@ -22,8 +22,8 @@ returns-then-at-nodes-clause-none c =
     members_none c.loop.counter c.loop.at c.args.len c.args.nodes.now c.loop.invariant.done (omega arith)
     (λ (l : c.loop.at + 1 < length c.args.nodes.now) (k : IsText (mark (get_or c.args.nodes.now c.loop.at (Static Null)))).
     elim c.then-at-nodes.branch [
-      then-at-nodes-via-then-at-nodes w ↦ absurd (omega (arith, l))
-    | then-at-nodes-via-else-at-nodes+then-not-is_text w ↦ is_not _ _ w.is_text.ensures w.if-not-is_text.true k
+      | then-at-nodes-via-then-at-nodes w ↦ absurd (omega (arith, l))
+      | then-at-nodes-via-else-at-nodes+then-not-is_text w ↦ is_not _ _ w.is_text.ensures w.if-not-is_text.true k
     ])
 
 pub width_of-requires : goal.width_of-requires

@@ -20,7 +20,7 @@ split_tree-requires c =
 pub invariant_of-self : goal.invariant_of-self
 invariant_of-self c = record {
   whole = (next_item (marks c.args.self.now.nodes.now) (marks c.split_tree.result.0.now) (marks c.split_tree.result.1.now) c.args.self.now.whole
-  (some_nodes _ _ c.is_empty.ensures c.if-is_empty.false) c.split_tree.ensures.whole c.split_tree.ensures.all).rest_are;
+      (some_nodes _ _ c.is_empty.ensures c.if-is_empty.false) c.split_tree.ensures.whole c.split_tree.ensures.all).rest_are;
 }
 
 pub returns-clause-steps : goal.returns-clause-steps

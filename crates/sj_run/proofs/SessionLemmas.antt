@@ -1,0 +1,290 @@
+-- Steps of a session.
+use Rattle.std.proofs.Common.{◌≡◌, ◌⊎◌, ℕ, zero, suc, ◌+◌, ◌-◌, ◌<◌, ◌≤◌, Bool, true, false, not, List, [], ◌∷◌, ◌++◌, length, take, drop, map, refl, sym, ap, ◌∙◌, subst, append_assoc, append-nil, length-append, arith, inl, inr, if◌then◌else◌, codes, bytes_eq, Option, Some, None, Result, Ok, Err, true≢false}
+use Rattle.std.specs.Prelude.{filter, OnOk, OnErr, ◌≢◌}
+use Rattle.std.specs.Result.{is_err}
+use Rattle.std.specs.List.{slice_range}
+use Rattle.std.proofs.lemmas.List.Concat.{flat_map-cons}
+use Rattle.std.proofs.lemmas.Slice.{drop-put_mid}
+use borrow.Rule.Slice.PartMut.{put_mid}
+use Rattle.std.proofs.lemmas.List.{take_all, take-take, length-drop, length-take-le, drop-drop}
+use Rattle.sj_text_core.specs.Tree.{Tree, null, boolean, int, text, list, obj, Items, no_items, item, Members, IsWithin}
+use Rattle.sj_text_core.specs.Grammar.{Spells, IsReadable}
+use Rattle.sj_text_core.specs.Keep.{keep, keep_items, IsKept}
+use Rattle.sj_text_core.specs.Find.{find_member}
+use Rattle.sj_text_core.specs.Edits.{put}
+use Rattle.sj_run.specs.Commands.{PlainCommand, read, write, bad, encode, insert}
+use Rattle.sj_run.specs.Commands as command
+use Rattle.sj_run.specs.CommandLines.{IsCommandOf, AreCommandsOf, served_first, command_in}
+use Rattle.sj_run.specs.Answers.{start, answer, changed, replies_of, tree_after}
+use Rattle.sj_run.specs.Answered.{Answers, AnswersLine, AnswersLines}
+use Rattle.sj_run.specs.Replies.{PlainReply}
+use Rattle.sj_run.specs.Replies as reply
+use Rattle.sj_run.specs.Shown.{shown, shown_all}
+use Rattle.sj_run.specs.Session.{IsServed, IsAnswered}
+use Rattle.sj_run.specs.declared.sessions.Form.{Form}
+use Rattle.sj_run.specs.declared.sessions.Form.TheVariants.{Owned, Borrowed, Lazy}
+use Rattle.sj_run.specs.declared.sessions.Way.{Way}
+use Rattle.sj_run.specs.declared.sessions.Way.TheVariants.{ByText, ByKnownKey}
+use Rattle.sj_run.specs.declared.sessions.SessionFault.{SessionFault}
+use Rattle.sj_run.specs.declared.sessions.SessionFault.TheVariants.{Refused, OutOfMemory as NoMemory}
+use Rattle.sj_text_core.specs.declared.error.ErrorKind.{ErrorKind}
+use Rattle.sj_text_core.specs.declared.error.ErrorKind.TheVariants.{InvalidUtf8, Syntax, LoneSurrogate, Float, NumberTooLarge, TooDeep, OutOfMemory}
+use Rattle.std.proofs.Math.Seq.{take-append_seam}
+use Rattle.sj_run.specs.Lines.{document, lines, after_mark, full_lines, line_text, line_texts, is_empty}
+use Rattle.sj_run.specs.Document.{IsBegunBy}
+use Rattle.sj_run.specs.FirstPath.{first_two, first_four, first_of_items, first_in}
+use Rattle.sj_run.proofs.FirstPathLemmas.{served-command_in}
+use Rattle.sj_run.proofs.LineLemmas.{LineAt}
+
+-- a command with the first member of each key of its value
+abbrev pub kept_command : PlainCommand → PlainCommand
+kept_command (write p (insert k v)) = write p (insert k (keep v))
+kept_command c = c
+
+kept_if : (x : Bool) (c : PlainCommand) → kept_command c ≡ c → (if x then c else bad) ≡ kept_command (if x then c else bad)
+kept_if true c h = sym h
+kept_if false c h = refl
+
+kept_insert : (x : Bool) (k : List ℕ) (v : Tree) → (if x then write [] (insert k (keep v)) else bad) ≡ kept_command (if x then write [] (insert k v) else bad)
+kept_insert true k v = refl
+kept_insert false k v = refl
+
+two-keep : (a b : Tree) → first_two (keep a) (keep b) ≡ kept_command (first_two a b)
+two-keep null b = refl
+two-keep (boolean x) b = refl
+two-keep (int n c) b = refl
+two-keep (text s) null = refl
+two-keep (text s) (boolean x) = refl
+two-keep (text s) (int n c) = refl
+two-keep (text s) (text x) = refl
+two-keep (text s) (list no_items) = kept_if (bytes_eq s (codes "encode")) (read [] encode) refl
+two-keep (text s) (list (item t is)) = refl
+two-keep (text s) (obj ms) = refl
+two-keep (list is) b = refl
+two-keep (obj ms) b = refl
+
+four-keep : (a b c d : Tree) → first_four (keep a) (keep b) (keep c) (keep d) ≡ kept_command (first_four a b c d)
+four-keep null b c d = refl
+four-keep (boolean x) b c d = refl
+four-keep (int n y) b c d = refl
+four-keep (text s) null c d = refl
+four-keep (text s) (boolean x) c d = refl
+four-keep (text s) (int n y) c d = refl
+four-keep (text s) (text x) c d = refl
+four-keep (text s) (list no_items) null d = refl
+four-keep (text s) (list no_items) (boolean x) d = refl
+four-keep (text s) (list no_items) (int n y) d = refl
+four-keep (text s) (list no_items) (text k) d = kept_insert (bytes_eq s (codes "insert")) k d
+four-keep (text s) (list no_items) (list is) d = refl
+four-keep (text s) (list no_items) (obj ms) d = refl
+four-keep (text s) (list (item t is)) c d = refl
+four-keep (text s) (obj ms) c d = refl
+four-keep (list is) b c d = refl
+four-keep (obj ms) b c d = refl
+
+items-keep : (is : Items) → first_of_items (keep_items is) ≡ kept_command (first_of_items is)
+items-keep no_items = refl
+items-keep (item a no_items) = refl
+items-keep (item a (item b no_items)) = two-keep a b
+items-keep (item a (item b (item c no_items))) = refl
+items-keep (item a (item b (item c (item d no_items)))) = four-keep a b c d
+items-keep (item a (item b (item c (item d (item e is))))) = refl
+
+-- keeping the first member of each key changes the value of an insert alone
+pub first_in-keep : (t : Tree) → first_in (keep t) ≡ kept_command (first_in t)
+first_in-keep null = refl
+first_in-keep (boolean b) = refl
+first_in-keep (int n c) = refl
+first_in-keep (text s) = refl
+first_in-keep (list is) = items-keep is
+first_in-keep (obj ms) = refl
+
+-- the answer to a line that spells a tree
+pub readable_line : (t u v : Tree) (line old new : List ℕ) → Spells line u → IsWithin u → Answers t (first_in (keep u)) v old new → AnswersLine t line v old new
+readable_line t u v line old new s w a =
+    record { command = command_in (keep u); is = inl (u, s, w, refl); answers = subst (λ (c : PlainCommand). Answers t c v old new) (sym (served-command_in (keep u))) a }
+
+-- the answer to any other line
+pub unreadable_line : (t : Tree) (line old new : List ℕ) → (IsReadable line → ⊥) → new ≡ old ++ codes "bad command\n" → AnswersLine t line t old new
+unreadable_line t line old new h e = record { command = bad; is = inr (h, refl); answers = record { after = refl; shows = e } }
+
+-- an insert at the empty path of a tree in which no object has a key twice
+pub inserts : (t v u : Tree) (k : List ℕ) (r : PlainReply) (old new : List ℕ) → IsKept t → r ≡ (changed (insert k v) t).1 → u ≡ (changed (insert k v) t).0
+    → new ≡ old ++ shown r → Answers t (write [] (insert k v)) u old new
+inserts t v u k r old new kept e f g =
+    record { after = f ∙ ap (λ x. (changed (insert k v) x).0) (sym kept); shows = g ∙ ap (λ x. old ++ shown x) (e ∙ ap (λ x. (changed (insert k v) x).1) (sym kept)) }
+
+-- lines answered in turn
+pub answers-none : (t : Tree) (old : List ℕ) → AnswersLines t [] t old old
+answers-none t old = record { commands = []; are = tt; after = refl; shows = sym (append-nil old) }
+
+pub answers-more : (t u v : Tree) (line : List ℕ) (lines : List (List ℕ)) (old mid new : List ℕ)
+    → AnswersLine t line u old mid → AnswersLines u lines v mid new → AnswersLines t (line ∷ lines) v old new
+answers-more t u v line lines old mid new a b =
+    let c = served_first a.command in
+    let cs = map served_first b.commands in
+    record {
+      commands = a.command ∷ b.commands;
+      are = (a.is, b.are);
+      after = b.after ∙ ap (λ x. tree_after x cs) a.answers.after;
+      shows =
+        b.shows ∙ ap (λ x. x ++ shown_all (replies_of u cs)) a.answers.shows ∙ append_assoc old (shown (answer t c).1) (shown_all (replies_of u cs))
+        ∙ ap (λ x. old ++ (shown (answer t c).1 ++ shown_all (replies_of x cs))) a.answers.after
+        ∙ ap (λ x. old ++ x) (sym (flat_map-cons shown (answer t c).1 (replies_of (answer t c).0 cs)));
+    }
+
+-- the texts of lines, by whether the first has one
+texts-first : (l : List ℕ) (ls : List (List ℕ)) (m : List ℕ) → line_text l ≡ m → line_texts (l ∷ ls) ≡ (if not (is_empty m) then m ∷ line_texts ls else line_texts ls)
+texts-first l ls m e = ap (λ x. if not (is_empty x) then x ∷ line_texts ls else line_texts ls) e
+
+full : (m : List ℕ) (ls : List (List ℕ)) → 0 < length m → (if not (is_empty m) then m ∷ ls else ls) ≡ m ∷ ls
+full [] ls h = absurd (omega (arith, h))
+full (c ∷ m) ls h = refl
+
+-- the line at a place, and its text
+pub record TextAt (b : List ℕ) (at len n : ℕ) : Type 0 where
+  pub line : LineAt b at len
+  pub within : n ≤ len
+  pub text : take n (take len (drop at b)) ≡ line_text (take len (drop at b))
+
+rest_of : (b : List ℕ) (at len n : ℕ) → TextAt b at len n → line_texts (full_lines (drop at b)) ≡ line_texts (take len (drop at b) ∷ full_lines (drop (at + len) b))
+rest_of b at len n h = ap (λ ls. line_texts ls) (h.line.first ∙ ap (λ r. take len (drop at b) ∷ full_lines r) (drop-drop len at b))
+
+pub text-none : (b : List ℕ) (at len : ℕ) → TextAt b at len 0 → line_texts (full_lines (drop at b)) ≡ line_texts (full_lines (drop (at + len) b))
+text-none b at len h = rest_of b at len 0 h ∙ texts-first (take len (drop at b)) (full_lines (drop (at + len) b)) [] (sym h.text)
+
+pub text-some : (b : List ℕ) (at len n : ℕ) → 0 < n → TextAt b at len n → line_texts (full_lines (drop at b)) ≡ take n (drop at b) ∷ line_texts (full_lines (drop (at + len) b))
+text-some b at len n some h =
+    let t = take n (drop at b) in
+    let is : line_text (take len (drop at b)) ≡ t = sym h.text ∙ take-take n len (drop at b) h.within in
+    rest_of b at len n h ∙ texts-first (take len (drop at b)) (full_lines (drop (at + len) b)) t is
+    ∙ full t (line_texts (full_lines (drop (at + len) b))) (omega (arith, length-take-le n (drop at b) (omega (arith, h.within, h.line.within))))
+
+-- bytes that stay as they are
+pub begun_same : (old new : List ℕ) → new ≡ old → IsBegunBy old new
+begun_same old new e = record { rest = []; goes_on = e ∙ sym (append-nil old) }
+
+pub begun_more : (old mid new : List ℕ) → IsBegunBy old mid → IsBegunBy mid new → IsBegunBy old new
+begun_more old mid new a b = record { rest = a.rest ++ b.rest; goes_on = b.goes_on ∙ ap (λ x. x ++ b.rest) a.goes_on ∙ append_assoc old a.rest b.rest }
+
+pub grown : (old more new : List ℕ) → new ≡ old ++ more → IsBegunBy old new
+grown old more new e = record { rest = more; goes_on = e }
+
+-- what a line's value is, with the first member of each key
+pub meant_kept : (t : Tree) (c : PlainCommand) → c ≡ first_in t → first_in (keep t) ≡ kept_command c
+meant_kept t c e = first_in-keep t ∙ ap kept_command (sym e)
+
+pub bad_kept : (t v : Tree) (old new : List ℕ) → bad ≡ first_in v → new ≡ old ++ codes "bad command\n" → Answers t (first_in (keep v)) t old new
+bad_kept t v old new e f = subst (λ (c : PlainCommand). Answers t c t old new) (sym (meant_kept v bad e)) (record { after = refl; shows = f })
+
+pub encode_kept : (t v : Tree) (old new : List ℕ) → read [] encode ≡ first_in v → Answers t (read [] encode) t old new → Answers t (first_in (keep v)) t old new
+encode_kept t v old new e a = subst (λ (c : PlainCommand). Answers t c t old new) (sym (meant_kept v (read [] encode) e)) a
+
+pub insert_kept_value : (t u v w : Tree) (k old new : List ℕ) → write [] (insert k w) ≡ first_in v → Answers t (write [] (insert k (keep w))) u old new → Answers t (first_in (keep v)) u old new
+insert_kept_value t u v w k old new e a = subst (λ (c : PlainCommand). Answers t c u old new) (sym (meant_kept v (write [] (insert k w)) e)) a
+
+-- as the code finds a line's text
+pub text_at : (b : List ℕ) (at len n : ℕ) → LineAt b at len → n ≤ length (slice_range b at (at + len)) → take n (slice_range b at (at + len)) ≡ line_text (slice_range b at (at + len)) → TextAt b at len n
+text_at b at len n l h t =
+    let k : (at + len) - at ≡ len = omega arith in
+    record {
+      line = l;
+      within = omega (arith, subst (λ (m : ℕ). n ≤ length (take m (drop at b))) k h, length-take-le len (drop at b) l.within);
+      text = subst (λ (m : ℕ). take n (take m (drop at b)) ≡ line_text (take m (drop at b))) k t;
+    }
+
+-- only what is ahead matters
+pub text_ahead : (a b : List ℕ) (at len n : ℕ) → drop at a ≡ drop at b → TextAt a at len n → TextAt b at len n
+text_ahead a b at len n e h =
+    record {
+      line = record {
+        within = subst (λ (r : List ℕ). len ≤ length r) e h.line.within;
+        first = subst (λ (r : List ℕ). full_lines r ≡ take len r ∷ full_lines (drop len r)) e h.line.first;
+      };
+      within = h.within;
+      text = subst (λ (r : List ℕ). take n (take len r) ≡ line_text (take len r)) e h.text;
+    }
+
+-- what is answered behind a place is answered in all
+abbrev pub Told : Tree → List (List ℕ) → List ℕ → Tree → List (List ℕ) → List ℕ → Type 0
+Told s all old t ahead out = (u : Tree) (new : List ℕ) → AnswersLines t ahead u out new → AnswersLines s all u old new
+
+pub told-more : (s t v : Tree) (all lines ahead : List (List ℕ)) (line old out mid : List ℕ) → Told s all old t ahead out → ahead ≡ line ∷ lines → AnswersLine t line v out mid → Told s all old v lines mid
+told-more s t v all lines ahead line old out mid told e a =
+    λ u new h. told u new (subst (λ (ls : List (List ℕ)). AnswersLines t ls u out new) (sym e) (answers-more t v u line lines out mid new a h))
+
+pub told-passed : (s t : Tree) (all lines ahead : List (List ℕ)) (old out : List ℕ) → Told s all old t ahead out → ahead ≡ lines → Told s all old t lines out
+told-passed s t all lines ahead old out told e = λ u new h. told u new (subst (λ (ls : List (List ℕ)). AnswersLines t ls u out new) (sym e) h)
+
+pub line_taken : (a b : List ℕ) (at n : ℕ) → drop at a ≡ drop at b → slice_range a at (at + n) ≡ take n (drop at b)
+line_taken a b at n e = let k : (at + n) - at ≡ n = omega arith in ap (λ m. take m (drop at a)) k ∙ ap (λ r. take n r) e
+
+-- a write to a line leaves what is behind it
+pub behind_line : (a b line : List ℕ) (at n k : ℕ) → at ≤ length a → n ≤ k → length line ≡ (at + n) - at → drop at a ≡ drop at b → drop (at + k) (put_mid at ((at + n) - at) a line) ≡ drop (at + k) b
+behind_line a b line at n k within h l e =
+    drop-put_mid at ((at + n) - at) a line (at + k) (omega (arith, h)) within l ∙ sym (drop-drop k at a) ∙ ap (λ r. drop k r) e ∙ drop-drop k at b
+
+pub part_length : (a : List ℕ) (at n : ℕ) → at + n ≤ length a → length (slice_range a at (at + n)) ≡ (at + n) - at
+part_length a at n h = length-take-le ((at + n) - at) (drop at a) (omega (arith, h, length-drop at a))
+
+pub written_length : (a : List ℕ) (at n : ℕ) (line : List ℕ) → at + n ≤ length a → length line ≡ length (slice_range a at (at + n)) → length (put_mid at ((at + n) - at) a line) ≡ length a
+written_length a at n line h e =
+    let k = (at + n) - at in
+    let post = drop k (drop at a) in
+    let same : length line ≡ k = e ∙ part_length a at n h in
+    omega (arith, same, length-append (take at a) (line ++ post), length-append line post, length-take-le at a (omega (arith, h)), length-drop k (drop at a), length-drop at a)
+
+-- what a served session appends
+pub owned_start : (f : Form) (w : Way) (t : Tree) → IsServed f w → start f t ≡ keep t
+owned_start Owned ByText t h = refl
+owned_start Owned ByKnownKey t h = absurd h
+owned_start Borrowed w t h = absurd h
+owned_start Lazy w t h = absurd h
+
+-- what is left of bytes that went on, cut to their old length
+pub begun_cut : (old new : List ℕ) → IsBegunBy old new → take (length old) new ≡ old
+begun_cut old new h = ap (λ x. take (length old) x) h.goes_on ∙ take-append_seam old h.rest
+
+pub refused_kind : {X : Type 0} (kind k : ErrorKind) (r : SessionFault) → (kind ≡ OutOfMemory → r ≡ NoMemory) → (kind ≢ OutOfMemory → r ≡ Refused kind)
+    → ◌≡◌ {A = Result X SessionFault} (Err r) (Err (Refused k)) → (k ≢ OutOfMemory) × (kind ≢ OutOfMemory)
+refused_kind OutOfMemory k r m n e = let f : r ≡ NoMemory = m refl in absurd (cc)
+refused_kind InvalidUtf8 k r m n e = let f : r ≡ Refused InvalidUtf8 = n (λ x. cc) in (λ x. cc, λ x. cc)
+refused_kind Syntax k r m n e = let f : r ≡ Refused Syntax = n (λ x. cc) in (λ x. cc, λ x. cc)
+refused_kind LoneSurrogate k r m n e = let f : r ≡ Refused LoneSurrogate = n (λ x. cc) in (λ x. cc, λ x. cc)
+refused_kind Float k r m n e = let f : r ≡ Refused Float = n (λ x. cc) in (λ x. cc, λ x. cc)
+refused_kind NumberTooLarge k r m n e = let f : r ≡ Refused NumberTooLarge = n (λ x. cc) in (λ x. cc, λ x. cc)
+refused_kind TooDeep k r m n e = let f : r ≡ Refused TooDeep = n (λ x. cc) in (λ x. cc, λ x. cc)
+
+-- a session that was answered
+pub session_answered : (f : Form) (w : Way) (input part behind : List ℕ) (t u : Tree) (old new : List ℕ)
+    → IsServed f w → part ≡ document input → line_texts (full_lines behind) ≡ lines input → Spells part t → IsWithin t
+    → AnswersLines (keep t) (line_texts (full_lines behind)) u old new → (written : List ℕ) × (new ≡ old ++ written) × IsAnswered f input written
+session_answered f w input part behind t u old new served e lines_are s within a = (
+    shown_all (replies_of (keep t) (map served_first a.commands)),
+    a.shows,
+    record {
+      tree = t;
+      spelled = subst (λ (b : List ℕ). Spells b t) e s;
+      within = within;
+      commands = a.commands;
+      lines_are = subst (λ (ls : List (List ℕ)). AreCommandsOf ls a.commands) lines_are a.are;
+      replies = ap (λ x. shown_all (replies_of x (map served_first a.commands))) (sym (owned_start f w t served));
+    },
+  )
+
+pub on_ok_then : {A E P : Type 0} (r : Result A E) → is_err r ≡ false → OnOk r P → P
+on_ok_then (Ok x) e h = h
+on_ok_then (Err x) e h = absurd (true≢false e)
+
+pub on_err_then : {A E P : Type 0} (r : Result A E) → is_err r ≡ true → OnErr r P → P
+on_err_then (Ok x) e h = absurd (true≢false (sym e))
+on_err_then (Err x) e h = h
+
+-- the command lines, as the code cuts them
+pub lines_behind : (input behind : List ℕ) (at next : ℕ) → at ≤ next → next ≤ length input → behind ≡ drop at input → full_lines (drop next input) ≡ after_mark (full_lines input)
+    → line_texts (full_lines (take (length behind - (next - at)) (drop (next - at) behind))) ≡ lines input
+lines_behind input behind at next h within e f =
+    let k = next - at in
+    let whole : take (length behind - k) (drop k behind) ≡ drop k behind = take_all (length behind - k) (drop k behind) (omega (arith, length-drop k behind)) in
+    let there : drop k behind ≡ drop next input = ap (λ r. drop k r) e ∙ drop-drop k at input ∙ (let m : at + k ≡ next = omega (arith, h) in ap (λ m. drop m input) m) in
+    ap (λ r. line_texts (full_lines r)) (whole ∙ there) ∙ ap (λ ls. line_texts ls) f

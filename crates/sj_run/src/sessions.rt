@@ -1,0 +1,137 @@
+//! Sessions over bytes.
+
+ghost use Rattle.std.specs.Prelude.{◌≡◌, ◌≢◌, ◌↔◌, List, ℕ, ◌++◌, IfOk, OnOk, OnErr, IsErrOf, IsUtf8, Ok, Err};
+ghost use Rattle.sj_text_core.specs.Grammar.{IsReadable};
+ghost use Rattle.sj_run.specs.Lines.{document as document_of};
+ghost use Rattle.sj_run.specs.Session.{IsServed, IsAnswered, ReadsDocument};
+
+mod answer;
+
+use crate::document::{Document, build};
+use crate::lines::cut_at_mark;
+use crate::sessions::answer::answer_all;
+use sj_tape::to_tape;
+use sj_text_core::ErrorKind;
+use std::alloc::{AllocError, Global};
+use thiserror::Error;
+
+/// Which type holds a session's document.
+#[derive(Clone, Copy, Debug, PartialEq, Eq)]
+pub enum Form {
+    /// Its texts are its own.
+    Owned,
+    /// Its texts lie in the input where they can.
+    Borrowed,
+    /// A tape until the first write.
+    Lazy,
+}
+
+impl Form {
+    ghost use Rattle.std.specs.Prelude.{◌↔◌, IsTrue};
+    ghost use Rattle.sj_run.specs.Session.{IsServed};
+
+    /// Whether a session serves the form in this way: today owned documents by text.
+    pub fn is_served(self, way: Way) -> bool
+        ensures { IsTrue result ↔ IsServed self way }
+    {
+        match (self, way) {
+            (Form::Owned, Way::ByText) => true,
+            _ => false,
+        }
+    }
+}
+
+/// How the keys of commands are looked up.
+#[derive(Clone, Copy, Debug, PartialEq, Eq)]
+pub enum Way {
+    /// By their texts.
+    ByText,
+    /// By known keys, which keep their hashes.
+    ByKnownKey,
+}
+
+/// Why a session gave no replies.
+#[derive(Clone, Copy, Debug, PartialEq, Eq, Error)]
+pub enum SessionFault {
+    /// The form is not served in this way.
+    #[error("this form is not served in this way")]
+    Usage,
+    /// The document was not read.
+    #[error("text refused: {0:?}")]
+    Refused(ErrorKind),
+    /// A request for memory was refused.
+    #[error("out of memory")]
+    OutOfMemory,
+    /// The replies would pass `usize::MAX` bytes.
+    #[error("too long")]
+    TooLong,
+}
+
+impl From<AllocError> for SessionFault {
+    ghost use Rattle.std.specs.Prelude.{◌≡◌};
+    ghost use Rattle.sj_run.specs.declared.sessions.SessionFault.TheVariants.{OutOfMemory};
+
+    ghost from_gives = { λ _ e. e ≡ OutOfMemory };
+
+    fn from(_error: AllocError) -> SessionFault {
+        SessionFault::OutOfMemory
+    }
+}
+
+/// The fault of a document that was not read.
+fn refused(kind: ErrorKind) -> SessionFault
+    ensures memory { kind ≡ ErrorKind.OutOfMemory → result ≡ SessionFault.OutOfMemory }
+    ensures named { kind ≢ ErrorKind.OutOfMemory → result ≡ SessionFault.Refused kind }
+{
+    if kind == ErrorKind::OutOfMemory {
+        SessionFault::OutOfMemory
+    } else {
+        SessionFault::Refused(kind)
+    }
+}
+
+/// Reads a session's document.
+fn read_document(alloc: Global, text: &mut [u8]) -> Result<Document, SessionFault>
+    ensures read { IfOk result (ReadsDocument text.old) }
+    ensures refused { (k : ErrorKind) → result ≡ Err (SessionFault.Refused k) → (k ≢ ErrorKind.OutOfMemory) × (¬ (IsReadable text.old)) }
+    ensures utf8 { IsErrOf result (SessionFault.Refused ErrorKind.InvalidUtf8) ↔ ¬ (IsUtf8 text.old) }
+    ensures usage { result ≢ Err SessionFault.Usage }
+    ensures too_long { result ≢ Err SessionFault.TooLong }
+{
+    match to_tape(alloc, text) {
+        Ok(tape) => Ok(build(alloc, tape.as_value())?),
+        Err(kind) => Err(refused(kind)),
+    }
+}
+
+/// Reads the document of the input, answers the command lines behind its first line `---` in turn,
+/// and appends each printed reply with a line feed to `out`.
+///
+/// Today owned documents are served by text, and of the commands `encode` and `insert` at the
+/// empty path; each other line is a bad command. Refused as `Usage` for every other form and way,
+/// as `Refused` where the document can't be read, and as `OutOfMemory` where memory was refused.
+/// On a fault `out` is as it was, and of the input's bytes nothing is said.
+pub fn session(
+    alloc: Global,
+    form: Form,
+    way: Way,
+    input: &mut [u8],
+    out: &mut Vec<u8>,
+) -> Result<(), SessionFault>
+    ensures ok { OnOk result ((written : List ℕ) × (out.new.items ≡ out.old.items ++ written) × IsAnswered form input.old written) }
+    ensures err { OnErr result (out.new.items ≡ out.old.items) }
+    ensures usage { IsErrOf result SessionFault.Usage ↔ ¬ (IsServed form way) }
+    ensures refused { (k : ErrorKind) → result ≡ Err (SessionFault.Refused k) → (k ≢ ErrorKind.OutOfMemory) × (¬ (IsReadable (document_of input.old))) }
+    ensures utf8 { IsServed form way → (IsErrOf result (SessionFault.Refused ErrorKind.InvalidUtf8) ↔ ¬ (IsUtf8 (document_of input.old))) }
+    ensures too_long { result ≢ Err SessionFault.TooLong }
+{
+    if !form.is_served(way) {
+        return Err(SessionFault::Usage);
+    }
+    let cut = cut_at_mark(input);
+    let (text, behind) = input.split_at_mut(cut.document);
+    let mut document = read_document(alloc, text)?;
+    let lines = &mut behind[cut.commands - cut.document..];
+    answer_all(alloc, &mut document, lines, out)?;
+    Ok(())
+}

@@ -1,0 +1,142 @@
+//! Sessions on small inputs.
+
+use crate::{Form, SessionFault, Way, session};
+use sj_text_core::ErrorKind;
+use std::alloc::{AllocError, Global};
+use std::process::Abort;
+use std::test::Fail;
+
+/// What a session appends to `out`, which held `> ` before.
+fn replies(alloc: Global, input: &str) -> Result<Result<String, SessionFault>, AllocError> {
+    let mut bytes = input.as_bytes().to_vec(alloc)?;
+    let mut out = b"> ".to_vec(alloc)?;
+    let answer = session(alloc, Form::Owned, Way::ByText, bytes.as_mut_slice(), &mut out);
+    let text = match String::from_utf8(out) {
+        Ok(text) => text,
+        Err(_) => return Err(AllocError),
+    };
+    Ok(match answer {
+        Ok(()) => Ok(text),
+        Err(fault) => Err(fault),
+    })
+}
+
+fn check(rt: &impl Abort, alloc: Global, input: &str, want: &str) -> Result<(), AllocError> {
+    match replies(alloc, input)? {
+        Ok(out) => assert_eq!(rt; out.as_str(), want, "on {input:?}"),
+        Err(fault) => panic!(rt; "{fault} on {input:?}"),
+    }
+    Ok(())
+}
+
+#[test]
+fn answers(rt: HostRuntime) -> Result<(), Fail> {
+    let table = [
+        // the first example, and a key that is written with escapes
+        (
+            "{\"some\": [\"key\", \"value\", 2]}\n---\n[\"encode\",[]]\n[\"insert\",[],\"n\",-0]\n[\"insert\",[],\"n\",true]\n[\"encode\",[]]\n",
+            "> {\"some\":[\"key\",\"value\",2]}\nnone\n0\n{\"some\":[\"key\",\"value\",2],\"n\":true}\n",
+        ),
+        (
+            "{\"q\\\"k\":\"a\\/b\\u0041\"}\n---\n[\"encode\",[]]",
+            "> {\"q\\\"k\":\"a/bA\"}\n",
+        ),
+        ("\"\\ud83d\\ude00\"\n---\n[\"encode\",[]]", "> \"\u{1f600}\"\n"),
+        // carriers at their limits print as they were read
+        (
+            "[18446744073709551615,18446744073709551616,-9223372036854775808,-9223372036854775809,-0]\n---\n[\"encode\",[]]",
+            "> [18446744073709551615,18446744073709551616,-9223372036854775808,-9223372036854775809,0]\n",
+        ),
+        // repeats at two depths, also of an inserted value
+        (
+            "{\"a\":{\"b\":1,\"b\":2},\"a\":3}\n---\n[\"insert\",[],\"c\",{\"d\":1,\"d\":2}]\n[\"encode\",[]]",
+            "> none\n{\"a\":{\"b\":1},\"c\":{\"d\":1}}\n",
+        ),
+        // no commands, with and without the line that parts them from the document
+        ("[1]", "> "),
+        ("[1]\n---\n", "> "),
+        ("[1]\n---", "> "),
+        // line ends, lines without bytes, a second line of dashes
+        ("[1]\r\n---\r\n[\"encode\",[]]\r\n", "> [1]\n"),
+        ("[1]\n---\n\n\r\n[\"encode\",[]]\n\n", "> [1]\n"),
+        ("[1]\n---\n---\n", "> bad command\n"),
+        // what is no array and no object
+        ("[1]\n---\n[\"insert\",[],\"k\",1]\n[\"encode\",[]]", "> not an object\n[1]\n"),
+        // lines that are no command, or none that is served
+        (
+            "{\"a\":1}\n---\n[\"nonsense\"]\n{\"a\":1}\n[\"encode\",[]\n[\"encode\",[],1]\n[\"ENCODE\",[]]\n[\"encode\",[0]]\n[\"len\",[]]\n[\"insert\",[],\"a\",1.5]\n \n[\"encode\",[]]",
+            "> bad command\nbad command\nbad command\nbad command\nbad command\nbad command\nbad command\nbad command\nbad command\n{\"a\":1}\n",
+        ),
+    ];
+    for (input, want) in table {
+        check(&rt, rt.alloc(), input, want)?;
+    }
+    Ok(())
+}
+
+/// An object of `k00` to `k31` with values 0 to 31, then `k00` with 99.
+#[test]
+fn keeps_the_first_of_many(rt: HostRuntime) -> Result<(), Fail> {
+    let mut members = String::new(rt.alloc());
+    for i in 0u8..32 {
+        let comma = if i == 0 { "" } else { "," };
+        members.push_str(format!(in rt.alloc(); "{comma}\"k{i:02}\":{i}")?.as_str())?;
+    }
+    let input = format!(in rt.alloc(); "{{{members},\"k00\":99}}\n---\n[\"encode\",[]]\n")?;
+    let want = format!(in rt.alloc(); "> {{{members}}}\n")?;
+    // the same text twice in one process
+    check(&rt, rt.alloc(), input.as_str(), want.as_str())?;
+    check(&rt, rt.alloc(), input.as_str(), want.as_str())?;
+    Ok(())
+}
+
+#[test]
+fn refuses(rt: HostRuntime) -> Result<(), Fail> {
+    let table = [
+        ("", ErrorKind::Syntax),
+        ("  ", ErrorKind::Syntax),
+        ("---\n[\"encode\",[]]", ErrorKind::Syntax),
+        ("01", ErrorKind::Syntax),
+        ("[1,]", ErrorKind::Syntax),
+        ("-", ErrorKind::Syntax),
+        ("nul", ErrorKind::Syntax),
+        ("[1 2]", ErrorKind::Syntax),
+        ("{\"a\":1", ErrorKind::Syntax),
+        ("1.5", ErrorKind::Float),
+        ("1e3", ErrorKind::Float),
+        ("340282366920938463463374607431768211456", ErrorKind::NumberTooLarge),
+        ("-170141183460469231731687303715884105729", ErrorKind::NumberTooLarge),
+        ("\"\\ud83d\"", ErrorKind::LoneSurrogate),
+        ("\"\\ude00\"", ErrorKind::LoneSurrogate),
+    ];
+    for (text, kind) in table {
+        let input = format!(in rt.alloc(); "{text}\n---\n[\"encode\",[]]\n")?;
+        match replies(rt.alloc(), input.as_str())? {
+            Ok(_) => panic!(rt; "{text:?} was read"),
+            Err(fault) => assert_eq!(rt; fault, SessionFault::Refused(kind), "on {text:?}"),
+        }
+    }
+    Ok(())
+}
+
+#[test]
+fn leaves_the_output(rt: HostRuntime) -> Result<(), Fail> {
+    let mut out = b"> ".to_vec(rt.alloc())?;
+    let mut bytes = [0x22, 0xff, 0x22];
+    let answer = session(rt.alloc(), Form::Owned, Way::ByText, &mut bytes, &mut out);
+    assert_eq!(rt; answer, Err(SessionFault::Refused(ErrorKind::InvalidUtf8)));
+    assert_eq!(rt; out.as_slice(), b"> ".as_slice());
+    for (form, way) in [
+        (Form::Owned, Way::ByKnownKey),
+        (Form::Borrowed, Way::ByText),
+        (Form::Borrowed, Way::ByKnownKey),
+        (Form::Lazy, Way::ByText),
+        (Form::Lazy, Way::ByKnownKey),
+    ] {
+        let mut bytes = *b"[1]\n---\n[\"encode\",[]]";
+        let answer = session(rt.alloc(), form, way, &mut bytes, &mut out);
+        assert_eq!(rt; answer, Err(SessionFault::Usage), "{form:?} {way:?}");
+        assert_eq!(rt; out.as_slice(), b"> ".as_slice());
+    }
+    Ok(())
+}

@@ -1,0 +1,66 @@
+-- The plain part of a text, up to the byte that stops it.
+use Rattle.std.proofs.Common.{◌≡◌, ◌≢◌, ℕ, suc, None, Some, ◌+◌, ◌-◌, ◌<◌, ◌≤◌, Bool, true, false, List, [], ◌∷◌, length, take, drop, get_or, refl, sym, ap, subst, ◌∙◌, arith, cond, length-drop}
+use Rattle.std.specs.Prelude.{slice_range}
+use Rattle.std.specs.List.{AllByRecursion, prefix_len}
+use Rattle.std.proofs.lemmas.Option.{none-some}
+use Rattle.std.proofs.lemmas.Bool.Decides.{nat_tests}
+use Rattle.std.proofs.lemmas.List.{take-append-drop, drop-drop, get_or-drop}
+use Rattle.std.proofs.lemmas.List.Sums.{prefix_len_stops}
+use Rattle.sj_tape.specs.Parse.{Read, with_front, text_at}
+use Rattle.sj_tape.specs.Pieces.{after}
+use Rattle.sj_tape.specs.Run.{is_plain}
+use Rattle.sj_tape.proofs.Escapes.{IsPlain, text_run}
+use Rattle.sj_tape.proofs.Places.{SoFar, after_front}
+
+plain_is : (c : ℕ) → is_plain c ≡ true → IsPlain c
+plain_is c e = (low c e, quote c e, back c e)
+  where
+    low : (c : ℕ) → is_plain c ≡ true → 32 ≤ c
+    low c e = grind (arith, nat_tests)
+
+    quote : (c : ℕ) → is_plain c ≡ true → c ≢ 34
+    quote c e = grind (arith, nat_tests)
+
+    back : (c : ℕ) → is_plain c ≡ true → c ≢ 92
+    back c e = grind (arith, nat_tests)
+
+one_more : (n c : ℕ) (l : List ℕ) → take (1 + n) (c ∷ l) ≡ c ∷ take n l
+one_more n c l = let e : 1 + n ≡ suc n = omega arith in ap (λ k. take k (c ∷ l)) e
+
+all_plain : (l : List ℕ) → AllByRecursion IsPlain (take (prefix_len is_plain l) l)
+all_plain [] = tt
+all_plain (c ∷ l) = by_byte c l (is_plain c) refl (all_plain l)
+  where
+    by_byte : (c : ℕ) (l : List ℕ) (t : Bool) → is_plain c ≡ t → AllByRecursion IsPlain (take (prefix_len is_plain l) l) → AllByRecursion IsPlain (take (cond t (1 + prefix_len is_plain l) 0) (c ∷ l))
+    by_byte c l true e h = subst (λ x. AllByRecursion IsPlain x) (sym (one_more (prefix_len is_plain l) c l)) (plain_is c e, h)
+    by_byte c l false e h = tt
+
+-- the run is read as it stands
+pub plain_so_far : (b : List ℕ) (at e : ℕ) → e ≡ at + prefix_len is_plain (drop at b) → SoFar (slice_range b at e) b at e
+plain_so_far b at e h =
+    let n = prefix_len is_plain (drop at b) in
+    let m : e - at ≡ n = omega (arith, h) in
+    let rest : drop n (drop at b) ≡ drop e b = drop-drop n at b ∙ ap (λ k. drop k b) (omega (arith, h)) in
+    ap (λ l. text_at l) (sym (take-append-drop n (drop at b)))
+    ∙ (text_run (take n (drop at b)) (drop n (drop at b)) (all_plain (drop at b))
+    ∙ (ap (λ l. with_front (take n (drop at b)) (text_at l)) rest ∙ ap (λ k. with_front (take k (drop at b)) (text_at (drop e b))) (sym m)))
+
+-- what is neither plain nor a quote nor a backslash is a control byte
+pub control_is : (c : ℕ) → is_plain c ≡ false → c ≢ 34 → c ≢ 92 → c < 32
+control_is c e q s = grind (arith, nat_tests)
+
+-- what stops a run is not plain
+pub stop_is : (b : List ℕ) (at e : ℕ) → e ≡ at + prefix_len is_plain (drop at b) → e < length b → is_plain (get_or b e 0) ≡ false
+stop_is b at e h lt =
+    let n = prefix_len is_plain (drop at b) in
+    let same : get_or (drop at b) n 0 ≡ get_or b e 0 = get_or-drop at b n 0 ∙ ap (λ k. get_or b k 0) (sym h) in
+    subst (λ x. is_plain x ≡ false) same (prefix_len_stops is_plain (drop at b) 0 (omega (arith, h, lt, length-drop at b)))
+
+-- what follows the text is what follows it behind the run
+pub plain_after : (b : List ℕ) (at e : ℕ) → e ≡ at + prefix_len is_plain (drop at b) → after (text_at (drop at b)) ≡ after (text_at (drop e b))
+plain_after b at e h = ap (λ o. after o) (plain_so_far b at e h) ∙ after_front (slice_range b at e) (text_at (drop e b))
+
+-- where nothing follows nothing was read
+pub none_after : (o : Read (List ℕ)) → after o ≡ None → o ≡ None
+none_after None e = refl
+none_after (Some p) e = absurd (none-some p.1 (sym e))

@@ -1,0 +1,12 @@
+use Rattle.std.proofs.Common.{arith}
+use Rattle.std.proofs.lemmas.Simd.{zip2_splat, zip2_of_maps}
+use Rattle.sj_tape.specs.Run.{is_solid}
+use Rattle.sj_tape.proofs.Lanes.{masked}
+use Rattle.sj_tape.proofs.reader.blank.solids.Goals as goal
+
+pub returns : goal.returns
+returns c =
+    let v = c.args.v in
+    let long = c.fits-v.0 in
+    masked _ is_solid v _ (omega arith) c.fits-v.1
+    (zip2_of_maps _ _ _ v (zip2_of_maps _ _ _ v (zip2_of_maps _ _ _ v (zip2_splat _ v 16 32 long) (zip2_splat _ v 16 10 long)) (zip2_splat _ v 16 13 long)) (zip2_splat _ v 16 9 long)) tt

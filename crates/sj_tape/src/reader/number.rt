@@ -1,0 +1,208 @@
+//! Whole numbers.
+
+ghost use Rattle.std.specs.Prelude.{◌≡◌, ◌+◌, ◌-◌, ◌<◌, ◌≤◌, ◌^◌, ℕ, Some, None, length, drop, IfOk, IfErr, ◌≢◌, OnErr, MatchOption, option_map, IsTrue, ◌↔◌, EachIndex, slice_index, slice_range, pos, neg_ℤ};
+ghost use Rattle.sj_tape.specs.Pieces.{IsBetween, ReadsPiece};
+ghost use Rattle.sj_tape.specs.Parse as parse;
+ghost use Rattle.sj_text_core.specs.Grammar.{value_of, number_of};
+ghost use Rattle.sj_text_core.specs.Scalars.{static_tree};
+
+use crate::reader::piece::Piece;
+use core::dec2flt::read_digits;
+use sj_text_core::{ErrorKind, StaticNode};
+
+/// The first place from `at` on that is no digit, and what the digits write, where they are at
+/// most 19.
+#[inline(always)]
+fn digits(bytes: &[u8], at: usize) -> (usize, u64)
+    requires { at ≤ length bytes.now }
+    ensures low { at ≤ result.0 }
+    ensures high { result.0 ≤ length bytes.now }
+    ensures count { parse.digits_len (drop at bytes.now) ≡ result.0 - at }
+    ensures digits { (k : ℕ) → at ≤ k → k < result.0 → (48 ≤ slice_index bytes.now k) × (slice_index bytes.now k ≤ 57) }
+    ensures value { result.0 - at ≤ 19 → result.1 ≡ value_of (slice_range bytes.now at result.0) }
+    ensures bound { result.0 - at ≤ 18 → result.1 < 10 ^ 18 }
+{
+    read_digits(bytes, at, 0)
+}
+
+#[tactic(auto, using(crate::proofs::Numbers::too_large))]
+/// The number that digits write, if it is below 2 ^ 128.
+fn large(digits: &[u8]) -> Option<u128>
+    requires { EachIndex digits.now (λ k. (48 ≤ slice_index digits.now k) × (slice_index digits.now k ≤ 57)) }
+    ensures { MatchOption result (2 ^ 128 ≤ value_of digits.now) (λ n. n ≡ value_of digits.now) }
+{
+    let mut n: u128 = 0;
+    for digit in digits {
+        let Some(tens) = n.checked_mul(10) else {
+            return None;
+        };
+        let Some(next) = tens.checked_add(u128::from(*digit - b'0')) else {
+            return None;
+        };
+        n = next;
+    }
+    Some(n)
+}
+
+/// The number with its carrier, where one has it.
+fn carried(is_negative: bool, n: u128) -> Option<StaticNode>
+    ensures { option_map static_tree result ≡ number_of is_negative n }
+{
+    if !is_negative {
+        if n < 0x1_0000_0000_0000_0000 {
+            Some(StaticNode::U64(n as u64))
+        } else {
+            Some(StaticNode::U128(n))
+        }
+    } else if n < 0x8000_0000_0000_0000 {
+        Some(StaticNode::I64(0 - n as i64))
+    } else if n == 0x8000_0000_0000_0000 {
+        Some(StaticNode::I64(i64::MIN))
+    } else if n < 0x8000_0000_0000_0000_0000_0000_0000_0000 {
+        Some(StaticNode::I128(0 - n as i128))
+    } else if n == 0x8000_0000_0000_0000_0000_0000_0000_0000 {
+        Some(StaticNode::I128(i128::MIN))
+    } else {
+        None
+    }
+}
+
+/// The whole number that stands at `at`, and the place after it.
+#[inline(never)]
+pub(crate) fn number(bytes: &[u8], at: usize) -> Result<(StaticNode, usize), ErrorKind>
+    requires { at < length bytes.now }
+    ensures within { IfOk result (λ p. (at < p.1) × (p.1 ≤ length bytes.now)) }
+    ensures ok { IfOk result (λ p. parse.number_at (drop at bytes.now) ≡ Some (static_tree p.0, drop p.1 bytes.now)) }
+    ensures err { OnErr result (parse.number_at (drop at bytes.now) ≡ None) }
+    ensures kind { IfErr result (λ e. e ≢ ErrorKind.InvalidUtf8) }
+{
+    if bytes[at] == b'-' {
+        numeral(bytes, at + 1, true)
+    } else {
+        numeral(bytes, at, false)
+    }
+}
+
+/// Whether a fraction or an exponent stands at `at`.
+#[inline(always)]
+fn goes_on(bytes: &[u8], at: usize) -> bool
+    requires { at ≤ length bytes.now }
+    ensures { result ≡ parse.goes_on (drop at bytes.now) }
+{
+    if at >= bytes.len() {
+        return false;
+    }
+    let byte = bytes[at];
+    byte == b'.' || byte == b'e' || byte == b'E'
+}
+
+#[tactic(auto, using(crate::proofs::Numbers::numeral_is))]
+/// The digits that stand at `at`, and the place after them.
+fn numeral(bytes: &[u8], at: usize, is_negative: bool) -> Result<(StaticNode, usize), ErrorKind>
+    requires { at ≤ length bytes.now }
+    ensures within { IfOk result (λ p. (at < p.1) × (p.1 ≤ length bytes.now)) }
+    ensures ok { IfOk result (λ p. parse.numeral_at is_negative (parse.digits_len (drop at bytes.now)) (drop at bytes.now) ≡ Some (static_tree p.0, drop p.1 bytes.now)) }
+    ensures err { OnErr result (parse.numeral_at is_negative (parse.digits_len (drop at bytes.now)) (drop at bytes.now) ≡ None) }
+    ensures kind { IfErr result (λ e. e ≢ ErrorKind.InvalidUtf8) }
+{
+    let (end, _) = digits(bytes, at);
+    if end == at {
+        return Err(ErrorKind::Syntax);
+    }
+    if bytes[at] == b'0' && end - at > 1 {
+        return Err(ErrorKind::Syntax);
+    }
+    if goes_on(bytes, end) {
+        return Err(ErrorKind::Float);
+    }
+    match large(&bytes[at..end]) {
+        None => Err(ErrorKind::NumberTooLarge),
+        Some(n) => match carried(is_negative, n) {
+            None => Err(ErrorKind::NumberTooLarge),
+            Some(node) => Ok((node, end)),
+        },
+    }
+}
+
+/// The whole number that stands at `at` as a piece, and the place after it.
+#[inline(always)]
+pub(crate) fn number_piece(bytes: &[u8], at: usize) -> Result<(Piece, usize), ErrorKind>
+    requires { at < length bytes.now }
+    ensures within { IfOk result (λ p. (at < p.1) × (p.1 ≤ length bytes.now)) }
+    ensures between { IfOk result (λ p. IsBetween bytes.now at p.1 p.0) }
+    ensures ok { IfOk result (λ p. ReadsPiece (parse.number_at (drop at bytes.now)) bytes.now p.1 p.0) }
+    ensures err { OnErr result (parse.number_at (drop at bytes.now) ≡ None) }
+    ensures kind { IfErr result (λ e. e ≢ ErrorKind.InvalidUtf8) }
+{
+    let is_negative = bytes[at] == b'-';
+    let start = if is_negative { at + 1 } else { at };
+    numeral_piece(bytes, at, start, is_negative)
+}
+
+/// The same, where the digits begin at `start`.
+#[inline(always)]
+fn numeral_piece(
+    bytes: &[u8],
+    at: usize,
+    start: usize,
+    is_negative: bool,
+) -> Result<(Piece, usize), ErrorKind>
+    requires at { at < length bytes.now }
+    requires low { at ≤ start }
+    requires high { start ≤ length bytes.now }
+    requires sign { parse.number_at (drop at bytes.now) ≡ parse.numeral_at is_negative (parse.digits_len (drop start bytes.now)) (drop start bytes.now) }
+    ensures within { IfOk result (λ p. (at < p.1) × (p.1 ≤ length bytes.now)) }
+    ensures between { IfOk result (λ p. IsBetween bytes.now at p.1 p.0) }
+    ensures ok { IfOk result (λ p. ReadsPiece (parse.number_at (drop at bytes.now)) bytes.now p.1 p.0) }
+    ensures err { OnErr result (parse.number_at (drop at bytes.now) ≡ None) }
+    ensures kind { IfErr result (λ e. e ≢ ErrorKind.InvalidUtf8) }
+{
+    let (end, n) = digits(bytes, start);
+    let count = end - start;
+    if count == 0 {
+        return Err(ErrorKind::Syntax);
+    }
+    if count > 1 && bytes[start] == b'0' {
+        return Err(ErrorKind::Syntax);
+    }
+    if goes_on(bytes, end) {
+        return Err(ErrorKind::Float);
+    }
+    if is_negative {
+        if count > 18 {
+            return wide_piece(bytes, at);
+        }
+        return Ok((negative(n), end));
+    }
+    if count > 19 {
+        return wide_piece(bytes, at);
+    }
+    Ok((Piece::U64(n), end))
+}
+
+/// The piece of the number -n.
+#[inline(always)]
+fn negative(n: u64) -> Piece
+    requires { n < 2 ^ 63 }
+    ensures { result ≡ Piece.I64 (neg_ℤ (pos n)) }
+{
+    Piece::I64(0 - n as i64)
+}
+
+/// The same for a number of many digits.
+#[inline(never)]
+fn wide_piece(bytes: &[u8], at: usize) -> Result<(Piece, usize), ErrorKind>
+    requires { at < length bytes.now }
+    ensures within { IfOk result (λ p. (at < p.1) × (p.1 ≤ length bytes.now)) }
+    ensures between { IfOk result (λ p. IsBetween bytes.now at p.1 p.0) }
+    ensures ok { IfOk result (λ p. ReadsPiece (parse.number_at (drop at bytes.now)) bytes.now p.1 p.0) }
+    ensures err { OnErr result (parse.number_at (drop at bytes.now) ≡ None) }
+    ensures kind { IfErr result (λ e. e ≢ ErrorKind.InvalidUtf8) }
+{
+    let (number, end) = number(bytes, at)?;
+    match number {
+        StaticNode::I64(n) => Ok((Piece::I64(n), end)),
+        StaticNode::U64(n) => Ok((Piece::U64(n), end)),
+        _ => Ok((Piece::Wide { start: at, end }, end)),
+    }
+}

@@ -1,0 +1,34 @@
+//! Nodes whose texts are ranges of the bytes.
+
+ghost use Rattle.std.specs.Prelude.{◌≡◌};
+ghost use Rattle.sj_tape.specs.Pieces.{spelling_of};
+
+/// A node whose text lies in the bytes from `start` up to `end`.
+#[derive(Clone, Copy, Debug)]
+pub(crate) enum Piece {
+    Null,
+    Bool(bool),
+    I64(i64),
+    U64(u64),
+    /// A number past 64 bits, spelled there.
+    Wide { start: usize, end: usize },
+    Text { start: usize, end: usize },
+    /// A text with escapes. Its spelling lies there, and its quote at `end`.
+    Escaped { start: usize, end: usize },
+    Array { len: usize, count: usize },
+    Object { len: usize, count: usize },
+}
+
+/// Where a text with escapes is spelled.
+pub(crate) fn spelling(piece: Piece) -> Option<(usize, usize)>
+    ensures { result ≡ spelling_of piece }
+{
+    match piece {
+        Piece::Escaped { start, end } => Some((start, end)),
+        Piece::Null | Piece::Bool(_) | Piece::I64(_) | Piece::U64(_) => None,
+        Piece::Wide { .. } => None,
+        Piece::Text { .. } => None,
+        Piece::Array { .. } => None,
+        Piece::Object { .. } => None,
+    }
+}

@@ -1,0 +1,237 @@
+//! The first pass: from bytes to pieces.
+
+ghost use Rattle.std.specs.Prelude.{◌≡◌, ◌+◌, ◌-◌, ◌<◌, ◌≤◌, ℕ, Some, None, length, drop, IfOk, IfErr, OnOk, OnErr, MatchResult, IsTrue, ◌↔◌, ◌≢◌, ◌==◌, ◌++◌, ◌∷◌, [], slice_index};
+ghost use Rattle.sj_tape.specs.Pieces.{IsBetween, InOrder, Reads, ReadsPiece, ReadsItems, ReadsMembers, ReadsMember, Scans};
+ghost use Rattle.std.specs.Vec.{vec_len, vec_capacity};
+ghost use Rattle.sj_tape.specs.Parse as parse;
+
+use crate::reader::blank::skip;
+use crate::reader::number::number_piece;
+use crate::reader::piece::Piece;
+use crate::reader::string::text;
+use crate::reader::structure::{separator, word_end};
+use sj_text_core::ErrorKind;
+
+/// Makes room for one piece more.
+#[inline(never)]
+fn grow(out: &mut Vec<Piece>) -> Result<(), ErrorKind>
+    ensures items { out.new.items ≡ out.old.items }
+    ensures room { OnOk result (vec_len out.new < vec_capacity out.new) }
+    ensures err { IfErr result (λ e. e ≡ ErrorKind.OutOfMemory) }
+{
+    out.reserve(1)?;
+    Ok(())
+}
+
+/// Puts a piece at the end.
+#[inline(always)]
+fn push(out: &mut Vec<Piece>, piece: Piece) -> Result<(), ErrorKind>
+    ensures items { OnOk result (out.new.items ≡ out.old.items ++ piece ∷ []) }
+    ensures err { IfErr result (λ e. e ≡ ErrorKind.OutOfMemory) }
+{
+    if out.len() >= out.capacity() {
+        grow(out)?;
+    }
+    out.push_reserved(piece);
+    Ok(())
+}
+
+/// A string or a word that stands at `at`, or a number, and the place after it.
+#[inline(always)]
+fn scalar(bytes: &[u8], at: usize) -> Result<(Piece, usize), ErrorKind>
+    requires at { at < length bytes.now }
+    requires no_list { slice_index bytes.now at ≢ 91 }
+    requires no_object { slice_index bytes.now at ≢ 123 }
+    ensures within { IfOk result (λ p. (at < p.1) × (p.1 ≤ length bytes.now)) }
+    ensures between { IfOk result (λ p. IsBetween bytes.now at p.1 p.0) }
+    ensures ok { IfOk result (λ p. ReadsPiece (parse.value_by parse.nothing_at parse.nothing_at (drop at bytes.now)) bytes.now p.1 p.0) }
+    ensures err { OnErr result (parse.value_by parse.nothing_at parse.nothing_at (drop at bytes.now) ≡ None) }
+    ensures kind { IfErr result (λ e. e ≢ ErrorKind.InvalidUtf8) }
+{
+    let byte = bytes[at];
+    if byte == b'"' {
+        return text(bytes, at + 1);
+    }
+    if byte == b'n' {
+        return Ok((Piece::Null, word_end(bytes, at, b"null")?));
+    }
+    if byte == b't' {
+        return Ok((Piece::Bool(true), word_end(bytes, at, b"true")?));
+    }
+    if byte == b'f' {
+        return Ok((Piece::Bool(false), word_end(bytes, at, b"false")?));
+    }
+    number_piece(bytes, at)
+}
+
+/// Reads the value at `at`, puts its nodes at the end, and answers the place after it.
+#[cycle(scan)]
+#[inline(always)]
+fn value(bytes: &[u8], at: usize, depth: usize, out: &mut Vec<Piece>) -> Result<usize, ErrorKind>
+    requires at { at ≤ length bytes.now }
+    ensures within { IfOk result (λ next. (at < next) × (next ≤ length bytes.now)) }
+    ensures ok { IfOk result (λ next. Reads (parse.value_at depth (drop at bytes.now)) bytes.now next out.old.items out.new.items) }
+    ensures inside { InOrder bytes.now 0 out.old.items at → IfOk result (λ next. InOrder bytes.now 0 out.new.items next) }
+    ensures err { IfErr result (λ e. e ≢ ErrorKind.OutOfMemory → parse.value_at depth (drop at bytes.now) ≡ None) }
+    ensures kind { IfErr result (λ e. e ≢ ErrorKind.InvalidUtf8) }
+{
+    if at >= bytes.len() {
+        return Err(ErrorKind::Syntax);
+    }
+    if bytes[at] == b'[' {
+        if depth == 0 {
+            return Err(ErrorKind::TooDeep);
+        }
+        return array(bytes, at + 1, depth - 1, out);
+    }
+    if bytes[at] == b'{' {
+        if depth == 0 {
+            return Err(ErrorKind::TooDeep);
+        }
+        return object(bytes, at + 1, depth - 1, out);
+    }
+    let (piece, next) = scalar(bytes, at)?;
+    push(out, piece)?;
+    Ok(next)
+}
+
+/// Reads an array behind its first bracket.
+#[cycle(scan)]
+#[inline(never)]
+fn array(bytes: &[u8], at: usize, depth: usize, out: &mut Vec<Piece>) -> Result<usize, ErrorKind>
+    requires at { at ≤ length bytes.now }
+    ensures within { IfOk result (λ next. (at < next) × (next ≤ length bytes.now)) }
+    ensures ok { IfOk result (λ next. Reads (parse.list_at (parse.value_at depth) (drop at bytes.now)) bytes.now next out.old.items out.new.items) }
+    ensures inside { InOrder bytes.now 0 out.old.items at → IfOk result (λ next. InOrder bytes.now 0 out.new.items next) }
+    ensures err { IfErr result (λ e. e ≢ ErrorKind.OutOfMemory → parse.list_at (parse.value_at depth) (drop at bytes.now) ≡ None) }
+    ensures kind { IfErr result (λ e. e ≢ ErrorKind.InvalidUtf8) }
+{
+    let place = out.len();
+    push(out, Piece::Array { len: 0, count: 0 })?;
+    let first = skip(bytes, at);
+    if first < bytes.len() && bytes[first] == b']' {
+        return Ok(first + 1);
+    }
+    let (next, len) = items(bytes, first, depth, out)?;
+    let count = out.len() - place - 1;
+    out[place] = Piece::Array { len, count };
+    Ok(next)
+}
+
+/// Reads the items of an array up to its last bracket, and answers the place after it and how
+/// many there are.
+#[cycle(scan)]
+#[inline(always)]
+fn items(
+    bytes: &[u8],
+    at: usize,
+    depth: usize,
+    out: &mut Vec<Piece>,
+) -> Result<(usize, usize), ErrorKind>
+    requires at { at ≤ length bytes.now }
+    ensures within { IfOk result (λ p. (at < p.0) × (p.0 ≤ length bytes.now)) }
+    ensures ok { IfOk result (λ p. ReadsItems (parse.parts_at 93 (parse.value_at depth) (length bytes.now - at) (drop at bytes.now)) bytes.now p.0 p.1 out.old.items out.new.items) }
+    ensures inside { InOrder bytes.now 0 out.old.items at → IfOk result (λ p. InOrder bytes.now 0 out.new.items p.0) }
+    ensures err { IfErr result (λ e. e ≢ ErrorKind.OutOfMemory → parse.parts_at 93 (parse.value_at depth) (length bytes.now - at) (drop at bytes.now) ≡ None) }
+    ensures kind { IfErr result (λ e. e ≢ ErrorKind.InvalidUtf8) }
+{
+    let mut place = at;
+    let mut len = 0;
+    loop {
+        let after = value(bytes, place, depth, out)?;
+        len += 1;
+        let (next, is_more) = separator(bytes, after, b']')?;
+        if !is_more {
+            return Ok((next, len));
+        }
+        place = next;
+    }
+}
+
+/// Reads an object behind its first brace.
+#[cycle(scan)]
+#[inline(never)]
+fn object(bytes: &[u8], at: usize, depth: usize, out: &mut Vec<Piece>) -> Result<usize, ErrorKind>
+    requires at { at ≤ length bytes.now }
+    ensures within { IfOk result (λ next. (at < next) × (next ≤ length bytes.now)) }
+    ensures ok { IfOk result (λ next. Reads (parse.obj_at (parse.value_at depth) (drop at bytes.now)) bytes.now next out.old.items out.new.items) }
+    ensures inside { InOrder bytes.now 0 out.old.items at → IfOk result (λ next. InOrder bytes.now 0 out.new.items next) }
+    ensures err { IfErr result (λ e. e ≢ ErrorKind.OutOfMemory → parse.obj_at (parse.value_at depth) (drop at bytes.now) ≡ None) }
+    ensures kind { IfErr result (λ e. e ≢ ErrorKind.InvalidUtf8) }
+{
+    let place = out.len();
+    push(out, Piece::Object { len: 0, count: 0 })?;
+    let first = skip(bytes, at);
+    if first < bytes.len() && bytes[first] == b'}' {
+        return Ok(first + 1);
+    }
+    let (next, len) = members(bytes, first, depth, out)?;
+    let count = out.len() - place - 1;
+    out[place] = Piece::Object { len, count };
+    Ok(next)
+}
+
+#[cycle(scan)]
+#[inline(always)]
+fn members(
+    bytes: &[u8],
+    at: usize,
+    depth: usize,
+    out: &mut Vec<Piece>,
+) -> Result<(usize, usize), ErrorKind>
+    requires at { at ≤ length bytes.now }
+    ensures within { IfOk result (λ p. (at < p.0) × (p.0 ≤ length bytes.now)) }
+    ensures ok { IfOk result (λ p. ReadsMembers (parse.parts_at 125 (parse.member_at (parse.value_at depth)) (length bytes.now - at) (drop at bytes.now)) bytes.now p.0 p.1 out.old.items out.new.items) }
+    ensures inside { InOrder bytes.now 0 out.old.items at → IfOk result (λ p. InOrder bytes.now 0 out.new.items p.0) }
+    ensures err { IfErr result (λ e. e ≢ ErrorKind.OutOfMemory → parse.parts_at 125 (parse.member_at (parse.value_at depth)) (length bytes.now - at) (drop at bytes.now) ≡ None) }
+    ensures kind { IfErr result (λ e. e ≢ ErrorKind.InvalidUtf8) }
+{
+    let mut place = at;
+    let mut len = 0;
+    loop {
+        let after = member(bytes, place, depth, out)?;
+        len += 1;
+        let (next, is_more) = separator(bytes, after, b'}')?;
+        if !is_more {
+            return Ok((next, len));
+        }
+        place = next;
+    }
+}
+
+/// Reads one member of an object.
+#[cycle(scan)]
+#[inline(always)]
+fn member(bytes: &[u8], at: usize, depth: usize, out: &mut Vec<Piece>) -> Result<usize, ErrorKind>
+    requires at { at ≤ length bytes.now }
+    ensures within { IfOk result (λ next. (at < next) × (next ≤ length bytes.now)) }
+    ensures ok { IfOk result (λ next. ReadsMember (parse.member_at (parse.value_at depth) (drop at bytes.now)) bytes.now next out.old.items out.new.items) }
+    ensures inside { InOrder bytes.now 0 out.old.items at → IfOk result (λ next. InOrder bytes.now 0 out.new.items next) }
+    ensures err { IfErr result (λ e. e ≢ ErrorKind.OutOfMemory → parse.member_at (parse.value_at depth) (drop at bytes.now) ≡ None) }
+    ensures kind { IfErr result (λ e. e ≢ ErrorKind.InvalidUtf8) }
+{
+    if at >= bytes.len() || bytes[at] != b'"' {
+        return Err(ErrorKind::Syntax);
+    }
+    let (key, behind) = text(bytes, at + 1)?;
+    push(out, key)?;
+    let colon = skip(bytes, behind);
+    if colon >= bytes.len() || bytes[colon] != b':' {
+        return Err(ErrorKind::Syntax);
+    }
+    value(bytes, skip(bytes, colon + 1), depth, out)
+}
+
+/// The pieces of the one value that the bytes spell, in place of what was there.
+pub(crate) fn scan(bytes: &[u8], depth: usize, out: &mut Vec<Piece>) -> Result<(), ErrorKind>
+    ensures ok { OnOk result (Scans (parse.tree_at depth bytes.now) bytes.now out.new.items) }
+    ensures err { IfErr result (λ e. e ≢ ErrorKind.OutOfMemory → parse.tree_at depth bytes.now ≡ None) }
+    ensures kind { IfErr result (λ e. e ≢ ErrorKind.InvalidUtf8) }
+{
+    out.clear();
+    let after = value(bytes, skip(bytes, 0), depth, out)?;
+    if skip(bytes, after) < bytes.len() {
+        return Err(ErrorKind::Syntax);
+    }
+    Ok(())
+}

@@ -1,0 +1,241 @@
+use crate::{Buffers, DEPTH_LIMIT, to_tape, to_tape_with_buffers};
+use std::alloc::{AllocError, Global};
+
+/// What the answer of a reading prints: the tape, or the kind of the refusal.
+fn answer(alloc: Global, text: &[u8]) -> Result<String, AllocError> {
+    let mut bytes = Vec::from_slice(alloc, text)?;
+    match to_tape(alloc, bytes.as_mut_slice()) {
+        Ok(tape) => format!(in alloc; "{tape:?}"),
+        Err(kind) => format!(in alloc; "{kind:?}"),
+    }
+}
+
+fn repeated(alloc: Global, part: &str, count: usize) -> Result<String, AllocError> {
+    let mut text = String::new(alloc);
+    for _ in 0..count {
+        text.push_str(part)?;
+    }
+    Ok(text)
+}
+
+/// `count` times the first part, the middle, and `count` times the last part.
+fn nested(
+    alloc: Global,
+    open: &str,
+    middle: &str,
+    close: &str,
+    count: usize,
+) -> Result<String, AllocError> {
+    let mut text = repeated(alloc, open, count)?;
+    text.push_str(middle)?;
+    text.push_str(repeated(alloc, close, count)?.as_str())?;
+    Ok(text)
+}
+
+#[test]
+fn nodes_and_counts(rt: HostRuntime) -> Result<(), AllocError> {
+    for (text, nodes) in [
+        (
+            "{\"x\":{\"k\":1},\"k\":2}",
+            "Object { len: 2, count: 6 }, String(\"x\"), Object { len: 1, count: 2 }, String(\"k\"), Static(U64(1)), String(\"k\"), Static(U64(2))",
+        ),
+        (" [ ] ", "Array { len: 0, count: 0 }"),
+        (
+            "[null,[true,false],{},\"\"]",
+            "Array { len: 4, count: 6 }, Static(Null), Array { len: 2, count: 2 }, Static(Bool(true)), Static(Bool(false)), Object { len: 0, count: 0 }, String(\"\")",
+        ),
+        ("\t\r\n 0\n", "Static(U64(0))"),
+    ] {
+        let wanted = format!(in rt.alloc(); "Tape {{ nodes: [{nodes}] }}")?;
+        assert_eq!(rt;
+            answer(rt.alloc(), text.as_bytes())?.as_str(),
+            wanted.as_str(),
+            "{text}"
+        );
+    }
+    Ok(())
+}
+
+#[test]
+fn numbers(rt: HostRuntime) -> Result<(), AllocError> {
+    for (text, node) in [
+        ("18446744073709551615", "U64(18446744073709551615)"),
+        ("18446744073709551616", "U128(18446744073709551616)"),
+        ("10000000000000000000", "U64(10000000000000000000)"),
+        (
+            "340282366920938463463374607431768211455",
+            "U128(340282366920938463463374607431768211455)",
+        ),
+        ("999999999999999999", "U64(999999999999999999)"),
+        ("-999999999999999999", "I64(-999999999999999999)"),
+        ("-9223372036854775808", "I64(-9223372036854775808)"),
+        ("-9223372036854775809", "I128(-9223372036854775809)"),
+        (
+            "-170141183460469231731687303715884105728",
+            "I128(-170141183460469231731687303715884105728)",
+        ),
+        ("-0", "I64(0)"),
+        ("7", "U64(7)"),
+    ] {
+        let wanted = format!(in rt.alloc(); "Tape {{ nodes: [Static({node})] }}")?;
+        assert_eq!(rt;
+            answer(rt.alloc(), text.as_bytes())?.as_str(),
+            wanted.as_str()
+        );
+    }
+    Ok(())
+}
+
+/// The text of a document that is one string.
+fn text_is(alloc: Global, spelled: &str, wanted: &str) -> Result<bool, AllocError> {
+    let shown = format!(in alloc; "Tape {{ nodes: [String({wanted:?})] }}")?;
+    Ok(answer(alloc, spelled.as_bytes())?.as_str() == shown.as_str())
+}
+
+#[test]
+fn texts(rt: HostRuntime) -> Result<(), AllocError> {
+    for (spelled, wanted) in [
+        ("\"\\ud83d\\ude00\"", "\u{1f600}"),
+        ("\"a\\/b\\u0041\"", "a/bA"),
+        ("\"q\\\"k\"", "q\"k"),
+        ("\"\\b\\f\\n\\r\\t\\\\\"", "\u{8}\u{c}\n\r\t\\"),
+        ("\"\\u00e9\\u00E9\\u20ac\"", "\u{e9}\u{e9}\u{20ac}"),
+        ("\"\\n\u{65e5}\u{672c}\"", "\n\u{65e5}\u{672c}"),
+        (
+            "\"0123456789abcdef0123456789abcdef0123456789abcdef\\u0041\u{e9}\"",
+            "0123456789abcdef0123456789abcdef0123456789abcdefA\u{e9}",
+        ),
+    ] {
+        assert!(rt; text_is(rt.alloc(), spelled, wanted)?, "{spelled}");
+    }
+    let long = repeated(rt.alloc(), "plain text ", 40)?;
+    let spelled = format!(in rt.alloc(); "\"{long}\"")?;
+    assert!(rt; text_is(rt.alloc(), spelled.as_str(), long.as_str())?);
+    Ok(())
+}
+
+#[test]
+fn refusals(rt: HostRuntime) -> Result<(), AllocError> {
+    for (text, kind) in [
+        ("", "Syntax"),
+        ("  ", "Syntax"),
+        ("01", "Syntax"),
+        ("[1,]", "Syntax"),
+        ("-", "Syntax"),
+        ("nul", "Syntax"),
+        ("[1 2]", "Syntax"),
+        ("{\"a\":1", "Syntax"),
+        ("\"\\u12g4\"", "Syntax"),
+        ("\"\t\"", "Syntax"),
+        ("+1", "Syntax"),
+        (".5", "Syntax"),
+        ("-01", "Syntax"),
+        ("01.5", "Syntax"),
+        ("\"\\q\"", "Syntax"),
+        ("\"\\", "Syntax"),
+        ("\"\\ud83d", "Syntax"),
+        ("1 1", "Syntax"),
+        ("{1:1}", "Syntax"),
+        ("\"\\ud83d\"", "LoneSurrogate"),
+        ("\"\\ude00\"", "LoneSurrogate"),
+        ("\"\\ud83d\\u0041\"", "LoneSurrogate"),
+        ("\"\\ud83dx\"", "LoneSurrogate"),
+        ("\"\\ud83d\\n\"", "LoneSurrogate"),
+        ("1.5", "Float"),
+        ("1e3", "Float"),
+        ("1.", "Float"),
+        ("1e", "Float"),
+        ("[1.5", "Float"),
+        ("340282366920938463463374607431768211456e1", "Float"),
+        ("340282366920938463463374607431768211456", "NumberTooLarge"),
+        ("-170141183460469231731687303715884105729", "NumberTooLarge"),
+        ("\u{feff}1", "Syntax"),
+    ] {
+        assert_eq!(rt;
+            answer(rt.alloc(), text.as_bytes())?.as_str(),
+            kind,
+            "{text}"
+        );
+    }
+    Ok(())
+}
+
+#[test]
+fn bytes_that_are_no_text(rt: HostRuntime) -> Result<(), AllocError> {
+    assert_eq!(rt;
+        answer(rt.alloc(), b"{\"\xff\":1}")?.as_str(),
+        "InvalidUtf8"
+    );
+    assert_eq!(rt; answer(rt.alloc(), b"\"\xc3")?.as_str(), "InvalidUtf8");
+    assert_eq!(rt; answer(rt.alloc(), b"[1,\xff")?.as_str(), "InvalidUtf8");
+    assert_eq!(rt; answer(rt.alloc(), b"\"\xff\"")?.as_str(), "InvalidUtf8");
+    assert_eq!(rt; answer(rt.alloc(), b"01\xff")?.as_str(), "InvalidUtf8");
+    Ok(())
+}
+
+#[test]
+fn beginnings(rt: HostRuntime) -> Result<(), AllocError> {
+    let whole = "{\"a\":[1,\"\\u00e9\",true]}".as_bytes();
+    for len in 0..whole.len() {
+        assert_eq!(rt;
+            answer(rt.alloc(), &whole[..len])?.as_str(),
+            "Syntax",
+            "{len}"
+        );
+    }
+    Ok(())
+}
+
+#[test]
+fn depths(rt: HostRuntime) -> Result<(), AllocError> {
+    let alloc = rt.alloc();
+    for (open, middle, close, past) in [
+        ("[", "", "]", "TooDeep"),
+        ("{\"a\":", "1", "}", "TooDeep"),
+    ] {
+        let deepest = nested(alloc, open, middle, close, DEPTH_LIMIT)?;
+        assert!(rt;
+            answer(alloc, deepest.as_bytes())?
+                .as_str()
+                .starts_with("Tape")
+        );
+        let deeper = nested(alloc, open, middle, close, DEPTH_LIMIT + 1)?;
+        assert_eq!(rt; answer(alloc, deeper.as_bytes())?.as_str(), past);
+    }
+    assert_eq!(rt;
+        answer(alloc, repeated(alloc, "[", 1024)?.as_bytes())?.as_str(),
+        "Syntax"
+    );
+    assert_eq!(rt;
+        answer(alloc, repeated(alloc, "[", 1025)?.as_bytes())?.as_str(),
+        "TooDeep"
+    );
+    Ok(())
+}
+
+#[test]
+fn buffers_are_used_again(rt: HostRuntime) -> Result<(), AllocError> {
+    let alloc = rt.alloc();
+    let mut buffers = Buffers::new(alloc, 4)?;
+    for text in [
+        "[1,[2,\"\\u0041\"]]",
+        "[1,",
+        "\"\\ud83d\"",
+        "[[[[[[[[[[",
+        "{\"a\":1.5}",
+        "\"x\"",
+        "[]",
+    ] {
+        let mut bytes = Vec::from_slice(alloc, text.as_bytes())?;
+        let shown = match to_tape_with_buffers(alloc, bytes.as_mut_slice(), &mut buffers) {
+            Ok(tape) => format!(in alloc; "{tape:?}")?,
+            Err(kind) => format!(in alloc; "{kind:?}")?,
+        };
+        assert_eq!(rt;
+            shown.as_str(),
+            answer(alloc, text.as_bytes())?.as_str(),
+            "{text}"
+        );
+    }
+    Ok(())
+}

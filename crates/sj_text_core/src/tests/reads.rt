@@ -1,0 +1,223 @@
+//! Typed reads.
+
+use crate::{
+    ExtendedValueType, SameAs, StaticNode, TryTypeError, TypedValue, ValueAsScalar, ValueType,
+};
+
+/// Numbers, and the narrowest signed and unsigned type that each fits: 0 for 8 bits, 1 for 16 and so
+/// on up to 4 for 128, and 5 for none.
+const NUMBERS: [(StaticNode, usize, usize); 32] = [
+    (StaticNode::I64(i8::MIN as i64), 0, 5),
+    (StaticNode::I64(i8::MAX as i64), 0, 0),
+    (StaticNode::I64(i16::MIN as i64), 1, 5),
+    (StaticNode::I64(i16::MAX as i64), 1, 1),
+    (StaticNode::I64(i32::MIN as i64), 2, 5),
+    (StaticNode::I64(i32::MAX as i64), 2, 2),
+    (StaticNode::I64(i64::MIN), 3, 5),
+    (StaticNode::I64(i64::MAX), 3, 3),
+    (StaticNode::I128(i128::MIN), 4, 5),
+    (StaticNode::I128(i128::MAX), 4, 4),
+    (StaticNode::U64(u8::MIN as u64), 0, 0),
+    (StaticNode::U64(u8::MAX as u64), 1, 0),
+    (StaticNode::U64(u16::MIN as u64), 0, 0),
+    (StaticNode::U64(u16::MAX as u64), 2, 1),
+    (StaticNode::U64(u32::MIN as u64), 0, 0),
+    (StaticNode::U64(u32::MAX as u64), 3, 2),
+    (StaticNode::U64(u64::MIN), 0, 0),
+    (StaticNode::U64(u64::MAX), 4, 3),
+    (StaticNode::U128(u128::MIN), 0, 0),
+    (StaticNode::U128(u128::MAX), 5, 4),
+    (StaticNode::U64(usize::MIN as u64), 0, 0),
+    (StaticNode::U64(usize::MAX as u64), 4, 3),
+    (StaticNode::I64(256), 1, 1),
+    (StaticNode::I64(-129), 1, 5),
+    (StaticNode::I128(18446744073709551616), 4, 4),
+    (
+        StaticNode::U128(170141183460469231731687303715884105728),
+        5,
+        4,
+    ),
+    (StaticNode::U128(255), 1, 0),
+    (StaticNode::I128(-1), 0, 5),
+    (StaticNode::U128(5), 0, 0),
+    (StaticNode::I64(65536), 2, 2),
+    (StaticNode::U64(9223372036854775808), 4, 3),
+    (StaticNode::I128(-9223372036854775809), 4, 5),
+];
+
+/// Which signed types the value fits, and what they read of it is the value.
+fn signed(node: StaticNode) -> [(bool, bool); 5] {
+    [
+        (node.is_i8(), node.as_i8().is_some_and(|n| node.same_as(&n))),
+        (
+            node.is_i16(),
+            node.as_i16().is_some_and(|n| node.same_as(&n)),
+        ),
+        (
+            node.is_i32(),
+            node.as_i32().is_some_and(|n| node.same_as(&n)),
+        ),
+        (
+            node.is_i64(),
+            node.as_i64().is_some_and(|n| node.same_as(&n)),
+        ),
+        (
+            node.is_i128(),
+            node.as_i128().is_some_and(|n| node.same_as(&n)),
+        ),
+    ]
+}
+
+/// Which unsigned types the value fits, and what they read of it is the value.
+fn unsigned(node: StaticNode) -> [(bool, bool); 5] {
+    [
+        (node.is_u8(), node.as_u8().is_some_and(|n| node.same_as(&n))),
+        (
+            node.is_u16(),
+            node.as_u16().is_some_and(|n| node.same_as(&n)),
+        ),
+        (
+            node.is_u32(),
+            node.as_u32().is_some_and(|n| node.same_as(&n)),
+        ),
+        (
+            node.is_u64(),
+            node.as_u64().is_some_and(|n| node.same_as(&n)),
+        ),
+        (
+            node.is_u128(),
+            node.as_u128().is_some_and(|n| node.same_as(&n)),
+        ),
+    ]
+}
+
+#[test]
+fn numbers_are_read_by_their_ranges(rt: HostRuntime) {
+    for (node, narrowest_signed, narrowest_unsigned) in NUMBERS {
+        for (i, reads) in signed(node).into_iter().enumerate() {
+            let fits = narrowest_signed <= i;
+            assert_eq!(rt; reads, (fits, fits), "{node} at {i}");
+        }
+        for (i, reads) in unsigned(node).into_iter().enumerate() {
+            let fits = narrowest_unsigned <= i;
+            assert_eq!(rt; reads, (fits, fits), "{node} at {i}");
+        }
+        assert_eq!(rt; node.is_usize(), node.is_u64());
+        assert_eq!(rt; node.as_usize().is_some(), node.is_usize());
+    }
+}
+
+/// What each `try_` call expects of a value that it can't read.
+fn expected(node: StaticNode) -> [Option<TryTypeError>; 14] {
+    [
+        node.try_as_null().err(),
+        node.try_as_bool().err(),
+        node.try_as_str().err(),
+        node.try_as_i8().err(),
+        node.try_as_i16().err(),
+        node.try_as_i32().err(),
+        node.try_as_i64().err(),
+        node.try_as_i128().err(),
+        node.try_as_u8().err(),
+        node.try_as_u16().err(),
+        node.try_as_u32().err(),
+        node.try_as_u64().err(),
+        node.try_as_u128().err(),
+        node.try_as_usize().err(),
+    ]
+}
+
+const EXPECTED: [ValueType; 14] = [
+    ValueType::Null,
+    ValueType::Bool,
+    ValueType::String,
+    ValueType::Extended(ExtendedValueType::I8),
+    ValueType::Extended(ExtendedValueType::I16),
+    ValueType::Extended(ExtendedValueType::I32),
+    ValueType::I64,
+    ValueType::I128,
+    ValueType::Extended(ExtendedValueType::U8),
+    ValueType::Extended(ExtendedValueType::U16),
+    ValueType::Extended(ExtendedValueType::U32),
+    ValueType::U64,
+    ValueType::U128,
+    ValueType::Extended(ExtendedValueType::Usize),
+];
+
+#[test]
+fn faults_name_both_kinds(rt: HostRuntime) {
+    let nodes = [
+        (StaticNode::Null, ValueType::Null, 0),
+        (StaticNode::Bool(true), ValueType::Bool, 1),
+    ];
+    for (node, got, own) in nodes {
+        for (i, (fault, kind)) in expected(node).into_iter().zip(EXPECTED).enumerate() {
+            let want = if i == own {
+                None
+            } else {
+                Some(TryTypeError {
+                    expected: kind,
+                    got,
+                })
+            };
+            assert_eq!(rt; fault, want);
+        }
+    }
+}
+
+#[test]
+fn reads_answer_the_value(rt: HostRuntime) {
+    let five = StaticNode::U128(5);
+    assert_eq!(rt; StaticNode::Null.as_null(), Some(()));
+    assert_eq!(rt; StaticNode::Null.try_as_null(), Ok(()));
+    assert_eq!(rt; StaticNode::Bool(true).as_bool(), Some(true));
+    assert_eq!(rt; StaticNode::Bool(true).try_as_bool(), Ok(true));
+    assert_eq!(rt; five.as_null(), None);
+    assert_eq!(rt; five.as_bool(), None);
+    assert!(rt; five.as_str().is_none());
+    assert_eq!(rt; five.as_i8(), Some(5));
+    assert_eq!(rt; five.try_as_i8(), Ok(5));
+    assert_eq!(rt; five.as_i16(), Some(5));
+    assert_eq!(rt; five.try_as_i16(), Ok(5));
+    assert_eq!(rt; five.as_i32(), Some(5));
+    assert_eq!(rt; five.try_as_i32(), Ok(5));
+    assert_eq!(rt; five.as_i64(), Some(5));
+    assert_eq!(rt; five.try_as_i64(), Ok(5));
+    assert_eq!(rt; five.as_i128(), Some(5));
+    assert_eq!(rt; five.try_as_i128(), Ok(5));
+    assert_eq!(rt; five.as_u8(), Some(5));
+    assert_eq!(rt; five.try_as_u8(), Ok(5));
+    assert_eq!(rt; five.as_u16(), Some(5));
+    assert_eq!(rt; five.try_as_u16(), Ok(5));
+    assert_eq!(rt; five.as_u32(), Some(5));
+    assert_eq!(rt; five.try_as_u32(), Ok(5));
+    assert_eq!(rt; five.as_u64(), Some(5));
+    assert_eq!(rt; five.try_as_u64(), Ok(5));
+    assert_eq!(rt; five.as_u128(), Some(5));
+    assert_eq!(rt; five.try_as_u128(), Ok(5));
+    assert_eq!(rt; five.as_usize(), Some(5));
+    assert_eq!(rt; five.try_as_usize(), Ok(5));
+}
+
+#[test]
+fn kinds_are_told(rt: HostRuntime) {
+    let carriers = [
+        (StaticNode::I64(1), ValueType::I64),
+        (StaticNode::U64(1), ValueType::U64),
+        (StaticNode::I128(1), ValueType::I128),
+        (StaticNode::U128(1), ValueType::U128),
+    ];
+    for (node, kind) in carriers {
+        assert_eq!(rt; node.value_type(), kind);
+    }
+    let nodes = [
+        (StaticNode::Null, true, false),
+        (StaticNode::Bool(false), false, true),
+        (StaticNode::U64(42), false, false),
+    ];
+    for (node, is_null, is_bool) in nodes {
+        assert_eq!(rt; node.is_null(), is_null);
+        assert_eq!(rt; node.is_bool(), is_bool);
+        assert!(rt; !node.is_str() && !node.is_array() && !node.is_object());
+    }
+}

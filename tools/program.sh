@@ -1,0 +1,73 @@
+#!/usr/bin/env bash
+# Runs the program sjval as a user would, and looks at its statuses and at what it writes.
+# Usage: tools/program.sh PROGRAM. The last line is 'N passed, M failed'.
+set -u
+program=$(realpath "$1")
+work=$(mktemp -d)
+trap 'rm -rf "$work"' EXIT
+cd "$work" || exit 1
+passed=0
+failed=0
+
+# expect NAME STATUS STDOUT STDERR, after a run has left its own in out, err and status
+expect() {
+  printf '%b' "$3" > want.out
+  printf '%b' "$4" > want.err
+  if [ "$status" = "$2" ] && cmp -s out want.out && cmp -s err want.err; then
+    passed=$((passed + 1))
+  else
+    failed=$((failed + 1))
+    printf 'failed: %s (status %s)\n' "$1" "$status"
+    head -c 300 out
+    head -c 300 err
+  fi
+}
+
+# session NAME WORDS INPUT STATUS STDOUT STDERR; the texts may have escapes as \n, \xff
+session() {
+  # shellcheck disable=SC2086
+  printf '%b' "$3" | "$program" $2 > out 2> err
+  status=$?
+  expect "$1" "$4" "$5" "$6"
+}
+
+usage='usage: sjval owned|borrowed|lazy [known]\n'
+
+session 'an insert and two encodes' owned '{"a":1}\n---\n["insert",[],"b",[true]]\n["encode",[]]\n' 0 'none\n{"a":1,"b":[true]}\n' ''
+session 'no commands' owned '[1]' 0 '' ''
+session 'CR LF' owned '[1]\r\n---\r\n["encode",[]]\r\n' 0 '[1]\n' ''
+session 'a line that is no command' owned 'null\n---\n["nonsense"]\n' 0 'bad command\n' ''
+session 'no words' '' 'null' 2 '' "$usage"
+session 'a word too many' 'owned known known' 'null' 2 '' "$usage"
+session 'an unknown word' 'own' 'null' 2 '' "$usage"
+session 'lazy by known key' 'lazy known' 'null' 2 '' "$usage"
+session 'the empty text' owned '' 3 '' 'text refused: Syntax\n'
+session 'no UTF-8' owned '"\xff"' 3 '' 'text refused: InvalidUtf8\n'
+session 'a fraction' owned '[1.5]' 3 '' 'text refused: Float\n'
+session 'half a pair' owned '"\\ud83d"' 3 '' 'text refused: LoneSurrogate\n'
+session 'a large number' owned '340282366920938463463374607431768211456' 3 '' 'text refused: NumberTooLarge\n'
+session 'the first line is ---' owned '---\n["encode",[]]\n' 3 '' 'text refused: Syntax\n'
+
+printf '[%.0s' {1..1025} | "$program" owned > out 2> err
+status=$?
+expect 'nested too deep' 3 '' 'text refused: TooDeep\n'
+
+"$program" < / > out 2> err
+status=$?
+expect 'usage before any input is read' 2 '' "$usage"
+
+"$program" owned < / > out 2> err
+status=$?
+expect 'an input that fails' 5 '' 'input or output failed\n'
+
+printf '1\n---\n["encode",[]]\n' | "$program" owned 2> err > /dev/full
+status=$?
+: > out
+expect 'an output that fails' 5 '' 'input or output failed\n'
+
+head -c 400000000 /dev/zero | tr '\0' ' ' | (ulimit -v 300000; exec "$program" owned) > out 2> err
+status=$?
+expect 'no memory for the input' 4 '' 'out of memory\n'
+
+echo "$passed passed, $failed failed"
+[ "$failed" = 0 ]
