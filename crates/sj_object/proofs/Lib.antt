@@ -4,3 +4,4 @@ pub mod Lent
 pub mod Shown
 pub mod Kept
 pub mod Walks
+pub mod Piles

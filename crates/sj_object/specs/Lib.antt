@@ -8,4 +8,5 @@ pub mod Steps
 pub mod Index
 pub mod Lends
 pub mod Builder
+pub mod Piles
 pub mod formers

@@ -1,17 +1,19 @@
 //! Ordered maps from texts, and the keys and hashers that they take.
 #![tactic(auto)]
 
+mod build;
 mod builder;
 mod hasher;
 mod key;
 mod map;
-mod steps;
+mod read;
 
+pub use build::build_from_tape;
 pub use builder::{Builder, Made, MapOf};
 pub use hasher::{KeyHasher, NotSoRandomState, ObjectHasher};
 pub use key::{KeyMade, KeyOf, KeyText};
 pub use map::{HashMap, IntoIter, Iter, Keys, Values};
-pub use steps::Steps;
+pub use read::{deserialize, deserialize_with_buffers};
 
 #[cfg(test)]
 mod tests;

@@ -1,6 +1,7 @@
 ghost use Rattle.std.specs.Prelude.{◌≡◌, ◌<◌};
 
 use super::*;
+use sj_text_core::Steps;
 use std::alloc::Global;
 use std::borrow::CowStr;
 use std::marker::Brand;

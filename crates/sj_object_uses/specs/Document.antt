@@ -1,5 +1,6 @@
 -- The tree that a document means, where t gives the text of a key or a string.
-use Rattle.std.specs.Prelude.{ℕ, List, Option, Some, None}
+use Rattle.std.specs.Prelude.{ℕ, Bool, true, ◌&&◌, List, Option, Some, None}
+use Rattle.std.specs.List.{list_all}
 use Rattle.sj_text_core.specs.Tree.{Tree, text, list, obj, items_from, Members}
 use Rattle.sj_text_core.specs.Scalars.{static_tree}
 use Rattle.sj_text_core.specs.Edits.{put, cut}
@@ -17,6 +18,18 @@ module _ {T : Type 0} (t : T → List ℕ) where
 
   abbrev pub tree : Document T → Tree
   tree = fold-Document T Tree level_tree
+
+module _ {T : Type 0} (is_made : T → Bool) where
+  -- one level, whose parts are seen as whether they pass
+  abbrev pub level_passes : Document-F T Bool → Bool
+  level_passes (Document-F.Static s) = true
+  level_passes (Document-F.String s) = is_made s
+  level_passes (Document-F.Array v) = list_all (λ b. b) v.value.items
+  level_passes (Document-F.Object m) = list_all (λ e. is_made e.0.0 && e.1) m.value.entries
+
+  -- whether every text and every key passes the test
+  abbrev pub all_texts : Document T → Bool
+  all_texts = fold-Document T Bool level_passes
 
 -- the members of an object
 abbrev pub object_of : Tree → Option Members

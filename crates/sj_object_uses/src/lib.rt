@@ -3,10 +3,12 @@
 
 mod copy;
 mod edit;
+mod made;
 mod paths;
 mod print;
 mod value;
 
+pub use made::{borrowed_from_tape, owned_from_tape};
 pub use paths::replace_at;
 pub use print::outline;
 pub use value::{BorrowedValue, Document, Object, OwnedValue};

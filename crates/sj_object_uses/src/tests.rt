@@ -1,5 +1,6 @@
 use super::*;
-use sj_object::{HashMap, ObjectHasher};
+use sj_object::{HashMap, ObjectHasher, deserialize};
+use sj_tape::{Node, Tape};
 use sj_text_core::StaticNode;
 use std::alloc::Global;
 use std::borrow::CowStr;
@@ -66,5 +67,78 @@ fn lends_its_texts(rt: HostRuntime) -> Result<(), Fail> {
             Some(Document::String(CowStr::Borrowed("x")))
         )
     );
+    Ok(())
+}
+
+/// A tape of one object: the keys `k00`, `k01` and so on, each with its number, and then the
+/// repeats with 99.
+fn repeating<'i>(alloc: Global, keys: &'i [String], repeats: &[usize]) -> Result<Tape<'i>, Fail> {
+    let len = keys.len() + repeats.len();
+    let mut nodes = vec![in alloc;
+        Node::Object {
+            len,
+            count: 2 * len
+        },
+    ]?;
+    for (i, key) in keys.iter().enumerate() {
+        nodes.push(Node::String(key.as_str()))?;
+        nodes.push(Node::Static(StaticNode::U64(i as u64)))?;
+    }
+    for i in repeats {
+        let Some(key) = keys.get(*i) else {
+            return Err("no such key".into());
+        };
+        nodes.push(Node::String(key.as_str()))?;
+        nodes.push(Node::Static(StaticNode::U64(99)))?;
+    }
+    Ok(Tape::new(nodes)?)
+}
+
+#[test]
+fn keeps_the_first_of_each_key(rt: HostRuntime) -> Result<(), Fail> {
+    let alloc = rt.alloc();
+    for (len, repeat) in [(32, 0), (40, 34)] {
+        let mut keys = Vec::new(alloc);
+        for i in 0..len {
+            keys.push(format!(in alloc; "k{i:02}")?)?;
+        }
+        let tape = repeating(alloc, keys.as_slice(), &[repeat])?;
+        let value = owned_from_tape(alloc, tape.as_value())?;
+        let Document::Object(members) = &value else {
+            return Err("no object".into());
+        };
+        assert_eq!(rt; members.len(), len);
+        for (i, key) in keys.iter().enumerate() {
+            let found = members.get(key.as_str());
+            assert!(rt;
+                matches!(found, Some(Document::Static(StaticNode::U64(n))) if *n == i as u64)
+            );
+        }
+        let lent = borrowed_from_tape(alloc, tape.as_value())?;
+        let Document::Object(members) = &lent else {
+            return Err("no object".into());
+        };
+        assert!(rt; members.keys().all(|key| matches!(key, CowStr::Borrowed(_))));
+    }
+    Ok(())
+}
+
+#[test]
+fn reads_a_text_with_a_repeat(rt: HostRuntime) -> Result<(), Fail> {
+    let alloc = rt.alloc();
+    let mut text = String::from_str(alloc, "{")?;
+    for i in 0..32 {
+        text.push_str(format!(in alloc; "\"k{i:02}\":{i},")?.as_str())?;
+    }
+    text.push_str("\"k00\":99}")?;
+    let mut bytes = text.into_bytes();
+    let value = deserialize::<OwnedValue, String>(alloc, bytes.as_mut_slice())?;
+    let Document::Object(members) = &value else {
+        return Err("no object".into());
+    };
+    assert_eq!(rt; members.len(), 32);
+    assert_eq!(rt; members.buckets(), None);
+    let first = members.get("k00");
+    assert!(rt; matches!(first, Some(Document::Static(StaticNode::U64(0)))));
     Ok(())
 }

@@ -48,6 +48,14 @@ impl<'t, 'i> Value<'t, 'i> {
         Value { nodes }
     }
 
+    /// The nodes, a preorder.
+    pub fn nodes(&self) -> &'t [Node<'i>]
+        ensures whole { IsPreorder (marks result.now) }
+        ensures tree { tree_of (marks result.now) ≡ tree self.now }
+    {
+        self.nodes
+    }
+
     /// The items, where it is an array; else None.
     pub fn as_array(&self) -> Option<Array<'t, 'i>>
         ensures { option_map items result ≡ as_items (tree self.now) }

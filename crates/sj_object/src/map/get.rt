@@ -8,7 +8,7 @@ use super::HashMap;
 use super::search::{position_counted, position_of};
 use crate::hasher::KeyHasher;
 use crate::key::KeyText;
-use crate::steps::Steps;
+use sj_text_core::Steps;
 use std::sync::ledger::Ledger;
 
 impl<K: KeyText, V, S: KeyHasher> HashMap<K, V, S> {

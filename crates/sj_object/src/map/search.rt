@@ -6,7 +6,7 @@ ghost use Rattle.sj_object.specs.Entries.{entries_of};
 ghost use Rattle.sj_object.specs.Steps.{visited};
 
 use crate::key::KeyText;
-use crate::steps::Steps;
+use sj_text_core::Steps;
 use std::marker::Brand;
 use std::sync::ledger::{Blank, Ledger};
 
