@@ -1,6 +1,7 @@
 -- What the definitions give on small examples, by computation.
 pub mod Trees
 pub mod Numbers
+pub mod Reads
 pub mod Sameness
 pub mod Spelling
 pub mod Limits
