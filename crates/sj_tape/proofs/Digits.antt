@@ -1,6 +1,7 @@
 -- Digits, as many as there are, and what a word holds of them.
 use Rattle.std.proofs.Common.{◌≡◌, ◌≢◌, ℕ, pos, neg_ℤ, suc, ◌+◌, ◌-◌, ◌*◌, ◌%◌, ◌^◌, ◌<◌, ◌≤◌, Bool, true, false, List, [], ◌∷◌, length, take, drop, get_or, cond, lit<, Some, None, fold, refl, sym, ap, subst, ◌∙◌, arith, zero-mul, append-nil, length-append, length-drop}
 use Rattle.std.specs.Prelude.{slice_range}
+use Rattle.std.specs.Int.{cast_signed, w64}
 use Rattle.std.specs.List.{prefix_len}
 use Rattle.std.specs.Char.{is_ascii_digit, digit_value}
 use Rattle.std.specs.Str.Parse.{AllDigits, digits_value, digits_value_after}
@@ -14,12 +15,12 @@ use Rattle.std.proofs.lemmas.Grind.{common_steps}
 use Rattle.std.proofs.lemmas.List.{take_at, drop-drop, length-take-le, get_or-drop}
 use Rattle.std.proofs.lemmas.List.Sums.{prefix_len_passes, prefix_len-le-length}
 use Rattle.sj_text_core.specs.Tree.{Tree, int, i64, u64}
-use Rattle.sj_text_core.specs.Nodes.{flat}
+use Rattle.sj_text_core.specs.Nodes.{flat, number}
 use Rattle.sj_text_core.specs.Scalars.{static_tree}
 use Rattle.sj_text_core.specs.declared.static_node.StaticNode.{StaticNode}
 use Rattle.sj_text_core.specs.declared.static_node.StaticNode.TheVariants as nodes
 use Rattle.sj_tape.specs.declared.reader.piece.Piece.{Piece}
-use Rattle.sj_tape.specs.declared.reader.piece.Piece.TheVariants.{Wide}
+use Rattle.sj_tape.specs.declared.reader.piece.Piece.TheVariants.{Integer, Wide}
 use Rattle.sj_tape.specs.Marks.{static_mark}
 use Rattle.sj_tape.specs.Pieces.{piece_mark, ReadsPiece, number_mark, scalar_mark}
 use Rattle.sj_text_core.specs.Grammar.{value_of, number_of}
@@ -146,6 +147,16 @@ reads_number b at start e n minus t p sign h k some plain ends v w m = record {
   was = sign ∙ numeral_reads minus b start e t h k some plain ends (ap (λ x. number_of minus x) (sym v) ∙ w);
   node = m;
 }
+
+-- the piece of a number of one word
+pub reads_word : (b : List ℕ) (at start e n bits most : ℕ) (minus : Bool) → number_at (drop at b) ≡ numeral_at minus (digits_len (drop start b)) (drop start b)
+    → start ≤ e → digits_len (drop start b) ≡ e - start → e - start ≢ 0 → (get_or b start 0 ≡ 48 → e - start ≤ 1) → goes_on (drop e b) ≡ false
+    → most ≡ cond minus 18 19 → e - start ≤ most → (e - start ≤ 19 → n ≡ value_of (slice_range b start e)) → (e - start ≤ 18 → n < 10 ^ 18) → n < 2 ^ 64
+    → (minus ≡ true → cast_signed w64 bits ≡ neg_ℤ (pos n)) → (minus ≡ false → bits ≡ n) → ReadsPiece (number_at (drop at b)) b e (Integer minus bits)
+reads_word b at start e n bits most true sign h k some plain ends m few v w fits neg same =
+    reads_number b at start e n true (int (neg_ℤ (pos n)) i64) (Integer true bits) sign h k some plain ends (v (omega (arith, few, m))) (negative_of n (w (omega (arith, few, m)))) (ap (λ z. number z i64 ∷ []) (sym (neg refl)))
+reads_word b at start e n bits most false sign h k some plain ends m few v w fits neg same =
+    reads_number b at start e n false (int (pos n) u64) (Integer false bits) sign h k some plain ends (v (omega (arith, few, m))) (word_of n fits) (ap (λ z. number (pos z) u64 ∷ []) (sym (same refl)))
 
 -- the piece of a number of many digits
 pub reads_wide : (b : List ℕ) (at e : ℕ) (n : StaticNode) → at ≤ e → e ≤ length b → number_at (drop at b) ≡ Some (static_tree n, drop e b) → ReadsPiece (number_at (drop at b)) b e (Wide at e)

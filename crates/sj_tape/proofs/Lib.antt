@@ -1,5 +1,6 @@
 pub mod Blanks
 pub mod Bytewise
+pub mod Colons
 pub mod Complete
 pub mod Containers
 pub mod Counts

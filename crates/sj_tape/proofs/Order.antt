@@ -2,25 +2,24 @@
 use Rattle.std.proofs.Common.{ℕ, zero, suc, ◌≤◌, List, [], ◌∷◌, ◌++◌, set, arith}
 use Rattle.sj_tape.specs.Pieces.{IsBetween, InOrder}
 use Rattle.sj_tape.specs.declared.reader.piece.Piece.{Piece}
-use Rattle.sj_tape.specs.declared.reader.piece.Piece.TheVariants.{Null, Bool, I64, U64, Wide, Text, Escaped, Array, Object}
+use Rattle.sj_tape.specs.declared.reader.piece.Piece.TheVariants.{Null, Bool, Integer, Wide, Text, Escaped, Array, Object}
 
 -- a piece has its place
 pub between_le : (b : List ℕ) (lo hi : ℕ) (p : Piece) → IsBetween b lo hi p → lo ≤ hi
 between_le b lo hi Null h = h
 between_le b lo hi (Bool t) h = h
-between_le b lo hi (I64 n) h = h
-between_le b lo hi (U64 n) h = h
+between_le b lo hi (Integer m n) h = h
 between_le b lo hi (Wide s e) h = omega (arith, h.0, h.1, h.2)
 between_le b lo hi (Text s e) h = omega (arith, h.0, h.1, h.2)
 between_le b lo hi (Escaped s e) h = omega (arith, h.0, h.1, h.2)
 between_le b lo hi (Array l n) h = h
 between_le b lo hi (Object l n) h = h
 
-between_lower : (b : List ℕ) (lo mid hi : ℕ) (p : Piece) → lo ≤ mid → IsBetween b mid hi p → IsBetween b lo hi p
+-- a piece has its place behind an earlier one
+pub between_lower : (b : List ℕ) (lo mid hi : ℕ) (p : Piece) → lo ≤ mid → IsBetween b mid hi p → IsBetween b lo hi p
 between_lower b lo mid hi Null k h = omega (arith, h, k)
 between_lower b lo mid hi (Bool t) k h = omega (arith, h, k)
-between_lower b lo mid hi (I64 n) k h = omega (arith, h, k)
-between_lower b lo mid hi (U64 n) k h = omega (arith, h, k)
+between_lower b lo mid hi (Integer m n) k h = omega (arith, h, k)
 between_lower b lo mid hi (Wide s e) k h = (omega (arith, k, h.0), h.1, h.2, h.3)
 between_lower b lo mid hi (Text s e) k h = (omega (arith, k, h.0), h.1, h.2)
 between_lower b lo mid hi (Escaped s e) k h = (omega (arith, k, h.0), h.1, h.2, h.3)

@@ -9,7 +9,7 @@ use Rattle.sj_text_core.specs.Nodes.{Mark, string}
 use Rattle.sj_tape.specs.Parse.{text_at, number_at}
 use Rattle.sj_tape.specs.Pieces.{after, text_of, number_mark, piece_mark, piece_marks, spelling_of, IsBetween, InOrder, IsInside, AreInside}
 use Rattle.sj_tape.specs.declared.reader.piece.Piece.{Piece}
-use Rattle.sj_tape.specs.declared.reader.piece.Piece.TheVariants.{Null, Bool, I64, U64, Wide, Text, Escaped, Array, Object}
+use Rattle.sj_tape.specs.declared.reader.piece.Piece.TheVariants.{Null, Bool, Integer, Wide, Text, Escaped, Array, Object}
 use Rattle.sj_tape.proofs.Decode.{drop_front, take_front, same_rest, EndsAt}
 use Rattle.sj_tape.proofs.Order.{between_le, order_le}
 
@@ -26,8 +26,7 @@ slice_kept b c n s e h k l m t =
 mark_kept : (b c : List ℕ) (n mid : ℕ) (p : Piece) → mid ≤ n → n ≤ length b → n ≤ length c → take n b ≡ take n c → IsInside b mid p → piece_mark b p ≡ piece_mark c p
 mark_kept b c n mid Null k l m t h = refl
 mark_kept b c n mid (Bool x) k l m t h = refl
-mark_kept b c n mid (I64 x) k l m t h = refl
-mark_kept b c n mid (U64 x) k l m t h = refl
+mark_kept b c n mid (Integer y x) k l m t h = refl
 mark_kept b c n mid (Wide s e) k l m t h = ap (λ x. number_mark (number_at x)) (slice_kept b c n s e (omega (arith, h.0)) (omega (arith, k, h.1)) l m t)
 mark_kept b c n mid (Text s e) k l m t h = ap (λ x. string x) (slice_kept b c n s e h.0 (omega (arith, k, h.1)) l m t)
 mark_kept b c n mid (Escaped s e) k l m t h = absurd h
@@ -42,8 +41,7 @@ marks_kept b c n mid (p ∷ ps) k l m t h = λ i. mark_kept b c n mid p k l m t 
 inside_kept : (b c : List ℕ) (n mid wide : ℕ) (p : Piece) → mid ≤ n → n ≤ length b → n ≤ length c → take n b ≡ take n c → mid ≤ wide → IsInside b mid p → IsInside c wide p
 inside_kept b c n mid wide Null k l m t w h = tt
 inside_kept b c n mid wide (Bool x) k l m t w h = tt
-inside_kept b c n mid wide (I64 x) k l m t w h = tt
-inside_kept b c n mid wide (U64 x) k l m t w h = tt
+inside_kept b c n mid wide (Integer y x) k l m t w h = tt
 inside_kept b c n mid wide (Wide s e) k l m t w h = (h.0, omega (arith, h.1, w), subst (λ x. number_at x ≢ None) (slice_kept b c n s e (omega (arith, h.0)) (omega (arith, k, h.1)) l m t) h.2)
 inside_kept b c n mid wide (Text s e) k l m t w h = (h.0, omega (arith, h.1, w))
 inside_kept b c n mid wide (Escaped s e) k l m t w h = h
@@ -57,8 +55,7 @@ all_kept b c n mid wide (p ∷ ps) k l m t w h = (inside_kept b c n mid wide p k
 inside_wider : (b : List ℕ) (m n : ℕ) (p : Piece) → m ≤ n → IsInside b m p → IsInside b n p
 inside_wider b m n Null k h = tt
 inside_wider b m n (Bool x) k h = tt
-inside_wider b m n (I64 x) k h = tt
-inside_wider b m n (U64 x) k h = tt
+inside_wider b m n (Integer y x) k h = tt
 inside_wider b m n (Wide s e) k h = (h.0, omega (arith, h.1, k), h.2)
 inside_wider b m n (Text s e) k h = (h.0, omega (arith, h.1, k))
 inside_wider b m n (Escaped s e) k h = h
@@ -130,8 +127,7 @@ marks_push b ps p = map-append (piece_mark b) ps (p ∷ [])
 plain_mark : (b old : List ℕ) (lo hi : ℕ) (p : Piece) → spelling_of p ≡ None → drop lo b ≡ drop lo old → IsBetween old lo hi p → piece_mark b p ≡ piece_mark old p
 plain_mark b old lo hi Null n e h = refl
 plain_mark b old lo hi (Bool x) n e h = refl
-plain_mark b old lo hi (I64 x) n e h = refl
-plain_mark b old lo hi (U64 x) n e h = refl
+plain_mark b old lo hi (Integer y x) n e h = refl
 plain_mark b old lo hi (Wide s t) n e h = ap (λ l. number_mark (number_at (take (t - s) l))) (same_rest b old lo s h.0 e)
 plain_mark b old lo hi (Text s t) n e h = ap (λ l. string (take (t - s) l)) (same_rest b old lo s h.0 e)
 plain_mark b old lo hi (Escaped s t) n e h = absurd (none-some (s, t) (sym n))
@@ -141,8 +137,7 @@ plain_mark b old lo hi (Object x y) n e h = refl
 plain_inside : (b old : List ℕ) (lo hi : ℕ) (p : Piece) → spelling_of p ≡ None → drop lo b ≡ drop lo old → IsBetween old lo hi p → IsInside b hi p
 plain_inside b old lo hi Null n e h = tt
 plain_inside b old lo hi (Bool x) n e h = tt
-plain_inside b old lo hi (I64 x) n e h = tt
-plain_inside b old lo hi (U64 x) n e h = tt
+plain_inside b old lo hi (Integer y x) n e h = tt
 plain_inside b old lo hi (Wide s t) n e h = (h.1, h.2, subst (λ l. number_at (take (t - s) l) ≢ None) (sym (same_rest b old lo s h.0 e)) h.3)
 plain_inside b old lo hi (Text s t) n e h = (h.1, omega (arith, h.2))
 plain_inside b old lo hi (Escaped s t) n e h = absurd (none-some (s, t) (sym n))
@@ -179,8 +174,7 @@ pub record Spelling (old : List ℕ) (b : List ℕ) (mid hi s e : ℕ) : Type 0 
 spelled_between : (old : List ℕ) (lo hi s e : ℕ) (p : Piece) → Some (s, e) ≡ spelling_of p → IsBetween old lo hi p → (p ≡ Escaped s e)
 spelled_between old lo hi s e Null n h = absurd (none-some (s, e) (sym n))
 spelled_between old lo hi s e (Bool x) n h = absurd (none-some (s, e) (sym n))
-spelled_between old lo hi s e (I64 x) n h = absurd (none-some (s, e) (sym n))
-spelled_between old lo hi s e (U64 x) n h = absurd (none-some (s, e) (sym n))
+spelled_between old lo hi s e (Integer y x) n h = absurd (none-some (s, e) (sym n))
 spelled_between old lo hi s e (Wide x y) n h = absurd (none-some (s, e) (sym n))
 spelled_between old lo hi s e (Text x y) n h = absurd (none-some (s, e) (sym n))
 spelled_between old lo hi s e (Escaped x y) n h = let k = some_pair_parts s x e y n in λ t. Escaped (sym k.0 t) (sym k.1 t)

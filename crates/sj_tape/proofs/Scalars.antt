@@ -1,9 +1,9 @@
 -- One step of reading a value.
-use Rattle.std.proofs.Common.{◌≡◌, ◌≢◌, ℕ, true, false, codes, ◌+◌, ◌<◌, List, [], ◌∷◌, length, drop, get_or, option_map, refl, sym, ap, ◌∙◌, arith}
-use Rattle.std.proofs.lemmas.List.{drop_more}
+use Rattle.std.proofs.Common.{◌≡◌, ◌≢◌, ℕ, true, false, codes, ◌+◌, ◌<◌, List, [], ◌∷◌, ◌++◌, length, drop, get_or, option_map, refl, sym, ap, ◌∙◌, subst, arith}
+use Rattle.std.proofs.lemmas.List.{drop_more, map-append}
 use Rattle.std.proofs.lemmas.Grind.{common_steps}
 use Rattle.std.proofs.lemmas.Bool.Decides.{nat_tests}
-use Rattle.std.proofs.Common.{Result, Ok, Err, OnErr, IfOk, None}
+use Rattle.std.proofs.Common.{Result, Ok, Err, OnErr, None}
 use Rattle.sj_text_core.specs.Tree.{Tree, null, boolean, text}
 use Rattle.sj_text_core.specs.Nodes.{flat}
 use Rattle.sj_tape.specs.Marks.{static_mark}
@@ -12,8 +12,8 @@ use Rattle.sj_text_core.specs.declared.static_node.StaticNode.{StaticNode}
 use Rattle.sj_text_core.specs.declared.static_node.StaticNode.TheVariants.{Null, I64, U64, I128, U128}
 use Rattle.sj_text_core.specs.declared.static_node.StaticNode.TheVariants as nodes
 use Rattle.sj_tape.specs.Parse.{Read, value_by, word_at, number_at, text_at}
-use Rattle.sj_text_core.specs.declared.error.ErrorKind.{ErrorKind}
-use Rattle.sj_tape.specs.Pieces.{ReadsPiece}
+use Rattle.sj_tape.specs.Pieces.{piece_mark, piece_marks, InOrder, Reads, Puts, PutsText}
+use Rattle.sj_tape.proofs.Order.{between_lower, order_push}
 use Rattle.sj_tape.specs.declared.reader.piece.Piece.{Piece}
 
 -- a value that begins with none of these is a number
@@ -63,12 +63,49 @@ flat-static (U64 n) = refl
 flat-static (I128 n) = refl
 flat-static (U128 n) = refl
 
--- the same of another way to read
-pub pieces_by : (r : Result (Piece × ℕ) ErrorKind) (x y : Read Tree) (b : List ℕ) → x ≡ y → IfOk r (λ p. ReadsPiece y b p.1 p.0) → IfOk r (λ p. ReadsPiece x b p.1 p.0)
-pieces_by (Ok p) x y b e h = record { tree = h.tree; was = e ∙ h.was; node = h.node }
-pieces_by (Err k) x y b e h = tt
+-- a value that begins with no byte of another one
+pub nothing_else : (f g : List ℕ → Read Tree) (b : List ℕ) (i : ℕ) → i < length b → 57 < get_or b i 0 → get_or b i 0 ≢ 91 → get_or b i 0 ≢ 123 → get_or b i 0 ≢ 110 → get_or b i 0 ≢ 116 → get_or b i 0 ≢ 102
+    → value_by f g (drop i b) ≡ None
+nothing_else f g b i h low h2 h3 h4 h5 h6 =
+    other_at f g b i h (omega (arith, low)) h2 h3 h4 h5 h6 ∙ (ap (λ l. number_at l) (drop_more b i 0 h) ∙ no_digit (get_or b i 0) (drop (i + 1) b) low)
+  where
+    no_digit : (c : ℕ) (b : List ℕ) → 57 < c → number_at (c ∷ b) ≡ None
+    no_digit c b h = grind (arith, common_steps, nat_tests)
 
--- and of what is not read
-pub nothing_by : (r : Result (Piece × ℕ) ErrorKind) (x y : Read Tree) → x ≡ y → OnErr r (y ≡ None) → OnErr r (x ≡ None)
-nothing_by (Ok p) x y e h = tt
-nothing_by (Err k) x y e h = e ∙ h
+-- the same of another way to read
+pub puts_by : (x y : Read Tree) (b : List ℕ) (at next : ℕ) (old new : List Piece) → x ≡ y → Puts y b at next old new → Puts x b at next old new
+puts_by x y b at next old new e h = record {
+  piece = h.piece;
+  items = h.items;
+  between = h.between;
+  reads = record { tree = h.reads.tree; was = e ∙ h.reads.was; node = h.reads.node };
+}
+
+-- a text where a value begins with its quote
+pub puts_text : (f g : List ℕ → Read Tree) (b : List ℕ) (i next : ℕ) (old new : List Piece) → i < length b → get_or b i 0 ≡ 34 → PutsText b (i + 1) next old new → Puts (value_by f g (drop i b)) b i next old new
+puts_text f g b i next old new h q p = record {
+  piece = p.piece;
+  items = p.items;
+  between = between_lower b i (i + 1) next p.piece (omega arith) p.between;
+  reads = record {
+    tree = text p.reads.text;
+    was = text_is f g b i h q ∙ ap (λ o. option_map {U = Tree × List ℕ} (λ p. (text p.0, p.1)) o) p.reads.was;
+    node = ap (λ m. m ∷ []) (sym p.reads.node);
+  };
+}
+
+-- what was put is what was read
+pub puts_reads : (x : Read Tree) (b : List ℕ) (at next : ℕ) (old new : List Piece) → Puts x b at next old new → Reads x b next old new
+puts_reads x b at next old new h = record {
+  tree = h.reads.tree;
+  was = h.reads.was;
+  nodes = ap (λ ps. piece_marks b ps) h.items ∙ (map-append (piece_mark b) old (h.piece ∷ []) ∙ ap (λ ns. piece_marks b old ++ ns) (sym h.reads.node));
+}
+
+-- and it lies behind the others
+pub puts_inside : (x : Read Tree) (b : List ℕ) (at next : ℕ) (old new : List Piece) → Puts x b at next old new → InOrder b 0 old at → InOrder b 0 new next
+puts_inside x b at next old new h k = subst (λ ps. InOrder b 0 ps next) (sym h.items) (order_push b 0 old at next h.piece k h.between)
+
+-- the same of a text
+pub text_inside : (b : List ℕ) (at next : ℕ) (old new : List Piece) → PutsText b at next old new → InOrder b 0 old at → InOrder b 0 new next
+text_inside b at next old new h k = subst (λ ps. InOrder b 0 ps next) (sym h.items) (order_push b 0 old at next h.piece k h.between)

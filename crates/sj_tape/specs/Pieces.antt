@@ -1,11 +1,12 @@
 -- What pieces mean beside the bytes.
-use Rattle.std.specs.Prelude.{◌≡◌, ◌≢◌, ℕ, ◌+◌, ◌<◌, ◌≤◌, pos, List, map, [], ◌∷◌, ◌++◌, length, slice_range, Option, Some, None, option_map, drop, All, IsUtf8}
+use Rattle.std.specs.Prelude.{◌≡◌, ◌≢◌, ℕ, ◌+◌, ◌<◌, ◌≤◌, pos, cond, List, map, [], ◌∷◌, ◌++◌, length, slice_range, Option, Some, None, option_map, drop, All, IsUtf8}
+use Rattle.std.specs.Int.{cast_signed, w64}
 use Rattle.sj_text_core.specs.Tree.{i64, u64, Tree, null, boolean, int, text, list, obj}
 use Rattle.sj_text_core.specs.Nodes.{Mark, nothing, truth, number, string, array, object, flat, flat_items, flat_members}
 use Rattle.sj_tape.specs.Parse.{Read, text_at, number_at}
 use Rattle.sj_text_core.specs.Tree.{items_from, members_from}
 use Rattle.sj_tape.specs.declared.reader.piece.Piece.{Piece}
-use Rattle.sj_tape.specs.declared.reader.piece.Piece.TheVariants.{Null, Bool, I64, U64, Wide, Text, Escaped, Array, Object}
+use Rattle.sj_tape.specs.declared.reader.piece.Piece.TheVariants.{Null, Bool, Integer, Wide, Text, Escaped, Array, Object}
 
 -- a text that was read, and what follows its quote
 abbrev pub text_of : Read (List ℕ) → List ℕ
@@ -32,8 +33,7 @@ number_mark (Some p) = scalar_mark p.0
 abbrev pub piece_mark : List ℕ → Piece → Mark
 piece_mark b Null = nothing
 piece_mark b (Bool t) = truth t
-piece_mark b (I64 n) = number n i64
-piece_mark b (U64 n) = number (pos n) u64
+piece_mark b (Integer m n) = cond m (number (cast_signed w64 n) i64) (number (pos n) u64)
 piece_mark b (Wide start end) = number_mark (number_at (slice_range b start end))
 piece_mark b (Text start end) = string (slice_range b start end)
 piece_mark b (Escaped start end) = string (text_of (text_at (drop start b)))
@@ -47,8 +47,7 @@ piece_marks b ps = map (piece_mark b) ps
 abbrev pub IsInside : List ℕ → ℕ → Piece → Type 0
 IsInside b len Null = Unit {0}
 IsInside b len (Bool t) = Unit {0}
-IsInside b len (I64 n) = Unit {0}
-IsInside b len (U64 n) = Unit {0}
+IsInside b len (Integer m n) = Unit {0}
 IsInside b len (Wide start end) = (start < end) × (end ≤ len) × (number_at (slice_range b start end) ≢ None)
 IsInside b len (Text start end) = (start ≤ end) × (end ≤ len)
 IsInside b len (Escaped start end) = ⊥
@@ -59,8 +58,7 @@ IsInside b len (Object l n) = Unit {0}
 abbrev pub IsBetween : List ℕ → ℕ → ℕ → Piece → Type 0
 IsBetween b lo hi Null = lo ≤ hi
 IsBetween b lo hi (Bool t) = lo ≤ hi
-IsBetween b lo hi (I64 n) = lo ≤ hi
-IsBetween b lo hi (U64 n) = lo ≤ hi
+IsBetween b lo hi (Integer m n) = lo ≤ hi
 IsBetween b lo hi (Wide start end) = (lo ≤ start) × (start < end) × (end ≤ hi) × (number_at (slice_range b start end) ≢ None)
 IsBetween b lo hi (Text start end) = (lo ≤ start) × (start ≤ end) × (end < hi)
 IsBetween b lo hi (Escaped start end) = (lo ≤ start) × (start ≤ end) × (end < hi) × (after (text_at (drop start b)) ≡ Some (drop (end + 1) b))
@@ -71,8 +69,7 @@ IsBetween b lo hi (Object l n) = lo ≤ hi
 abbrev pub spelling_of : Piece → Option (ℕ × ℕ)
 spelling_of Null = None
 spelling_of (Bool t) = None
-spelling_of (I64 n) = None
-spelling_of (U64 n) = None
+spelling_of (Integer m n) = None
 spelling_of (Wide start end) = None
 spelling_of (Text start end) = None
 spelling_of (Escaped start end) = Some (start, end)
@@ -101,6 +98,20 @@ pub record ReadsPiece (read : Read Tree) (b : List ℕ) (next : ℕ) (piece : Pi
   pub tree : Tree
   pub was : read ≡ Some (tree, drop next b)
   pub node : flat tree ≡ piece_mark b piece ∷ []
+
+-- the same, and its one piece was put behind the old ones
+pub record Puts (read : Read Tree) (b : List ℕ) (at next : ℕ) (old new : List Piece) : Type 0 where
+  pub piece : Piece
+  pub items : new ≡ old ++ piece ∷ []
+  pub between : IsBetween b at next piece
+  pub reads : ReadsPiece read b next piece
+
+-- a text was read, and its piece was put behind the old ones
+pub record PutsText (b : List ℕ) (at next : ℕ) (old new : List Piece) : Type 0 where
+  pub piece : Piece
+  pub items : new ≡ old ++ piece ∷ []
+  pub between : IsBetween b at next piece
+  pub reads : ReadsText b at next piece
 
 abbrev pub AreInside : List ℕ → List Piece → Type 0
 AreInside b ps = All (IsInside b (length b)) ps

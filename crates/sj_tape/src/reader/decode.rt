@@ -21,19 +21,7 @@ fn put(bytes: &mut [u8], to: usize, character: char) -> usize
     next
 }
 
-/// Puts spaces in place of what is left of a spelling.
-fn blank_out(bytes: &mut [u8], from: usize, to: usize)
-    requires order { from ≤ to }
-    requires within { to ≤ length bytes.old }
-    ensures size { length bytes.new ≡ length bytes.old }
-    ensures before { take from bytes.new ≡ take from bytes.old }
-    ensures behind { drop to bytes.new ≡ drop to bytes.old }
-{
-    bytes[from..to].fill(b' ');
-}
-
-/// Writes the characters of a text over its spelling, with spaces up to the quote, and answers
-/// the place after them.
+/// Writes the characters of a text over its spelling, and answers the place after them.
 pub(crate) fn unescape(bytes: &mut [u8], start: usize, end: usize) -> usize
     requires order { start ≤ end }
     requires within { end < length bytes.old }
@@ -62,7 +50,6 @@ pub(crate) fn unescape(bytes: &mut [u8], start: usize, end: usize) -> usize
             from += 1;
         }
     }
-    blank_out(bytes, to, end);
     to
 }
 

@@ -1,6 +1,6 @@
 //! The third pass: the nodes of the pieces, with texts that lie in the bytes.
 
-ghost use Rattle.std.specs.Prelude.{◌≡◌, ◌≢◌, ◌+◌, ◌<◌, ◌≤◌, ◌++◌, ◌∷◌, [], None, length, slice_range, IfOk, IfErr, IfSome, IsUtf8, All};
+ghost use Rattle.std.specs.Prelude.{◌≡◌, ◌≢◌, ◌+◌, ◌<◌, ◌≤◌, ◌++◌, ◌∷◌, [], None, length, IfOk, IfErr, IsUtf8, All};
 ghost use Rattle.sj_tape.specs.Pieces.{AreInside, IsInside, IsTextMark, number_mark, piece_mark, piece_marks};
 ghost use Rattle.sj_tape.specs.Marks.{static_mark, marks};
 ghost use Rattle.sj_tape.specs.Parse.{number_at};
@@ -11,6 +11,7 @@ use crate::reader::number::number;
 use crate::reader::piece::Piece;
 use sj_text_core::{ErrorKind, StaticNode};
 use std::alloc::Global;
+use std::str::from_utf8_unchecked;
 
 /// The third pass: the nodes of the pieces, with texts that lie in the bytes.
 pub(crate) fn lend<'i>(
@@ -23,10 +24,9 @@ pub(crate) fn lend<'i>(
     ensures nodes { IfOk result (λ v. marks v.items ≡ piece_marks bytes.now pieces.now) }
     ensures err { IfErr result (λ e. e ≡ ErrorKind.OutOfMemory) }
 {
-    let whole = simdutf8::basic::from_utf8(bytes).ok();
     let mut nodes = Vec::with_capacity(alloc, pieces.len())?;
     for piece in pieces {
-        push_node(&mut nodes, bytes, whole, *piece);
+        push_node(&mut nodes, bytes, *piece);
     }
     Ok(nodes)
 }
@@ -34,9 +34,8 @@ pub(crate) fn lend<'i>(
 /// Puts the node of a piece at the end.
 #[tactic(auto, using(crate::proofs::NodeMarks::marks_push))]
 #[inline(always)]
-fn push_node<'i>(nodes: &mut Vec<Node<'i>>, bytes: &'i [u8], whole: Option<&'i str>, piece: Piece)
+fn push_node<'i>(nodes: &mut Vec<Node<'i>>, bytes: &'i [u8], piece: Piece)
     requires room { vec_len nodes.old < vec_capacity nodes.old }
-    requires whole { IfSome whole (λ t. t.now ≡ bytes.now) }
     requires inside { IsInside bytes.now (length bytes.now) piece }
     requires text { IsTextMark (piece_mark bytes.now piece) }
     ensures marks { marks nodes.new.items ≡ marks nodes.old.items ++ piece_mark bytes.now piece ∷ [] }
@@ -46,13 +45,18 @@ fn push_node<'i>(nodes: &mut Vec<Node<'i>>, bytes: &'i [u8], whole: Option<&'i s
     match piece {
         Piece::Null => nodes.push_reserved(Node::Static(StaticNode::Null)),
         Piece::Bool(truth) => nodes.push_reserved(Node::Static(StaticNode::Bool(truth))),
-        Piece::I64(n) => nodes.push_reserved(Node::Static(StaticNode::I64(n))),
-        Piece::U64(n) => nodes.push_reserved(Node::Static(StaticNode::U64(n))),
+        Piece::Integer { is_negative, bits } => {
+            if is_negative {
+                nodes.push_reserved(Node::Static(StaticNode::I64(bits.cast_signed())))
+            } else {
+                nodes.push_reserved(Node::Static(StaticNode::U64(bits)))
+            }
+        }
         Piece::Wide { start, end } => {
             nodes.push_reserved(Node::Static(wide(&bytes[start..end])))
         }
         Piece::Text { start, end } => {
-            nodes.push_reserved(Node::String(text(bytes, whole, start, end)))
+            nodes.push_reserved(Node::String(text(&bytes[start..end])))
         }
         Piece::Escaped { .. } => unreachable!(),
         Piece::Array { len, count } => nodes.push_reserved(Node::Array { len, count }),
@@ -60,34 +64,13 @@ fn push_node<'i>(nodes: &mut Vec<Node<'i>>, bytes: &'i [u8], whole: Option<&'i s
     }
 }
 
-/// The text from `start` up to `end`: cut out of the whole, where that is one text, and else
-/// tested for itself.
+/// The text that the bytes are. They are UTF-8, so they are not tested once more.
 #[inline(always)]
-fn text<'i>(bytes: &'i [u8], whole: Option<&'i str>, start: usize, end: usize) -> &'i str
-    requires order { start ≤ end }
-    requires within { end ≤ length bytes.now }
-    requires whole { IfSome whole (λ t. t.now ≡ bytes.now) }
-    requires utf8 { IsUtf8 (slice_range bytes.now start end) }
-    ensures { result.now ≡ slice_range bytes.now start end }
-{
-    if let Some(whole) = whole {
-        if whole.is_char_boundary(start) && whole.is_char_boundary(end) {
-            return &whole[start..end];
-        }
-    }
-    tested(&bytes[start..end])
-}
-
-/// The text that the bytes are.
-#[inline(never)]
-fn tested(bytes: &[u8]) -> &str
+fn text(bytes: &[u8]) -> &str
     requires { IsUtf8 bytes.now }
     ensures { result.now ≡ bytes.now }
 {
-    match simdutf8::basic::from_utf8(bytes) {
-        Ok(text) => text,
-        Err(_) => unreachable!(),
-    }
+    unsafe { from_utf8_unchecked(bytes) }
 }
 
 /// The number that the bytes spell.

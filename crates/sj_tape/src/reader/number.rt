@@ -1,12 +1,13 @@
 //! Whole numbers.
 
-ghost use Rattle.std.specs.Prelude.{◌≡◌, ◌+◌, ◌-◌, ◌<◌, ◌≤◌, ◌^◌, ℕ, Some, None, length, drop, IfOk, IfErr, ◌≢◌, OnErr, MatchOption, option_map, IsTrue, ◌↔◌, EachIndex, slice_index, slice_range, pos, neg_ℤ};
-ghost use Rattle.sj_tape.specs.Pieces.{IsBetween, ReadsPiece};
+ghost use Rattle.std.specs.Prelude.{◌≡◌, ◌+◌, ◌-◌, ◌<◌, ◌≤◌, ◌^◌, ℕ, Some, None, length, drop, IfOk, IfErr, ◌≢◌, OnErr, MatchOption, option_map, IsTrue, ◌↔◌, EachIndex, slice_index, slice_range, pos, neg_ℤ, true, false, cond};
+ghost use Rattle.std.specs.Int.{cast_signed, w64};
+ghost use Rattle.sj_tape.specs.Pieces.{Puts};
 ghost use Rattle.sj_tape.specs.Parse as parse;
 ghost use Rattle.sj_text_core.specs.Grammar.{value_of, number_of};
 ghost use Rattle.sj_text_core.specs.Scalars.{static_tree};
 
-use crate::reader::piece::Piece;
+use crate::reader::piece::{Piece, push};
 use core::dec2flt::read_digits;
 use sj_text_core::{ErrorKind, StaticNode};
 
@@ -124,19 +125,22 @@ fn numeral(bytes: &[u8], at: usize, is_negative: bool) -> Result<(StaticNode, us
     }
 }
 
-/// The whole number that stands at `at` as a piece, and the place after it.
+/// Reads the whole number at `at`, puts its piece at the end, and answers the place after it.
 #[inline(always)]
-pub(crate) fn number_piece(bytes: &[u8], at: usize) -> Result<(Piece, usize), ErrorKind>
+pub(crate) fn number_piece(
+    bytes: &[u8],
+    at: usize,
+    out: &mut Vec<Piece>,
+) -> Result<usize, ErrorKind>
     requires { at < length bytes.now }
-    ensures within { IfOk result (λ p. (at < p.1) × (p.1 ≤ length bytes.now)) }
-    ensures between { IfOk result (λ p. IsBetween bytes.now at p.1 p.0) }
-    ensures ok { IfOk result (λ p. ReadsPiece (parse.number_at (drop at bytes.now)) bytes.now p.1 p.0) }
-    ensures err { OnErr result (parse.number_at (drop at bytes.now) ≡ None) }
+    ensures within { IfOk result (λ next. (at < next) × (next ≤ length bytes.now)) }
+    ensures ok { IfOk result (λ next. Puts (parse.number_at (drop at bytes.now)) bytes.now at next out.old.items out.new.items) }
+    ensures err { IfErr result (λ e. e ≢ ErrorKind.OutOfMemory → parse.number_at (drop at bytes.now) ≡ None) }
     ensures kind { IfErr result (λ e. e ≢ ErrorKind.InvalidUtf8) }
 {
     let is_negative = bytes[at] == b'-';
     let start = if is_negative { at + 1 } else { at };
-    numeral_piece(bytes, at, start, is_negative)
+    numeral_piece(bytes, at, start, is_negative, out)
 }
 
 /// The same, where the digits begin at `start`.
@@ -146,15 +150,15 @@ fn numeral_piece(
     at: usize,
     start: usize,
     is_negative: bool,
-) -> Result<(Piece, usize), ErrorKind>
+    out: &mut Vec<Piece>,
+) -> Result<usize, ErrorKind>
     requires at { at < length bytes.now }
     requires low { at ≤ start }
     requires high { start ≤ length bytes.now }
     requires sign { parse.number_at (drop at bytes.now) ≡ parse.numeral_at is_negative (parse.digits_len (drop start bytes.now)) (drop start bytes.now) }
-    ensures within { IfOk result (λ p. (at < p.1) × (p.1 ≤ length bytes.now)) }
-    ensures between { IfOk result (λ p. IsBetween bytes.now at p.1 p.0) }
-    ensures ok { IfOk result (λ p. ReadsPiece (parse.number_at (drop at bytes.now)) bytes.now p.1 p.0) }
-    ensures err { OnErr result (parse.number_at (drop at bytes.now) ≡ None) }
+    ensures within { IfOk result (λ next. (at < next) × (next ≤ length bytes.now)) }
+    ensures ok { IfOk result (λ next. Puts (parse.number_at (drop at bytes.now)) bytes.now at next out.old.items out.new.items) }
+    ensures err { IfErr result (λ e. e ≢ ErrorKind.OutOfMemory → parse.number_at (drop at bytes.now) ≡ None) }
     ensures kind { IfErr result (λ e. e ≢ ErrorKind.InvalidUtf8) }
 {
     let (end, n) = digits(bytes, start);
@@ -162,47 +166,52 @@ fn numeral_piece(
     if count == 0 {
         return Err(ErrorKind::Syntax);
     }
-    if count > 1 && bytes[start] == b'0' {
+    if bytes[start] == b'0' && count > 1 {
         return Err(ErrorKind::Syntax);
     }
     if goes_on(bytes, end) {
         return Err(ErrorKind::Float);
     }
-    if is_negative {
-        if count > 18 {
-            return wide_piece(bytes, at);
-        }
-        return Ok((negative(n), end));
+    if count > most_digits(is_negative) {
+        return wide_piece(bytes, at, out);
     }
-    if count > 19 {
-        return wide_piece(bytes, at);
-    }
-    Ok((Piece::U64(n), end))
+    let bits = word_of(is_negative, n);
+    push(out, Piece::Integer { is_negative, bits })?;
+    Ok(end)
 }
 
-/// The piece of the number -n.
+/// How many digits are sure to fit one word.
 #[inline(always)]
-fn negative(n: u64) -> Piece
-    requires { n < 2 ^ 63 }
-    ensures { result ≡ Piece.I64 (neg_ℤ (pos n)) }
+fn most_digits(is_negative: bool) -> usize
+    ensures { result ≡ cond is_negative 18 19 }
 {
-    Piece::I64(0 - n as i64)
+    19 - is_negative as usize
+}
+
+/// The word of a number whose digits write `n`.
+#[inline(always)]
+fn word_of(is_negative: bool, n: u64) -> u64
+    requires { is_negative ≡ true → n < 2 ^ 63 }
+    ensures negative { is_negative ≡ true → cast_signed w64 result ≡ neg_ℤ (pos n) }
+    ensures plain { is_negative ≡ false → result ≡ n }
+{
+    if is_negative {
+        (0 - n as i64).cast_unsigned()
+    } else {
+        n
+    }
 }
 
 /// The same for a number of many digits.
 #[inline(never)]
-fn wide_piece(bytes: &[u8], at: usize) -> Result<(Piece, usize), ErrorKind>
+fn wide_piece(bytes: &[u8], at: usize, out: &mut Vec<Piece>) -> Result<usize, ErrorKind>
     requires { at < length bytes.now }
-    ensures within { IfOk result (λ p. (at < p.1) × (p.1 ≤ length bytes.now)) }
-    ensures between { IfOk result (λ p. IsBetween bytes.now at p.1 p.0) }
-    ensures ok { IfOk result (λ p. ReadsPiece (parse.number_at (drop at bytes.now)) bytes.now p.1 p.0) }
-    ensures err { OnErr result (parse.number_at (drop at bytes.now) ≡ None) }
+    ensures within { IfOk result (λ next. (at < next) × (next ≤ length bytes.now)) }
+    ensures ok { IfOk result (λ next. Puts (parse.number_at (drop at bytes.now)) bytes.now at next out.old.items out.new.items) }
+    ensures err { IfErr result (λ e. e ≢ ErrorKind.OutOfMemory → parse.number_at (drop at bytes.now) ≡ None) }
     ensures kind { IfErr result (λ e. e ≢ ErrorKind.InvalidUtf8) }
 {
-    let (number, end) = number(bytes, at)?;
-    match number {
-        StaticNode::I64(n) => Ok((Piece::I64(n), end)),
-        StaticNode::U64(n) => Ok((Piece::U64(n), end)),
-        _ => Ok((Piece::Wide { start: at, end }, end)),
-    }
+    let (_, end) = number(bytes, at)?;
+    push(out, Piece::Wide { start: at, end })?;
+    Ok(end)
 }

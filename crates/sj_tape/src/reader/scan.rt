@@ -1,67 +1,61 @@
 //! The first pass: from bytes to pieces.
 
 ghost use Rattle.std.specs.Prelude.{◌≡◌, ◌+◌, ◌-◌, ◌<◌, ◌≤◌, ℕ, Some, None, length, drop, IfOk, IfErr, OnOk, OnErr, MatchResult, IsTrue, ◌↔◌, ◌≢◌, ◌==◌, ◌++◌, ◌∷◌, [], slice_index};
-ghost use Rattle.sj_tape.specs.Pieces.{IsBetween, InOrder, Reads, ReadsPiece, ReadsItems, ReadsMembers, ReadsMember, Scans};
-ghost use Rattle.std.specs.Vec.{vec_len, vec_capacity};
+ghost use Rattle.sj_tape.specs.Pieces.{InOrder, Puts, Reads, ReadsItems, ReadsMembers, ReadsMember, Scans};
 ghost use Rattle.sj_tape.specs.Parse as parse;
 
 use crate::reader::blank::skip;
 use crate::reader::number::number_piece;
-use crate::reader::piece::Piece;
+use crate::reader::piece::{Piece, push};
 use crate::reader::string::text;
 use crate::reader::structure::{separator, word_end};
 use sj_text_core::ErrorKind;
 
-/// Makes room for one piece more.
-#[inline(never)]
-fn grow(out: &mut Vec<Piece>) -> Result<(), ErrorKind>
-    ensures items { out.new.items ≡ out.old.items }
-    ensures room { OnOk result (vec_len out.new < vec_capacity out.new) }
-    ensures err { IfErr result (λ e. e ≡ ErrorKind.OutOfMemory) }
-{
-    out.reserve(1)?;
-    Ok(())
-}
-
-/// Puts a piece at the end.
+/// Reads the string or the number at `at`, where no other value begins.
 #[inline(always)]
-fn push(out: &mut Vec<Piece>, piece: Piece) -> Result<(), ErrorKind>
-    ensures items { OnOk result (out.new.items ≡ out.old.items ++ piece ∷ []) }
-    ensures err { IfErr result (λ e. e ≡ ErrorKind.OutOfMemory) }
-{
-    if out.len() >= out.capacity() {
-        grow(out)?;
-    }
-    out.push_reserved(piece);
-    Ok(())
-}
-
-/// A string or a word that stands at `at`, or a number, and the place after it.
-#[inline(always)]
-fn scalar(bytes: &[u8], at: usize) -> Result<(Piece, usize), ErrorKind>
+fn text_or_number(bytes: &[u8], at: usize, out: &mut Vec<Piece>) -> Result<usize, ErrorKind>
     requires at { at < length bytes.now }
+    requires first { slice_index bytes.now at ≤ 57 }
+    ensures within { IfOk result (λ next. (at < next) × (next ≤ length bytes.now)) }
+    ensures ok { IfOk result (λ next. Puts (parse.value_by parse.nothing_at parse.nothing_at (drop at bytes.now)) bytes.now at next out.old.items out.new.items) }
+    ensures err { IfErr result (λ e. e ≢ ErrorKind.OutOfMemory → parse.value_by parse.nothing_at parse.nothing_at (drop at bytes.now) ≡ None) }
+    ensures kind { IfErr result (λ e. e ≢ ErrorKind.InvalidUtf8) }
+{
+    if bytes[at] == b'"' {
+        return text(bytes, at + 1, out);
+    }
+    number_piece(bytes, at, out)
+}
+
+/// Reads the word at `at`.
+#[inline(always)]
+fn word(bytes: &[u8], at: usize, out: &mut Vec<Piece>) -> Result<usize, ErrorKind>
+    requires at { at < length bytes.now }
+    requires first { 57 < slice_index bytes.now at }
     requires no_list { slice_index bytes.now at ≢ 91 }
     requires no_object { slice_index bytes.now at ≢ 123 }
-    ensures within { IfOk result (λ p. (at < p.1) × (p.1 ≤ length bytes.now)) }
-    ensures between { IfOk result (λ p. IsBetween bytes.now at p.1 p.0) }
-    ensures ok { IfOk result (λ p. ReadsPiece (parse.value_by parse.nothing_at parse.nothing_at (drop at bytes.now)) bytes.now p.1 p.0) }
-    ensures err { OnErr result (parse.value_by parse.nothing_at parse.nothing_at (drop at bytes.now) ≡ None) }
+    ensures within { IfOk result (λ next. (at < next) × (next ≤ length bytes.now)) }
+    ensures ok { IfOk result (λ next. Puts (parse.value_by parse.nothing_at parse.nothing_at (drop at bytes.now)) bytes.now at next out.old.items out.new.items) }
+    ensures err { IfErr result (λ e. e ≢ ErrorKind.OutOfMemory → parse.value_by parse.nothing_at parse.nothing_at (drop at bytes.now) ≡ None) }
     ensures kind { IfErr result (λ e. e ≢ ErrorKind.InvalidUtf8) }
 {
     let byte = bytes[at];
-    if byte == b'"' {
-        return text(bytes, at + 1);
-    }
     if byte == b'n' {
-        return Ok((Piece::Null, word_end(bytes, at, b"null")?));
+        let next = word_end(bytes, at, b"null")?;
+        push(out, Piece::Null)?;
+        return Ok(next);
     }
     if byte == b't' {
-        return Ok((Piece::Bool(true), word_end(bytes, at, b"true")?));
+        let next = word_end(bytes, at, b"true")?;
+        push(out, Piece::Bool(true))?;
+        return Ok(next);
     }
     if byte == b'f' {
-        return Ok((Piece::Bool(false), word_end(bytes, at, b"false")?));
+        let next = word_end(bytes, at, b"false")?;
+        push(out, Piece::Bool(false))?;
+        return Ok(next);
     }
-    number_piece(bytes, at)
+    Err(ErrorKind::Syntax)
 }
 
 /// Reads the value at `at`, puts its nodes at the end, and answers the place after it.
@@ -78,21 +72,23 @@ fn value(bytes: &[u8], at: usize, depth: usize, out: &mut Vec<Piece>) -> Result<
     if at >= bytes.len() {
         return Err(ErrorKind::Syntax);
     }
-    if bytes[at] == b'[' {
+    let byte = bytes[at];
+    if byte <= b'9' {
+        return text_or_number(bytes, at, out);
+    }
+    if byte == b'[' {
         if depth == 0 {
             return Err(ErrorKind::TooDeep);
         }
         return array(bytes, at + 1, depth - 1, out);
     }
-    if bytes[at] == b'{' {
+    if byte == b'{' {
         if depth == 0 {
             return Err(ErrorKind::TooDeep);
         }
         return object(bytes, at + 1, depth - 1, out);
     }
-    let (piece, next) = scalar(bytes, at)?;
-    push(out, piece)?;
-    Ok(next)
+    word(bytes, at, out)
 }
 
 /// Reads an array behind its first bracket.
@@ -213,8 +209,7 @@ fn member(bytes: &[u8], at: usize, depth: usize, out: &mut Vec<Piece>) -> Result
     if at >= bytes.len() || bytes[at] != b'"' {
         return Err(ErrorKind::Syntax);
     }
-    let (key, behind) = text(bytes, at + 1)?;
-    push(out, key)?;
+    let behind = text(bytes, at + 1, out)?;
     let colon = skip(bytes, behind);
     if colon >= bytes.len() || bytes[colon] != b':' {
         return Err(ErrorKind::Syntax);

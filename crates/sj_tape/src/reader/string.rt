@@ -1,22 +1,22 @@
 //! Strings.
 
 ghost use Rattle.std.specs.Prelude.{◌≡◌, ◌+◌, ◌-◌, ◌<◌, ◌≤◌, ℕ, Some, None, length, drop, IfOk, IfErr, OnOk, OnErr, MatchResult, IsTrue, ◌↔◌, ◌≢◌, ◌==◌, slice_index};
-ghost use Rattle.sj_tape.specs.Pieces.{IsBetween, after, ReadsText};
+ghost use Rattle.sj_tape.specs.Pieces.{after, PutsText};
 ghost use Rattle.sj_tape.specs.Parse as parse;
 
 use crate::reader::escape::escape;
-use crate::reader::piece::Piece;
+use crate::reader::piece::{Piece, push};
 use crate::reader::run::plain_end;
 use sj_text_core::ErrorKind;
 
-/// The text whose first byte stands at `at`, and the place after its quote.
+/// Reads the text whose first byte stands at `at`, puts its piece at the end, and answers the place
+/// after its quote.
 #[inline(always)]
-pub(crate) fn text(bytes: &[u8], at: usize) -> Result<(Piece, usize), ErrorKind>
+pub(crate) fn text(bytes: &[u8], at: usize, out: &mut Vec<Piece>) -> Result<usize, ErrorKind>
     requires { at ≤ length bytes.now }
-    ensures within { IfOk result (λ p. (at < p.1) × (p.1 ≤ length bytes.now)) }
-    ensures between { IfOk result (λ p. IsBetween bytes.now at p.1 p.0) }
-    ensures ok { IfOk result (λ p. ReadsText bytes.now at p.1 p.0) }
-    ensures err { OnErr result (parse.text_at (drop at bytes.now) ≡ None) }
+    ensures within { IfOk result (λ next. (at < next) × (next ≤ length bytes.now)) }
+    ensures ok { IfOk result (λ next. PutsText bytes.now at next out.old.items out.new.items) }
+    ensures err { IfErr result (λ e. e ≢ ErrorKind.OutOfMemory → parse.text_at (drop at bytes.now) ≡ None) }
     ensures kind { IfErr result (λ e. e ≢ ErrorKind.InvalidUtf8) }
 {
     let end = plain_end(bytes, at);
@@ -24,13 +24,15 @@ pub(crate) fn text(bytes: &[u8], at: usize) -> Result<(Piece, usize), ErrorKind>
         return Err(ErrorKind::Syntax);
     }
     if bytes[end] == b'"' {
-        return Ok((Piece::Text { start: at, end }, end + 1));
+        push(out, Piece::Text { start: at, end })?;
+        return Ok(end + 1);
     }
     if bytes[end] != b'\\' {
         return Err(ErrorKind::Syntax);
     }
     let end = escaped_end(bytes, end)?;
-    Ok((Piece::Escaped { start: at, end }, end + 1))
+    push(out, Piece::Escaped { start: at, end })?;
+    Ok(end + 1)
 }
 
 /// The place of the quote that ends the text that goes on at `at`.

@@ -6,7 +6,7 @@ use Rattle.sj_tape.specs.Parse.{text_at, with_front}
 use Rattle.sj_tape.proofs.Places.{place_plain}
 use Rattle.sj_tape.proofs.Places.{place_plain}
 use Rattle.sj_tape.proofs.Escapes.{with_front_front}
-use Rattle.sj_tape.proofs.Decode.{written, set_is, written_size, written_rest, written_before, written_text, same_byte, same_rest, ends_on, ahead, never_bad, plain_here, text_done, kept_before, kept_range}
+use Rattle.sj_tape.proofs.Decode.{written, set_is, written_size, written_rest, written_before, written_text, same_byte, same_rest, ends_on, ahead, never_bad, plain_here, text_done}
 use Rattle.sj_tape.proofs.reader.decode.unescape.Goals as goal
 
 pub put-to-requires : goal.put-to-requires
@@ -68,16 +68,12 @@ pub returns-clause-text : goal.returns-clause-text
 returns-clause-text c =
     let i = c.loop-from.invariant in
     let z : c.loop-from.from ≡ c.args.end = omega (arith, i.high, c.loop-from-test.false) in
-    kept_range c.blank_out.new.bytes c.loop-from.bytes c.args.start c.loop-from.to i.low (omega (arith, i.order, i.high, i.size, c.requires.within, c.blank_out.ensures.size)) (omega (arith, i.order, i.high, i.size, c.requires.within)) c.blank_out.ensures.before
-    ∙ text_done c.loop-from.bytes c.args.bytes.now c.args.start c.loop-from.to c.args.end c.requires.within
+    text_done c.loop-from.bytes c.args.bytes.now c.args.start c.loop-from.to c.args.end c.requires.within
     (i.text ∙ ap (λ n. with_front (slice_range c.loop-from.bytes c.args.start c.loop-from.to) (text_at (drop n c.args.bytes.now))) z)
     (subst (λ (n : ℕ). after (text_at (drop n c.args.bytes.now)) ≡ Some (drop (c.args.end + 1) c.args.bytes.now)) z i.ends)
-
-pub returns-clause-before : goal.returns-clause-before
-returns-clause-before c = kept_before c.blank_out.new.bytes c.loop-from.bytes c.loop-from.to c.args.start c.loop-from.invariant.low c.blank_out.ensures.before ∙ c.loop-from.invariant.before
 
 pub returns-clause-behind : goal.returns-clause-behind
 returns-clause-behind c =
     let i = c.loop-from.invariant in
     let z : c.loop-from.from ≡ c.args.end = omega (arith, i.high, c.loop-from-test.false) in
-    c.blank_out.ensures.behind ∙ subst (λ (n : ℕ). drop n c.loop-from.bytes ≡ drop n c.args.bytes.now) z i.rest
+    subst (λ (n : ℕ). drop n c.loop-from.bytes ≡ drop n c.args.bytes.now) z i.rest

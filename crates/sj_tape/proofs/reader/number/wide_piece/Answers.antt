@@ -3,12 +3,13 @@ use Rattle.sj_text_core.specs.Scalars.{static_tree}
 use Rattle.sj_tape.proofs.Digits.{reads_wide, spelled_wide}
 use Rattle.sj_tape.proofs.reader.number.wide_piece.Goals as goal
 
-pub returns-in_default-clause-between : goal.returns-in_default-clause-between
-returns-in_default-clause-between c =
-    let k = c.in_ok-number.ensures in
-    (omega arith, k.within.0, omega arith, spelled_wide c.args.bytes.now c.args.at c.in_ok-number.end (static_tree c.in_ok-number.number) (omega (arith, k.within.0)) k.within.1 k.ok)
-
-pub returns-in_default-clause-ok : goal.returns-in_default-clause-ok
-returns-in_default-clause-ok c =
-    let k = c.in_ok-number.ensures in
-    reads_wide c.args.bytes.now c.args.at c.in_ok-number.end c.in_ok-number.number (omega (arith, k.within.0)) k.within.1 k.ok
+pub returns-clause-ok : goal.returns-clause-ok
+returns-clause-ok c =
+    let k = c.in_ok-end.ensures in
+    let b = c.args.bytes.now in
+    record {
+      piece = _;
+      items = c.in_ok-push.ensures.items;
+      between = (omega arith, k.within.0, omega arith, spelled_wide b c.args.at c.in_ok-end.end (static_tree c.in_ok-end.field-0-0) (omega (arith, k.within.0)) k.within.1 k.ok);
+      reads = reads_wide b c.args.at c.in_ok-end.end c.in_ok-end.field-0-0 (omega (arith, k.within.0)) k.within.1 k.ok;
+    }

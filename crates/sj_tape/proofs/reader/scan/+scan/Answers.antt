@@ -1,6 +1,8 @@
 use Rattle.std.proofs.Common.{◌≡◌, ◌≢◌, set, ◌+◌, ◌-◌, ◌++◌, ◌∷◌, [], length, drop, get_or, sym, ap, ◌∙◌, arith, subst}
 use Rattle.std.proofs.lemmas.Result.{IfOk-weaker, err_from_is_err_and}
 use Rattle.sj_tape.proofs.Order.{order_wider, order_push, order_set}
+use Rattle.sj_tape.proofs.Colons.{member_is, member_reads, member_errs}
+use Rattle.sj_tape.proofs.Scalars.{puts_by, puts_reads, puts_inside, text_inside}
 use Rattle.std.proofs.lemmas.List.{get_or_past, map-append}
 use Rattle.sj_text_core.specs.Tree.{list, obj}
 use Rattle.sj_text_core.specs.Nodes.{flat}
@@ -17,40 +19,47 @@ pub value-returns-then-at-bytes-clause-err : goal.value-returns-then-at-bytes-cl
 value-returns-then-at-bytes-clause-err t c = λ _. value_at_end c.args.depth c.args.bytes.now c.args.at c.if-at-bytes.true
 
 pub value-returns-then-depth-eq0-clause-err : goal.value-returns-then-depth-eq0-clause-err
-value-returns-then-depth-eq0-clause-err t c = λ _. value_too_deep c.args.depth c.args.bytes.now c.args.at c.if-at-bytes.false c.if-bytes-at-eq91.true c.if-depth-eq0.true
+value-returns-then-depth-eq0-clause-err t c = λ _. value_too_deep c.args.depth c.args.bytes.now c.args.at c.if-at-bytes.false c.if-byte-eq91.true c.if-depth-eq0.true
 
 pub value-returns-then-depth-eq0-2-clause-err : goal.value-returns-then-depth-eq0-2-clause-err
-value-returns-then-depth-eq0-2-clause-err t c = λ _. value_too_deep_2 c.args.depth c.args.bytes.now c.args.at c.if-at-bytes.false c.if-bytes-at-eq123.true c.if-depth-eq0-2.true
+value-returns-then-depth-eq0-2-clause-err t c = λ _. value_too_deep_2 c.args.depth c.args.bytes.now c.args.at c.if-at-bytes.false c.if-byte-eq123.true c.if-depth-eq0-2.true
 
-pub value-returns-then-bytes-at-eq91-clause-ok : goal.value-returns-then-bytes-at-eq91-clause-ok
-value-returns-then-bytes-at-eq91-clause-ok t c =
-    IfOk-weaker _ _ _ (λ next r. reads_by _ _ c.args.bytes.now next _ _ (value_in_list c.args.depth c.args.bytes.now c.args.at c.if-at-bytes.false c.if-bytes-at-eq91.true c.if-depth-eq0.false) r) c.array.ensures.ok
+pub value-returns-then-byte-eq91-clause-ok : goal.value-returns-then-byte-eq91-clause-ok
+value-returns-then-byte-eq91-clause-ok t c =
+    IfOk-weaker _ _ _ (λ next r. reads_by _ _ c.args.bytes.now next _ _ (value_in_list c.args.depth c.args.bytes.now c.args.at c.if-at-bytes.false c.if-byte-eq91.true c.if-depth-eq0.false) r) c.array.ensures.ok
 
-pub value-returns-then-bytes-at-eq91-clause-err : goal.value-returns-then-bytes-at-eq91-clause-err
-value-returns-then-bytes-at-eq91-clause-err t c =
-    errs_by _ _ _ _ (value_in_list c.args.depth c.args.bytes.now c.args.at c.if-at-bytes.false c.if-bytes-at-eq91.true c.if-depth-eq0.false) c.array.ensures.err
+pub value-returns-then-byte-eq91-clause-err : goal.value-returns-then-byte-eq91-clause-err
+value-returns-then-byte-eq91-clause-err t c =
+    errs_by _ _ _ _ (value_in_list c.args.depth c.args.bytes.now c.args.at c.if-at-bytes.false c.if-byte-eq91.true c.if-depth-eq0.false) c.array.ensures.err
 
-pub value-returns-then-bytes-at-eq123-clause-ok : goal.value-returns-then-bytes-at-eq123-clause-ok
-value-returns-then-bytes-at-eq123-clause-ok t c =
-    IfOk-weaker _ _ _ (λ next r. reads_by _ _ c.args.bytes.now next _ _ (value_in_obj c.args.depth c.args.bytes.now c.args.at c.if-at-bytes.false c.if-bytes-at-eq123.true c.if-depth-eq0-2.false) r) c.object.ensures.ok
+pub value-returns-then-byte-eq123-clause-ok : goal.value-returns-then-byte-eq123-clause-ok
+value-returns-then-byte-eq123-clause-ok t c =
+    IfOk-weaker _ _ _ (λ next r. reads_by _ _ c.args.bytes.now next _ _ (value_in_obj c.args.depth c.args.bytes.now c.args.at c.if-at-bytes.false c.if-byte-eq123.true c.if-depth-eq0-2.false) r) c.object.ensures.ok
 
-pub value-returns-then-bytes-at-eq123-clause-err : goal.value-returns-then-bytes-at-eq123-clause-err
-value-returns-then-bytes-at-eq123-clause-err t c =
-    errs_by _ _ _ _ (value_in_obj c.args.depth c.args.bytes.now c.args.at c.if-at-bytes.false c.if-bytes-at-eq123.true c.if-depth-eq0-2.false) c.object.ensures.err
+pub value-returns-then-byte-eq123-clause-err : goal.value-returns-then-byte-eq123-clause-err
+value-returns-then-byte-eq123-clause-err t c =
+    errs_by _ _ _ _ (value_in_obj c.args.depth c.args.bytes.now c.args.at c.if-at-bytes.false c.if-byte-eq123.true c.if-depth-eq0-2.false) c.object.ensures.err
 
-pub value-returns-in_err-piece-clause-err : goal.value-returns-in_err-piece-clause-err
-value-returns-in_err-piece-clause-err t c =
-    let p = err_from_is_err_and c.from_residual.result c.from_residual.ensures.1 in
-    rw (p.1, p.2) (λ _. value_scalar c.args.depth c.args.bytes.now c.args.at c.if-at-bytes.false c.if-bytes-at-eq91.false c.if-bytes-at-eq123.false ∙ c.in_err-piece.ensures.err)
+pub value-returns-then-byte-le57-clause-ok : goal.value-returns-then-byte-le57-clause-ok
+value-returns-then-byte-le57-clause-ok t c =
+    let e = value_scalar c.args.depth c.args.bytes.now c.args.at c.if-at-bytes.false (omega (arith, c.if-byte-le57.true)) (omega (arith, c.if-byte-le57.true)) in
+    IfOk-weaker _ _ _ (λ next r. puts_reads _ c.args.bytes.now c.args.at next _ _ (puts_by _ _ c.args.bytes.now c.args.at next _ _ e r)) c.text_or_number.ensures.ok
+
+pub value-returns-then-byte-le57-clause-inside : goal.value-returns-then-byte-le57-clause-inside
+value-returns-then-byte-le57-clause-inside t c = λ h. IfOk-weaker _ _ _ (λ next r. puts_inside _ c.args.bytes.now c.args.at next _ _ r h) c.text_or_number.ensures.ok
+
+pub value-returns-then-byte-le57-clause-err : goal.value-returns-then-byte-le57-clause-err
+value-returns-then-byte-le57-clause-err t c =
+    errs_by _ _ _ _ (value_scalar c.args.depth c.args.bytes.now c.args.at c.if-at-bytes.false (omega (arith, c.if-byte-le57.true)) (omega (arith, c.if-byte-le57.true))) c.text_or_number.ensures.err
 
 pub value-returns-clause-ok : goal.value-returns-clause-ok
-value-returns-clause-ok t c = record {
-  tree = c.in_ok-piece.ensures.ok.tree;
-  was = value_scalar c.args.depth c.args.bytes.now c.args.at c.if-at-bytes.false c.if-bytes-at-eq91.false c.if-bytes-at-eq123.false ∙ c.in_ok-piece.ensures.ok.was;
-  nodes = ap (λ ps. piece_marks c.args.bytes.now ps) c.in_ok-push.ensures.items
-      ∙ (map-append (piece_mark c.args.bytes.now) c.args.out.now.items (c.in_ok-piece.piece ∷ [])
-      ∙ ap (λ ns. piece_marks c.args.bytes.now c.args.out.now.items ++ ns) (sym c.in_ok-piece.ensures.ok.node));
-}
+value-returns-clause-ok t c =
+    let e = value_scalar c.args.depth c.args.bytes.now c.args.at c.if-at-bytes.false c.if-byte-eq91.false c.if-byte-eq123.false in
+    IfOk-weaker _ _ _ (λ next r. puts_reads _ c.args.bytes.now c.args.at next _ _ (puts_by _ _ c.args.bytes.now c.args.at next _ _ e r)) c.word.ensures.ok
+
+pub value-returns-clause-err : goal.value-returns-clause-err
+value-returns-clause-err t c =
+    errs_by _ _ _ _ (value_scalar c.args.depth c.args.bytes.now c.args.at c.if-at-bytes.false c.if-byte-eq91.false c.if-byte-eq123.false) c.word.ensures.err
 
 pub items-returns-in_err-after-clause-err : goal.items-returns-in_err-after-clause-err
 items-returns-in_err-after-clause-err t c =
@@ -172,15 +181,14 @@ object-returns-clause-ok t c =
           ∙ (nodes_set b old new blank head (member_flats parts) nodes' ∙ ap (λ m. piece_marks b old ++ m) (sym (flat_obj_is parts c.in_ok-next.len _ c.in_ok-next.ensures.ok.count counted)));
     }
 
-pub value-returns-then-bytes-at-eq91-clause-inside : goal.value-returns-then-bytes-at-eq91-clause-inside
-value-returns-then-bytes-at-eq91-clause-inside t c = λ h. c.array.ensures.inside (order_wider c.args.bytes.now 0 c.args.out.now.items c.args.at (c.args.at + 1) (omega arith) h)
+pub value-returns-then-byte-eq91-clause-inside : goal.value-returns-then-byte-eq91-clause-inside
+value-returns-then-byte-eq91-clause-inside t c = λ h. c.array.ensures.inside (order_wider c.args.bytes.now 0 c.args.out.now.items c.args.at (c.args.at + 1) (omega arith) h)
 
-pub value-returns-then-bytes-at-eq123-clause-inside : goal.value-returns-then-bytes-at-eq123-clause-inside
-value-returns-then-bytes-at-eq123-clause-inside t c = λ h. c.object.ensures.inside (order_wider c.args.bytes.now 0 c.args.out.now.items c.args.at (c.args.at + 1) (omega arith) h)
+pub value-returns-then-byte-eq123-clause-inside : goal.value-returns-then-byte-eq123-clause-inside
+value-returns-then-byte-eq123-clause-inside t c = λ h. c.object.ensures.inside (order_wider c.args.bytes.now 0 c.args.out.now.items c.args.at (c.args.at + 1) (omega arith) h)
 
 pub value-returns-clause-inside : goal.value-returns-clause-inside
-value-returns-clause-inside t c = λ h. subst (λ ps. InOrder c.args.bytes.now 0 ps c.in_ok-piece.next) (sym c.in_ok-push.ensures.items)
-    (order_push c.args.bytes.now 0 c.args.out.now.items c.args.at c.in_ok-piece.next c.in_ok-piece.piece h c.in_ok-piece.ensures.between)
+value-returns-clause-inside t c = λ h. IfOk-weaker _ _ _ (λ next r. puts_inside _ c.args.bytes.now c.args.at next _ _ r h) c.word.ensures.ok
 
 pub items-returns-then-not-is_more-clause-inside : goal.items-returns-then-not-is_more-clause-inside
 items-returns-then-not-is_more-clause-inside t c = λ h. order_wider c.args.bytes.now 0 c.value.new.out.items c.in_ok-after.after c.in_ok-next.next (omega (arith, c.in_ok-next.ensures.within.0)) (c.in_ok-after.ensures.inside (c.loop-after.invariant.inside h))
@@ -207,6 +215,19 @@ object-returns-clause-inside t c = λ h. order_set c.args.bytes.now 0 c.members.
     (order_push c.args.bytes.now 0 c.args.out.now.items c.args.at c.skip-first.result (Object 0 0) h c.skip-first.ensures.low)))
 
 pub member-returns-clause-inside : goal.member-returns-clause-inside
-member-returns-clause-inside t c = λ h. c.value.ensures.inside (order_wider c.args.bytes.now 0 _ c.in_ok-key.behind c.skip.result (omega (arith, c.skip-colon.ensures.low, c.skip.ensures.low))
-    (subst (λ ps. InOrder c.args.bytes.now 0 ps c.in_ok-key.behind) (sym c.in_ok-push.ensures.items)
-    (order_push c.args.bytes.now 0 c.args.out.now.items (c.args.at + 1) c.in_ok-key.behind c.in_ok-key.key (order_wider c.args.bytes.now 0 c.args.out.now.items c.args.at (c.args.at + 1) (omega arith) h) c.in_ok-key.ensures.between)))
+member-returns-clause-inside t c = λ h. c.value.ensures.inside (order_wider c.args.bytes.now 0 _ c.in_ok-behind.behind c.skip.result (omega (arith, c.skip-colon.ensures.low, c.skip.ensures.low))
+    (text_inside c.args.bytes.now (c.args.at + 1) c.in_ok-behind.behind _ _ c.in_ok-behind.ensures.ok (order_wider c.args.bytes.now 0 c.args.out.now.items c.args.at (c.args.at + 1) (omega arith) h)))
+
+pub member-returns-clause-ok : goal.member-returns-clause-ok
+member-returns-clause-ok t c =
+    let b = c.args.bytes.now in
+    let k = c.in_ok-behind.ensures.ok in
+    let e = member_is (value_at c.args.depth) b c.args.at c.in_ok-behind.behind c.skip-colon.result c.skip.result k.reads.text c.if-bytes-at-ne34.false k.reads.was c.skip-colon.ensures.rest c.if-bytes-colon-ne58.false c.skip.ensures.rest in
+    IfOk-weaker _ _ _ (λ next r. member_reads _ _ b (c.args.at + 1) c.in_ok-behind.behind next _ _ _ k e r) c.value.ensures.ok
+
+pub member-returns-clause-err : goal.member-returns-clause-err
+member-returns-clause-err t c =
+    let b = c.args.bytes.now in
+    let k = c.in_ok-behind.ensures.ok in
+    let e = member_is (value_at c.args.depth) b c.args.at c.in_ok-behind.behind c.skip-colon.result c.skip.result k.reads.text c.if-bytes-at-ne34.false k.reads.was c.skip-colon.ensures.rest c.if-bytes-colon-ne58.false c.skip.ensures.rest in
+    member_errs _ _ _ _ k.reads.text e c.value.ensures.err

@@ -1,5 +1,5 @@
 use Rattle.std.proofs.Common.{refl, ◌∙◌, arith}
-use Rattle.sj_tape.proofs.Scalars.{on_err}
+use Rattle.std.proofs.lemmas.Result.{err_from_is_err_and}
 use Rattle.sj_tape.proofs.Places.{place_control, place_end, so_far_none, so_far_quote, after_text}
 use Rattle.sj_tape.proofs.PlainRuns.{plain_so_far, plain_after, stop_is, control_is, none_after}
 use Rattle.sj_tape.proofs.reader.string.text.Goals as goal
@@ -7,14 +7,21 @@ use Rattle.sj_tape.proofs.reader.string.text.Goals as goal
 pub returns-then-end-bytes-clause-err : goal.returns-then-end-bytes-clause-err
 returns-then-end-bytes-clause-err c =
     let b = c.args.bytes.now in
-    so_far_none _ b c.args.at c.plain_end-end.result (plain_so_far b c.args.at c.plain_end-end.result c.plain_end-end.ensures.value) (place_end b c.plain_end-end.result c.if-end-bytes.true)
+    λ _. so_far_none _ b c.args.at c.plain_end-end.result (plain_so_far b c.args.at c.plain_end-end.result c.plain_end-end.ensures.value) (place_end b c.plain_end-end.result c.if-end-bytes.true)
 
 pub returns-then-bytes-end-eq34-clause-ok : goal.returns-then-bytes-end-eq34-clause-ok
 returns-then-bytes-end-eq34-clause-ok c =
-    let b = c.args.bytes.now in record {
-      text = _;
-      was = so_far_quote _ b c.args.at c.plain_end-end.result (plain_so_far b c.args.at c.plain_end-end.result c.plain_end-end.ensures.value) c.if-end-bytes.false c.if-bytes-end-eq34.true;
-      node = refl;
+    let b = c.args.bytes.now in
+    let e = c.plain_end-end.result in
+    record {
+      piece = _;
+      items = c.in_ok-push.ensures.items;
+      between = (omega arith, omega (arith, c.plain_end-end.ensures.value), omega arith);
+      reads = record {
+        text = _;
+        was = so_far_quote _ b c.args.at e (plain_so_far b c.args.at e c.plain_end-end.ensures.value) c.if-end-bytes.false c.if-bytes-end-eq34.true;
+        node = refl;
+      };
     }
 
 pub returns-then-bytes-end-ne92-clause-err : goal.returns-then-bytes-end-ne92-clause-err
@@ -22,26 +29,21 @@ returns-then-bytes-end-ne92-clause-err c =
     let b = c.args.bytes.now in
     let e = c.plain_end-end.result in
     let stop = stop_is b c.args.at e c.plain_end-end.ensures.value c.if-end-bytes.false in
-    so_far_none _ b c.args.at e (plain_so_far b c.args.at e c.plain_end-end.ensures.value) (place_control b e c.if-end-bytes.false (control_is _ stop c.if-bytes-end-eq34.false c.if-bytes-end-ne92.true))
+    λ _. so_far_none _ b c.args.at e (plain_so_far b c.args.at e c.plain_end-end.ensures.value) (place_control b e c.if-end-bytes.false (control_is _ stop c.if-bytes-end-eq34.false c.if-bytes-end-ne92.true))
 
 pub returns-in_err-end-clause-err : goal.returns-in_err-end-clause-err
 returns-in_err-end-clause-err c =
     let b = c.args.bytes.now in
-    on_err _ (none_after _ (plain_after b c.args.at c.plain_end-end.result c.plain_end-end.ensures.value ∙ c.in_err-end.ensures.err))
-
-pub returns-clause-between : goal.returns-clause-between
-returns-clause-between c =
-    let b = c.args.bytes.now in (
-      omega arith,
-      omega (arith, c.plain_end-end.ensures.value, c.in_ok-end.ensures.within.0),
-      omega arith,
-      plain_after b c.args.at c.plain_end-end.result c.plain_end-end.ensures.value ∙ c.in_ok-end.ensures.ok,
-    )
+    let p = err_from_is_err_and c.from_residual-in_err-end.result c.from_residual-in_err-end.ensures.1 in
+    rw (p.1, p.2) (λ _. none_after _ (plain_after b c.args.at c.plain_end-end.result c.plain_end-end.ensures.value ∙ c.in_err-end.ensures.err))
 
 pub returns-clause-ok : goal.returns-clause-ok
 returns-clause-ok c =
-    let b = c.args.bytes.now in record {
-      text = _;
-      was = after_text _ _ (plain_after b c.args.at c.plain_end-end.result c.plain_end-end.ensures.value ∙ c.in_ok-end.ensures.ok);
-      node = refl;
+    let b = c.args.bytes.now in
+    let ends = plain_after b c.args.at c.plain_end-end.result c.plain_end-end.ensures.value ∙ c.in_ok-end.ensures.ok in
+    record {
+      piece = _;
+      items = c.in_ok-push-2.ensures.items;
+      between = (omega arith, omega (arith, c.plain_end-end.ensures.value, c.in_ok-end.ensures.within.0), omega arith, ends);
+      reads = record { text = _; was = after_text _ _ ends; node = refl };
     }
