@@ -22,7 +22,7 @@ between_lower b lo mid hi (Bool t) k h = omega (arith, h, k)
 between_lower b lo mid hi (Integer m n) k h = omega (arith, h, k)
 between_lower b lo mid hi (Wide s e) k h = (omega (arith, k, h.0), h.1, h.2, h.3)
 between_lower b lo mid hi (Text s e) k h = (omega (arith, k, h.0), h.1, h.2)
-between_lower b lo mid hi (Escaped s e) k h = (omega (arith, k, h.0), h.1, h.2, h.3)
+between_lower b lo mid hi (Escaped s e) k h = (omega (arith, k, h.0), h.1, h.2, h.3, h.4)
 between_lower b lo mid hi (Array l n) k h = omega (arith, h, k)
 between_lower b lo mid hi (Object l n) k h = omega (arith, h, k)
 

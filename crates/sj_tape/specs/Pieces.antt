@@ -1,5 +1,5 @@
 -- What pieces mean beside the bytes.
-use Rattle.std.specs.Prelude.{◌≡◌, ◌≢◌, ℕ, ◌+◌, ◌<◌, ◌≤◌, pos, cond, List, map, [], ◌∷◌, ◌++◌, length, slice_range, Option, Some, None, option_map, drop, All, IsUtf8}
+use Rattle.std.specs.Prelude.{◌≡◌, ◌≢◌, ℕ, get_or, ◌+◌, ◌<◌, ◌≤◌, pos, cond, List, map, [], ◌∷◌, ◌++◌, length, slice_range, Option, Some, None, option_map, drop, All, IsUtf8}
 use Rattle.std.specs.Int.{cast_signed, w64}
 use Rattle.sj_text_core.specs.Tree.{i64, u64, Tree, null, boolean, int, text, list, obj}
 use Rattle.sj_text_core.specs.Nodes.{Mark, nothing, truth, number, string, array, object, flat, flat_items, flat_members}
@@ -54,6 +54,10 @@ IsInside b len (Escaped start end) = ⊥
 IsInside b len (Array l n) = Unit {0}
 IsInside b len (Object l n) = Unit {0}
 
+-- an escape may stand in the bytes
+abbrev pub HasBackslash : List ℕ → Type 0
+HasBackslash b = (k : ℕ) × (k < length b) × (get_or b k 0 ≡ 92)
+
 -- its text and the quote behind it lie from lo up to hi, or its number does
 abbrev pub IsBetween : List ℕ → ℕ → ℕ → Piece → Type 0
 IsBetween b lo hi Null = lo ≤ hi
@@ -61,7 +65,7 @@ IsBetween b lo hi (Bool t) = lo ≤ hi
 IsBetween b lo hi (Integer m n) = lo ≤ hi
 IsBetween b lo hi (Wide start end) = (lo ≤ start) × (start < end) × (end ≤ hi) × (number_at (slice_range b start end) ≢ None)
 IsBetween b lo hi (Text start end) = (lo ≤ start) × (start ≤ end) × (end < hi)
-IsBetween b lo hi (Escaped start end) = (lo ≤ start) × (start ≤ end) × (end < hi) × (after (text_at (drop start b)) ≡ Some (drop (end + 1) b))
+IsBetween b lo hi (Escaped start end) = (lo ≤ start) × (start ≤ end) × (end < hi) × (after (text_at (drop start b)) ≡ Some (drop (end + 1) b)) × HasBackslash b
 IsBetween b lo hi (Array l n) = lo ≤ hi
 IsBetween b lo hi (Object l n) = lo ≤ hi
 

@@ -52,9 +52,7 @@ fn push_node<'i>(nodes: &mut Vec<Node<'i>>, bytes: &'i [u8], piece: Piece)
                 nodes.push_reserved(Node::Static(StaticNode::U64(bits)))
             }
         }
-        Piece::Wide { start, end } => {
-            nodes.push_reserved(Node::Static(wide(&bytes[start..end])))
-        }
+        Piece::Wide { start, end } => push_wide(nodes, &bytes[start..end]),
         Piece::Text { start, end } => {
             nodes.push_reserved(Node::String(text(&bytes[start..end])))
         }
@@ -73,8 +71,21 @@ fn text(bytes: &[u8]) -> &str
     unsafe { from_utf8_unchecked(bytes) }
 }
 
-/// The number that the bytes spell.
+/// Puts the number that the bytes spell at the end.
+#[tactic(auto, using(crate::proofs::NodeMarks::marks_push))]
 #[inline(never)]
+fn push_wide(nodes: &mut Vec<Node<'_>>, bytes: &[u8])
+    requires room { vec_len nodes.old < vec_capacity nodes.old }
+    requires some { 0 < length bytes.now }
+    requires spelled { number_at bytes.now ≢ None }
+    ensures marks { marks nodes.new.items ≡ marks nodes.old.items ++ number_mark (number_at bytes.now) ∷ [] }
+    ensures len { vec_len nodes.new ≡ vec_len nodes.old + 1 }
+    ensures capacity { vec_capacity nodes.new ≡ vec_capacity nodes.old }
+{
+    nodes.push_reserved(Node::Static(wide(bytes)));
+}
+
+/// The number that the bytes spell.
 fn wide(bytes: &[u8]) -> StaticNode
     requires some { 0 < length bytes.now }
     requires spelled { number_at bytes.now ≢ None }

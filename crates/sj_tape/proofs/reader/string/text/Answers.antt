@@ -44,6 +44,6 @@ returns-clause-ok c =
     record {
       piece = _;
       items = c.in_ok-push-2.ensures.items;
-      between = (omega arith, omega (arith, c.plain_end-end.ensures.value, c.in_ok-end.ensures.within.0), omega arith, ends);
+      between = (omega arith, omega (arith, c.plain_end-end.ensures.value, c.in_ok-end.ensures.within.0), omega arith, ends, (c.plain_end-end.result, omega (arith, c.if-end-bytes.false), c.if-bytes-end-ne92.false));
       reads = record { text = _; was = after_text _ _ ends; node = refl };
     }
