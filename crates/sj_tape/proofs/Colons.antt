@@ -1,10 +1,10 @@
 -- One member of an object: its key, a colon, its value.
-use Rattle.std.proofs.Common.{◌≡◌, ◌≢◌, ◌==◌, ℕ, ◌+◌, ◌<◌, List, [], ◌∷◌, ◌++◌, drop, get_or, cond, option_map, option_and_then, Some, None, Ok, Err, Result, IfErr, sym, ap, ◌∙◌, arith}
+use Rattle.std.proofs.Common.{◌≡◌, ◌≢◌, ◌==◌, ℕ, ◌+◌, List, [], ◌∷◌, ◌++◌, drop, get_or, cond, option_map, option_and_then, Some, None, Ok, Err, Result, IfErr, sym, ap, ◌∙◌, arith}
 use Rattle.std.proofs.lemmas.List.{append_assoc, drop-drop, get_or-drop, map-append}
 use Rattle.std.proofs.lemmas.Bool.Decides.{nat_tests}
 use Rattle.sj_text_core.specs.declared.error.ErrorKind.{ErrorKind}
 use Rattle.sj_text_core.specs.Tree.{Tree}
-use Rattle.sj_text_core.specs.Nodes.{flat, string}
+use Rattle.sj_text_core.specs.Nodes.{flat}
 use Rattle.sj_tape.specs.Parse.{Read, text_at, after_blank, after_key, member_at}
 use Rattle.sj_tape.specs.Pieces.{piece_mark, piece_marks, Reads, ReadsMember, PutsText}
 use Rattle.sj_tape.specs.declared.reader.piece.Piece.{Piece}

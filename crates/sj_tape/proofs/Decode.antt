@@ -1,5 +1,5 @@
 -- Characters written over their own spelling.
-use Rattle.std.proofs.Common.{take-take, ◌≡◌, ◌≢◌, ℕ, zero, suc, ◌+◌, ◌-◌, ◌<◌, ◌≤◌, List, [], ◌∷◌, ◌++◌, length, take, drop, get_or, set, Some, None, refl, sym, ap, ◌∙◌, arith, append_assoc, append-nil, length-append, length-drop}
+use Rattle.std.proofs.Common.{◌≡◌, ◌≢◌, ℕ, zero, suc, ◌+◌, ◌-◌, ◌<◌, ◌≤◌, List, [], ◌∷◌, ◌++◌, length, take, drop, get_or, set, Some, None, refl, sym, ap, ◌∙◌, arith, append_assoc, append-nil, length-append, length-drop}
 use Rattle.std.specs.Prelude.{slice_range}
 use Rattle.std.specs.Char.{encode_utf8}
 use Rattle.std.proofs.lemmas.Option.{none-some, same_Some, some_pair_parts, option_and_then_some}
@@ -152,20 +152,3 @@ never_bad b old from end h k r q e i =
 pub text_done : (b old : List ℕ) (start to end : ℕ) → end < length old → text_at (drop start old) ≡ with_front (slice_range b start to) (text_at (drop end old)) → EndsAt old end end → slice_range b start to ≡ text_of (text_at (drop start old))
 text_done b old start to end h e i =
     sym (ap (λ o. text_of o) (e ∙ ap (λ o. with_front (slice_range b start to) o) (at_end old end h i)) ∙ append-nil (slice_range b start to))
-
--- what stands before a place where the bytes are the same
-pub kept_before : (x y : List ℕ) (n s : ℕ) → s ≤ n → take n x ≡ take n y → take s x ≡ take s y
-kept_before x y n s h e = sym (front x) ∙ (ap (λ l. take s l) e ∙ front y)
-  where
-    front : (l : List ℕ) → take s (take n l) ≡ take s l
-    front l = take-take s n l h
-
--- a range within bytes that are the same
-pub kept_range : (x y : List ℕ) (s n : ℕ) → s ≤ n → n ≤ length x → n ≤ length y → take n x ≡ take n y → slice_range x s n ≡ slice_range y s n
-kept_range x y s n h k l e =
-    ap (λ z. slice_range z s n) (sym (take-append-drop n x))
-    ∙ (front (take n x) (drop n x) (omega (arith, length-take-le n x k))
-    ∙ (ap (λ z. slice_range z s n) e ∙ (sym (front (take n y) (drop n y) (omega (arith, length-take-le n y l))) ∙ ap (λ z. slice_range z s n) (take-append-drop n y))))
-  where
-    front : (q z : List ℕ) → n ≤ length q → slice_range (q ++ z) s n ≡ slice_range q s n
-    front q z m = ap (λ l. take (n - s) l) (drop_front s q z (omega (arith, h, m))) ∙ take_front (n - s) (drop s q) z (omega (arith, h, m, length-drop s q))

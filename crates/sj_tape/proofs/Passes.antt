@@ -4,9 +4,9 @@ use Rattle.std.specs.Prelude.{slice_range}
 use Rattle.std.specs.List.{AllByRecursion}
 use Rattle.memchr.specs.Find.{IsFirstByte, is_byte}
 use Rattle.std.proofs.lemmas.Option.{none-some, some_pair_parts}
-use Rattle.std.proofs.lemmas.List.{take-append-drop, length-take-le, map-append, take_all, take_at}
+use Rattle.std.proofs.lemmas.List.{take-append-drop, length-take-le, map-append, take_all}
 use Rattle.std.proofs.lemmas.List.Elements.{All-from_recursion}
-use Rattle.sj_text_core.specs.Nodes.{Mark, string}
+use Rattle.sj_text_core.specs.Nodes.{string}
 use Rattle.sj_tape.specs.Parse.{text_at, number_at}
 use Rattle.sj_tape.specs.Pieces.{after, text_of, number_mark, piece_mark, piece_marks, spelling_of, HasBackslash, IsBetween, InOrder, IsInside, AreInside}
 use Rattle.sj_tape.specs.declared.reader.piece.Piece.{Piece}
@@ -271,11 +271,3 @@ decoded_as old from b new new' ps ps' i p s e end d q n z lo hi t before behind 
 pub skipped_as : (old : List ℕ) (from : List Piece) (b b' : List ℕ) (ps ps' : List Piece) (i : ℕ) (p : Piece) → Decoding old from b ps i → drop i ps ≡ p ∷ drop (i + 1) ps → None ≡ spelling_of p → b' ≡ b → ps' ≡ ps → Decoding old from b' ps' (i + 1)
 skipped_as old from b b' ps ps' i p d q n f g =
     subst (λ x. Decoding old from x ps' (i + 1)) (sym f) (subst (λ x. Decoding old from b x (i + 1)) (sym g) (skipped old from b ps i p d q (sym n)))
-
--- the pieces as they are lent
-pub same_pieces : (new rest final : List Piece) (n : ℕ) → final ≡ take n (new ++ rest) → length new ≡ n → final ≡ new
-same_pieces new rest final n e k = e ∙ take_at new rest n k
-
--- the nodes of the pieces as they are lent
-pub marks_of : (old b : List ℕ) (from first new rest final : List Piece) (n : ℕ) (ns : List Mark) → final ≡ take n (new ++ rest) → length new ≡ n → piece_marks b new ≡ piece_marks old first → first ≡ from → piece_marks old from ≡ ns → piece_marks b final ≡ ns
-marks_of old b from first new rest final n ns e k f g h = ap (λ l. piece_marks b l) (same_pieces new rest final n e k) ∙ (f ∙ (ap (λ l. piece_marks old l) g ∙ h))

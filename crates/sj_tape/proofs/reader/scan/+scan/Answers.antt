@@ -3,12 +3,12 @@ use Rattle.std.proofs.lemmas.Result.{IfOk-weaker, err_from_is_err_and}
 use Rattle.sj_tape.proofs.Order.{order_wider, order_push, order_set}
 use Rattle.sj_tape.proofs.Colons.{member_is, member_reads, member_errs}
 use Rattle.sj_tape.proofs.Scalars.{puts_by, puts_reads, puts_inside, text_inside}
-use Rattle.std.proofs.lemmas.List.{get_or_past, map-append}
+use Rattle.std.proofs.lemmas.List.{get_or_past}
 use Rattle.sj_text_core.specs.Tree.{list, obj}
 use Rattle.sj_text_core.specs.Nodes.{flat}
 use Rattle.sj_tape.specs.Parse.{value_at, parts_at, member_at}
 use Rattle.sj_text_core.specs.Tree.{items_from, members_from}
-use Rattle.sj_tape.specs.Pieces.{piece_marks, piece_mark, InOrder}
+use Rattle.sj_tape.specs.Pieces.{piece_marks, InOrder}
 use Rattle.sj_tape.proofs.Parts.{fails, parts_none, parts_unseparated, last_turn, next_turn, item_flats, member_flats, member_flat, item_flats-push, member_flats-push}
 use Rattle.sj_tape.proofs.Values.{value_at_end, value_too_deep, value_too_deep_2, value_in_list, value_in_obj, value_scalar, reads_by, errs_by, list_reads, obj_reads, count_is, nodes_set, flat_list_is, flat_obj_is}
 use Rattle.sj_tape.specs.declared.reader.piece.Piece.TheVariants.{Array, Object}
