@@ -14,6 +14,7 @@ use std::alloc::Global;
 use std::str::from_utf8_unchecked;
 
 /// The third pass: the nodes of the pieces, with texts that lie in the bytes.
+#[tactic(auto, using(crate::proofs::NodeMarks::marks_push))]
 pub(crate) fn lend<'i>(
     alloc: Global,
     bytes: &'i [u8],
@@ -26,40 +27,27 @@ pub(crate) fn lend<'i>(
 {
     let mut nodes = Vec::with_capacity(alloc, pieces.len())?;
     for piece in pieces {
-        push_node(&mut nodes, bytes, *piece);
-    }
-    Ok(nodes)
-}
-
-/// Puts the node of a piece at the end.
-#[tactic(auto, using(crate::proofs::NodeMarks::marks_push))]
-#[inline(always)]
-fn push_node<'i>(nodes: &mut Vec<Node<'i>>, bytes: &'i [u8], piece: Piece)
-    requires room { vec_len nodes.old < vec_capacity nodes.old }
-    requires inside { IsInside bytes.now (length bytes.now) piece }
-    requires text { IsTextMark (piece_mark bytes.now piece) }
-    ensures marks { marks nodes.new.items ≡ marks nodes.old.items ++ piece_mark bytes.now piece ∷ [] }
-    ensures len { vec_len nodes.new ≡ vec_len nodes.old + 1 }
-    ensures capacity { vec_capacity nodes.new ≡ vec_capacity nodes.old }
-{
-    match piece {
-        Piece::Null => nodes.push_reserved(Node::Static(StaticNode::Null)),
-        Piece::Bool(truth) => nodes.push_reserved(Node::Static(StaticNode::Bool(truth))),
-        Piece::Integer { is_negative, bits } => {
-            if is_negative {
+        match *piece {
+            Piece::Null => nodes.push_reserved(Node::Static(StaticNode::Null)),
+            Piece::Bool(truth) => nodes.push_reserved(Node::Static(StaticNode::Bool(truth))),
+            Piece::Integer { is_negative: true, bits } => {
                 nodes.push_reserved(Node::Static(StaticNode::I64(bits.cast_signed())))
-            } else {
+            }
+            Piece::Integer { is_negative: false, bits } => {
                 nodes.push_reserved(Node::Static(StaticNode::U64(bits)))
             }
+            Piece::Wide { start, end } => {
+                nodes.push_reserved(Node::Static(wide(&bytes[start..end])))
+            }
+            Piece::Text { start, end } => {
+                nodes.push_reserved(Node::String(text(&bytes[start..end])))
+            }
+            Piece::Escaped { .. } => unreachable!(),
+            Piece::Array { len, count } => nodes.push_reserved(Node::Array { len, count }),
+            Piece::Object { len, count } => nodes.push_reserved(Node::Object { len, count }),
         }
-        Piece::Wide { start, end } => push_wide(nodes, &bytes[start..end]),
-        Piece::Text { start, end } => {
-            nodes.push_reserved(Node::String(text(&bytes[start..end])))
-        }
-        Piece::Escaped { .. } => unreachable!(),
-        Piece::Array { len, count } => nodes.push_reserved(Node::Array { len, count }),
-        Piece::Object { len, count } => nodes.push_reserved(Node::Object { len, count }),
     }
+    Ok(nodes)
 }
 
 /// The text that the bytes are. They are UTF-8, so they are not tested once more.
@@ -71,21 +59,8 @@ fn text(bytes: &[u8]) -> &str
     unsafe { from_utf8_unchecked(bytes) }
 }
 
-/// Puts the number that the bytes spell at the end.
-#[tactic(auto, using(crate::proofs::NodeMarks::marks_push))]
-#[inline(never)]
-fn push_wide(nodes: &mut Vec<Node<'_>>, bytes: &[u8])
-    requires room { vec_len nodes.old < vec_capacity nodes.old }
-    requires some { 0 < length bytes.now }
-    requires spelled { number_at bytes.now ≢ None }
-    ensures marks { marks nodes.new.items ≡ marks nodes.old.items ++ number_mark (number_at bytes.now) ∷ [] }
-    ensures len { vec_len nodes.new ≡ vec_len nodes.old + 1 }
-    ensures capacity { vec_capacity nodes.new ≡ vec_capacity nodes.old }
-{
-    nodes.push_reserved(Node::Static(wide(bytes)));
-}
-
 /// The number that the bytes spell.
+#[inline(never)]
 fn wide(bytes: &[u8]) -> StaticNode
     requires some { 0 < length bytes.now }
     requires spelled { number_at bytes.now ≢ None }
