@@ -8,7 +8,7 @@ use crate::reader::blank::skip;
 use crate::reader::number::number_piece;
 use crate::reader::piece::{Piece, push};
 use crate::reader::string::text;
-use crate::reader::structure::{separator, word_end};
+use crate::reader::structure::{Behind, separator, word_end};
 use sj_text_core::ErrorKind;
 
 /// Reads the string or the number at `at`, where no other value begins.
@@ -136,11 +136,12 @@ fn items(
     loop {
         let after = value(bytes, place, depth, out)?;
         len += 1;
-        let (next, is_more) = separator(bytes, after, b']')?;
-        if !is_more {
-            return Ok((next, len));
+        let stop = separator(bytes, after, b']');
+        match stop.behind {
+            Behind::Comma => place = stop.next,
+            Behind::Close => return Ok((stop.next, len)),
+            Behind::Other => return Err(ErrorKind::Syntax),
         }
-        place = next;
     }
 }
 
@@ -187,11 +188,12 @@ fn members(
     loop {
         let after = member(bytes, place, depth, out)?;
         len += 1;
-        let (next, is_more) = separator(bytes, after, b'}')?;
-        if !is_more {
-            return Ok((next, len));
+        let stop = separator(bytes, after, b'}');
+        match stop.behind {
+            Behind::Comma => place = stop.next,
+            Behind::Close => return Ok((stop.next, len)),
+            Behind::Other => return Err(ErrorKind::Syntax),
         }
-        place = next;
     }
 }
 

@@ -1,6 +1,6 @@
 //! Words, and what stands between values.
 
-ghost use Rattle.std.specs.Prelude.{◌≡◌, ◌+◌, ◌-◌, ◌<◌, ◌≤◌, ℕ, Some, None, length, drop, IfOk, IfErr, OnOk, OnErr, MatchResult, IsTrue, ◌↔◌, ◌≢◌, ◌==◌, slice_index};
+ghost use Rattle.std.specs.Prelude.{◌≡◌, ◌+◌, ◌-◌, ◌<◌, ◌≤◌, ℕ, Some, None, true, false, length, drop, IfOk, IfErr, OnOk, OnErr, MatchResult, IsTrue, ◌↔◌, ◌≢◌, ◌==◌, slice_index};
 ghost use Rattle.sj_text_core.specs.Tree.{Tree};
 ghost use Rattle.sj_tape.specs.Parse as parse;
 
@@ -23,25 +23,38 @@ pub(crate) fn word_end(bytes: &[u8], at: usize, word: &[u8]) -> Result<usize, Er
     Ok(at + word.len())
 }
 
-/// What stands behind a part: whether it is a comma, with the place of the next part, or the
-/// closing byte, with the place after it.
+/// What stands behind a part of an array or an object.
+#[derive(Clone, Copy)]
+pub(crate) enum Behind {
+    Comma,
+    Close,
+    Other,
+}
+
+/// What stands behind a part, and the place of the next part or the one after the closing byte.
+#[derive(Clone, Copy)]
+pub(crate) struct Stop {
+    pub(crate) behind: Behind,
+    pub(crate) next: usize,
+}
+
+/// The separator behind a part that ends at `at`.
 #[inline(always)]
-pub(crate) fn separator(bytes: &[u8], at: usize, close: u8) -> Result<(usize, bool), ErrorKind>
+pub(crate) fn separator(bytes: &[u8], at: usize, close: u8) -> Stop
     requires { at ≤ length bytes.now }
-    ensures within { IfOk result (λ p. (at < p.0) × (p.0 ≤ length bytes.now)) }
-    ensures ok { IfOk result (λ p. parse.separator_at close (drop at bytes.now) ≡ Some (p.1, drop p.0 bytes.now)) }
-    ensures err { OnErr result (parse.separator_at close (drop at bytes.now) ≡ None) }
-    ensures kind { IfErr result (λ e. e ≢ ErrorKind.InvalidUtf8) }
+    ensures comma { result.behind ≡ Behind.Comma → (at < result.next) × (result.next ≤ length bytes.now) × (parse.separator_at close (drop at bytes.now) ≡ Some (true, drop result.next bytes.now)) }
+    ensures close { result.behind ≡ Behind.Close → (at < result.next) × (result.next ≤ length bytes.now) × (parse.separator_at close (drop at bytes.now) ≡ Some (false, drop result.next bytes.now)) }
+    ensures other { result.behind ≡ Behind.Other → parse.separator_at close (drop at bytes.now) ≡ None }
 {
     let place = skip(bytes, at);
     if place >= bytes.len() {
-        return Err(ErrorKind::Syntax);
+        return Stop { behind: Behind::Other, next: 0 };
     }
     if bytes[place] == close {
-        return Ok((place + 1, false));
+        return Stop { behind: Behind::Close, next: place + 1 };
     }
     if bytes[place] != b',' {
-        return Err(ErrorKind::Syntax);
+        return Stop { behind: Behind::Other, next: 0 };
     }
-    Ok((skip(bytes, place + 1), true))
+    Stop { behind: Behind::Comma, next: skip(bytes, place + 1) }
 }

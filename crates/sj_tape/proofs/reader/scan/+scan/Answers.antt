@@ -1,4 +1,4 @@
-use Rattle.std.proofs.Common.{◌≡◌, ◌≢◌, set, ◌+◌, ◌-◌, ◌++◌, ◌∷◌, [], length, drop, get_or, sym, ap, ◌∙◌, arith, subst}
+use Rattle.std.proofs.Common.{◌≡◌, ◌≢◌, set, ◌+◌, ◌-◌, ◌++◌, ◌∷◌, [], length, drop, get_or, sym, ap, ◌∙◌, arith, subst, refl, true, false}
 use Rattle.std.proofs.lemmas.Result.{IfOk-weaker, err_from_is_err_and}
 use Rattle.sj_tape.proofs.Order.{order_wider, order_push, order_set}
 use Rattle.sj_tape.proofs.Colons.{member_is, member_reads, member_errs}
@@ -67,34 +67,32 @@ items-returns-in_err-after-clause-err t c =
     rw (p.1, p.2) (λ n. fails item_flats _ _ _ _ _ c.loop-after.invariant.progress
     (parts_none 93 (value_at c.args.depth) (length c.args.bytes.now - c.args.at - c.loop-after.len) (drop c.loop-after.place c.args.bytes.now) (c.in_err-after.ensures.err n)))
 
-pub items-returns-in_err-next-clause-err : goal.items-returns-in_err-next-clause-err
-items-returns-in_err-next-clause-err t c =
-    let p = err_from_is_err_and c.from_residual-in_err-next.result c.from_residual-in_err-next.ensures.1 in
-    rw (p.1, p.2) (λ _. fails item_flats _ _ _ _ _ c.loop-after.invariant.progress
+pub items-returns-in-Other-clause-err : goal.items-returns-in-Other-clause-err
+items-returns-in-Other-clause-err t c = λ _. fails item_flats _ _ _ _ _ c.loop-after.invariant.progress
     (parts_unseparated 93 (value_at c.args.depth) (length c.args.bytes.now - c.args.at - c.loop-after.len) (drop c.loop-after.place c.args.bytes.now)
-    c.in_ok-after.ensures.ok.tree (drop c.in_ok-after.after c.args.bytes.now) c.in_ok-after.ensures.ok.was c.in_err-next.ensures.err))
+    c.in_ok-after.ensures.ok.tree (drop c.in_ok-after.after c.args.bytes.now) c.in_ok-after.ensures.ok.was (c.separator-stop.ensures.other c.in-Other.is))
 
-pub items-returns-then-not-is_more-clause-ok : goal.items-returns-then-not-is_more-clause-ok
-items-returns-then-not-is_more-clause-ok t c =
+pub items-returns-in-Close-clause-ok : goal.items-returns-in-Close-clause-ok
+items-returns-in-Close-clause-ok t c =
     let d = last_turn 93 (value_at c.args.depth) item_flats (λ t. flat t) item_flats-push (length c.args.bytes.now - c.args.at) c.loop-after.len (drop c.loop-after.place c.args.bytes.now)
-    (drop c.in_ok-after.after c.args.bytes.now) (drop c.in_ok-next.next c.args.bytes.now) c.in_ok-next.is_more
+    (drop c.in_ok-after.after c.args.bytes.now) (drop c.separator-stop.result.next c.args.bytes.now) false
     (parts_at 93 (value_at c.args.depth) (length c.args.bytes.now - c.args.at) (drop c.args.at c.args.bytes.now))
     (piece_marks c.args.bytes.now c.args.out.now.items) (piece_marks c.args.bytes.now c.loop-after.out.items) (piece_marks c.args.bytes.now c.value.new.out.items)
-    c.in_ok-after.ensures.ok.tree (omega (arith, c.loop-after.invariant.low, c.in_ok-after.ensures.within.0, c.in_ok-after.ensures.within.1)) c.loop-after.invariant.progress c.in_ok-after.ensures.ok.was c.in_ok-next.ensures.ok
-    c.if-not-is_more.true c.in_ok-after.ensures.ok.nodes in
+    c.in_ok-after.ensures.ok.tree (omega (arith, c.loop-after.invariant.low, c.in_ok-after.ensures.within.0, c.in_ok-after.ensures.within.1)) c.loop-after.invariant.progress c.in_ok-after.ensures.ok.was (c.separator-stop.ensures.close c.in-Close.is).2
+    refl c.in_ok-after.ensures.ok.nodes in
     record { trees = d.parts; was = d.was; nodes = d.nodes; count = d.count }
 
 pub items-loop-after-preserved : goal.items-loop-after-preserved
 items-loop-after-preserved t c = record {
-  low = omega (arith, c.loop-after.invariant.low, c.in_ok-after.ensures.within.0, c.in_ok-next.ensures.within.0);
-  high = c.in_ok-next.ensures.within.1;
+  low = omega (arith, c.loop-after.invariant.low, c.in_ok-after.ensures.within.0, (c.separator-stop.ensures.comma c.in-Comma.is).0);
+  high = (c.separator-stop.ensures.comma c.in-Comma.is).1;
   progress = next_turn 93 (value_at c.args.depth) item_flats (λ t. flat t) item_flats-push (length c.args.bytes.now - c.args.at) c.loop-after.len (drop c.loop-after.place c.args.bytes.now)
-      (drop c.in_ok-after.after c.args.bytes.now) (drop c.in_ok-next.next c.args.bytes.now) c.in_ok-next.is_more
+      (drop c.in_ok-after.after c.args.bytes.now) (drop c.separator-stop.result.next c.args.bytes.now) true
       (parts_at 93 (value_at c.args.depth) (length c.args.bytes.now - c.args.at) (drop c.args.at c.args.bytes.now))
       (piece_marks c.args.bytes.now c.args.out.now.items) (piece_marks c.args.bytes.now c.loop-after.out.items) (piece_marks c.args.bytes.now c.value.new.out.items)
-      c.in_ok-after.ensures.ok.tree (omega (arith, c.loop-after.invariant.low, c.in_ok-after.ensures.within.0, c.in_ok-after.ensures.within.1)) c.loop-after.invariant.progress c.in_ok-after.ensures.ok.was c.in_ok-next.ensures.ok
-      c.if-not-is_more.false c.in_ok-after.ensures.ok.nodes;
-  inside = λ h. order_wider c.args.bytes.now 0 c.value.new.out.items c.in_ok-after.after c.in_ok-next.next (omega (arith, c.in_ok-next.ensures.within.0)) (c.in_ok-after.ensures.inside (c.loop-after.invariant.inside h));
+      c.in_ok-after.ensures.ok.tree (omega (arith, c.loop-after.invariant.low, c.in_ok-after.ensures.within.0, c.in_ok-after.ensures.within.1)) c.loop-after.invariant.progress c.in_ok-after.ensures.ok.was (c.separator-stop.ensures.comma c.in-Comma.is).2
+      refl c.in_ok-after.ensures.ok.nodes;
+  inside = λ h. order_wider c.args.bytes.now 0 c.value.new.out.items c.in_ok-after.after c.separator-stop.result.next (omega (arith, (c.separator-stop.ensures.comma c.in-Comma.is).0)) (c.in_ok-after.ensures.inside (c.loop-after.invariant.inside h));
 }
 
 pub members-returns-in_err-after-clause-err : goal.members-returns-in_err-after-clause-err
@@ -103,34 +101,32 @@ members-returns-in_err-after-clause-err t c =
     rw (p.1, p.2) (λ n. fails member_flats _ _ _ _ _ c.loop-after.invariant.progress
     (parts_none 125 (member_at (value_at c.args.depth)) (length c.args.bytes.now - c.args.at - c.loop-after.len) (drop c.loop-after.place c.args.bytes.now) (c.in_err-after.ensures.err n)))
 
-pub members-returns-in_err-next-clause-err : goal.members-returns-in_err-next-clause-err
-members-returns-in_err-next-clause-err t c =
-    let p = err_from_is_err_and c.from_residual-in_err-next.result c.from_residual-in_err-next.ensures.1 in
-    rw (p.1, p.2) (λ _. fails member_flats _ _ _ _ _ c.loop-after.invariant.progress
+pub members-returns-in-Other-clause-err : goal.members-returns-in-Other-clause-err
+members-returns-in-Other-clause-err t c = λ _. fails member_flats _ _ _ _ _ c.loop-after.invariant.progress
     (parts_unseparated 125 (member_at (value_at c.args.depth)) (length c.args.bytes.now - c.args.at - c.loop-after.len) (drop c.loop-after.place c.args.bytes.now)
-    (c.in_ok-after.ensures.ok.key, c.in_ok-after.ensures.ok.tree) (drop c.in_ok-after.after c.args.bytes.now) c.in_ok-after.ensures.ok.was c.in_err-next.ensures.err))
+    (c.in_ok-after.ensures.ok.key, c.in_ok-after.ensures.ok.tree) (drop c.in_ok-after.after c.args.bytes.now) c.in_ok-after.ensures.ok.was (c.separator-stop.ensures.other c.in-Other.is))
 
-pub members-returns-then-not-is_more-clause-ok : goal.members-returns-then-not-is_more-clause-ok
-members-returns-then-not-is_more-clause-ok t c =
+pub members-returns-in-Close-clause-ok : goal.members-returns-in-Close-clause-ok
+members-returns-in-Close-clause-ok t c =
     let d = last_turn 125 (member_at (value_at c.args.depth)) member_flats member_flat member_flats-push (length c.args.bytes.now - c.args.at) c.loop-after.len (drop c.loop-after.place c.args.bytes.now)
-    (drop c.in_ok-after.after c.args.bytes.now) (drop c.in_ok-next.next c.args.bytes.now) c.in_ok-next.is_more
+    (drop c.in_ok-after.after c.args.bytes.now) (drop c.separator-stop.result.next c.args.bytes.now) false
     (parts_at 125 (member_at (value_at c.args.depth)) (length c.args.bytes.now - c.args.at) (drop c.args.at c.args.bytes.now))
     (piece_marks c.args.bytes.now c.args.out.now.items) (piece_marks c.args.bytes.now c.loop-after.out.items) (piece_marks c.args.bytes.now c.member.new.out.items)
-    (c.in_ok-after.ensures.ok.key, c.in_ok-after.ensures.ok.tree) (omega (arith, c.loop-after.invariant.low, c.in_ok-after.ensures.within.0, c.in_ok-after.ensures.within.1)) c.loop-after.invariant.progress c.in_ok-after.ensures.ok.was c.in_ok-next.ensures.ok
-    c.if-not-is_more.true c.in_ok-after.ensures.ok.nodes in
+    (c.in_ok-after.ensures.ok.key, c.in_ok-after.ensures.ok.tree) (omega (arith, c.loop-after.invariant.low, c.in_ok-after.ensures.within.0, c.in_ok-after.ensures.within.1)) c.loop-after.invariant.progress c.in_ok-after.ensures.ok.was (c.separator-stop.ensures.close c.in-Close.is).2
+    refl c.in_ok-after.ensures.ok.nodes in
     record { pairs = d.parts; was = d.was; nodes = d.nodes; count = d.count }
 
 pub members-loop-after-preserved : goal.members-loop-after-preserved
 members-loop-after-preserved t c = record {
-  low = omega (arith, c.loop-after.invariant.low, c.in_ok-after.ensures.within.0, c.in_ok-next.ensures.within.0);
-  high = c.in_ok-next.ensures.within.1;
+  low = omega (arith, c.loop-after.invariant.low, c.in_ok-after.ensures.within.0, (c.separator-stop.ensures.comma c.in-Comma.is).0);
+  high = (c.separator-stop.ensures.comma c.in-Comma.is).1;
   progress = next_turn 125 (member_at (value_at c.args.depth)) member_flats member_flat member_flats-push (length c.args.bytes.now - c.args.at) c.loop-after.len (drop c.loop-after.place c.args.bytes.now)
-      (drop c.in_ok-after.after c.args.bytes.now) (drop c.in_ok-next.next c.args.bytes.now) c.in_ok-next.is_more
+      (drop c.in_ok-after.after c.args.bytes.now) (drop c.separator-stop.result.next c.args.bytes.now) true
       (parts_at 125 (member_at (value_at c.args.depth)) (length c.args.bytes.now - c.args.at) (drop c.args.at c.args.bytes.now))
       (piece_marks c.args.bytes.now c.args.out.now.items) (piece_marks c.args.bytes.now c.loop-after.out.items) (piece_marks c.args.bytes.now c.member.new.out.items)
-      (c.in_ok-after.ensures.ok.key, c.in_ok-after.ensures.ok.tree) (omega (arith, c.loop-after.invariant.low, c.in_ok-after.ensures.within.0, c.in_ok-after.ensures.within.1)) c.loop-after.invariant.progress c.in_ok-after.ensures.ok.was c.in_ok-next.ensures.ok
-      c.if-not-is_more.false c.in_ok-after.ensures.ok.nodes;
-  inside = λ h. order_wider c.args.bytes.now 0 c.member.new.out.items c.in_ok-after.after c.in_ok-next.next (omega (arith, c.in_ok-next.ensures.within.0)) (c.in_ok-after.ensures.inside (c.loop-after.invariant.inside h));
+      (c.in_ok-after.ensures.ok.key, c.in_ok-after.ensures.ok.tree) (omega (arith, c.loop-after.invariant.low, c.in_ok-after.ensures.within.0, c.in_ok-after.ensures.within.1)) c.loop-after.invariant.progress c.in_ok-after.ensures.ok.was (c.separator-stop.ensures.comma c.in-Comma.is).2
+      refl c.in_ok-after.ensures.ok.nodes;
+  inside = λ h. order_wider c.args.bytes.now 0 c.member.new.out.items c.in_ok-after.after c.separator-stop.result.next (omega (arith, (c.separator-stop.ensures.comma c.in-Comma.is).0)) (c.in_ok-after.ensures.inside (c.loop-after.invariant.inside h));
 }
 
 pub array-returns-clause-ok : goal.array-returns-clause-ok
@@ -190,11 +186,11 @@ value-returns-then-byte-eq123-clause-inside t c = λ h. c.object.ensures.inside 
 pub value-returns-clause-inside : goal.value-returns-clause-inside
 value-returns-clause-inside t c = λ h. IfOk-weaker _ _ _ (λ next r. puts_inside _ c.args.bytes.now c.args.at next _ _ r h) c.word.ensures.ok
 
-pub items-returns-then-not-is_more-clause-inside : goal.items-returns-then-not-is_more-clause-inside
-items-returns-then-not-is_more-clause-inside t c = λ h. order_wider c.args.bytes.now 0 c.value.new.out.items c.in_ok-after.after c.in_ok-next.next (omega (arith, c.in_ok-next.ensures.within.0)) (c.in_ok-after.ensures.inside (c.loop-after.invariant.inside h))
+pub items-returns-in-Close-clause-inside : goal.items-returns-in-Close-clause-inside
+items-returns-in-Close-clause-inside t c = λ h. order_wider c.args.bytes.now 0 c.value.new.out.items c.in_ok-after.after c.separator-stop.result.next (omega (arith, (c.separator-stop.ensures.close c.in-Close.is).0)) (c.in_ok-after.ensures.inside (c.loop-after.invariant.inside h))
 
-pub members-returns-then-not-is_more-clause-inside : goal.members-returns-then-not-is_more-clause-inside
-members-returns-then-not-is_more-clause-inside t c = λ h. order_wider c.args.bytes.now 0 c.member.new.out.items c.in_ok-after.after c.in_ok-next.next (omega (arith, c.in_ok-next.ensures.within.0)) (c.in_ok-after.ensures.inside (c.loop-after.invariant.inside h))
+pub members-returns-in-Close-clause-inside : goal.members-returns-in-Close-clause-inside
+members-returns-in-Close-clause-inside t c = λ h. order_wider c.args.bytes.now 0 c.member.new.out.items c.in_ok-after.after c.separator-stop.result.next (omega (arith, (c.separator-stop.ensures.close c.in-Close.is).0)) (c.in_ok-after.ensures.inside (c.loop-after.invariant.inside h))
 
 pub array-returns-then-bytes-first-eq93-clause-inside : goal.array-returns-then-bytes-first-eq93-clause-inside
 array-returns-then-bytes-first-eq93-clause-inside t c = λ h. subst (λ ps. InOrder c.args.bytes.now 0 ps (c.skip-first.result + 1)) (sym c.in_ok-push.ensures.items)
