@@ -1,12 +1,20 @@
 //! Whitespace, many bytes at a step.
 
-ghost use Rattle.std.specs.Prelude.{◌≡◌, ◌+◌, ◌≤◌, length, drop, map};
+ghost use Rattle.std.specs.Prelude.{◌≡◌, get_or, ◌+◌, ◌≤◌, length, drop, map};
 ghost use Rattle.std.specs.List.{prefix_len};
 ghost use Rattle.std.specs.Simd.Lanes.{mask_l};
 ghost use Rattle.sj_tape.specs.Parse as parse;
 ghost use Rattle.sj_tape.specs.Run.{is_solid};
 
 use std::simd::prelude::*;
+
+/// The byte at `at`; behind the end 0, which stands in no text.
+#[inline(always)]
+pub(crate) fn byte_at(bytes: &[u8], at: usize) -> u8
+    ensures { result ≡ get_or bytes.now at 0 }
+{
+    if at < bytes.len() { bytes[at] } else { 0 }
+}
 
 fn is_space(byte: u8) -> bool
     ensures { result ≡ parse.is_space byte }

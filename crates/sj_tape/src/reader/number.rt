@@ -7,6 +7,7 @@ ghost use Rattle.sj_tape.specs.Parse as parse;
 ghost use Rattle.sj_text_core.specs.Grammar.{value_of, number_of};
 ghost use Rattle.sj_text_core.specs.Scalars.{static_tree};
 
+use crate::reader::blank::byte_at;
 use crate::reader::piece::{Piece, push};
 use core::dec2flt::read_digits;
 use sj_text_core::{ErrorKind, StaticNode};
@@ -90,10 +91,7 @@ fn goes_on(bytes: &[u8], at: usize) -> bool
     requires { at ≤ length bytes.now }
     ensures { result ≡ parse.goes_on (drop at bytes.now) }
 {
-    if at >= bytes.len() {
-        return false;
-    }
-    let byte = bytes[at];
+    let byte = byte_at(bytes, at);
     byte == b'.' || byte == b'e' || byte == b'E'
 }
 

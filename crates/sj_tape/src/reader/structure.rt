@@ -4,7 +4,7 @@ ghost use Rattle.std.specs.Prelude.{◌≡◌, ◌+◌, ◌-◌, ◌<◌, ◌≤
 ghost use Rattle.sj_text_core.specs.Tree.{Tree};
 ghost use Rattle.sj_tape.specs.Parse as parse;
 
-use crate::reader::blank::skip;
+use crate::reader::blank::{byte_at, skip};
 use sj_text_core::ErrorKind;
 
 /// The place behind the word, where it stands at `at`.
@@ -41,20 +41,19 @@ pub(crate) struct Stop {
 /// The separator behind a part that ends at `at`.
 #[inline(always)]
 pub(crate) fn separator(bytes: &[u8], at: usize, close: u8) -> Stop
-    requires { at ≤ length bytes.now }
+    requires at { at ≤ length bytes.now }
+    requires close { 44 < close }
     ensures comma { result.behind ≡ Behind.Comma → (at < result.next) × (result.next ≤ length bytes.now) × (parse.separator_at close (drop at bytes.now) ≡ Some (true, drop result.next bytes.now)) }
     ensures close { result.behind ≡ Behind.Close → (at < result.next) × (result.next ≤ length bytes.now) × (parse.separator_at close (drop at bytes.now) ≡ Some (false, drop result.next bytes.now)) }
     ensures other { result.behind ≡ Behind.Other → parse.separator_at close (drop at bytes.now) ≡ None }
 {
     let place = skip(bytes, at);
-    if place >= bytes.len() {
-        return Stop { behind: Behind::Other, next: 0 };
+    let byte = byte_at(bytes, place);
+    if byte == b',' {
+        return Stop { behind: Behind::Comma, next: skip(bytes, place + 1) };
     }
-    if bytes[place] == close {
+    if byte == close {
         return Stop { behind: Behind::Close, next: place + 1 };
     }
-    if bytes[place] != b',' {
-        return Stop { behind: Behind::Other, next: 0 };
-    }
-    Stop { behind: Behind::Comma, next: skip(bytes, place + 1) }
+    Stop { behind: Behind::Other, next: 0 }
 }
