@@ -52,9 +52,9 @@ fn of_four(
 {
     if is_word(name, "insert") && is_root(path) {
         if let Some(text) = key.into_string() {
-            let name = String::from_str(alloc, text)?;
+            let key = String::from_str(alloc, text)?;
             let value = build(alloc, value)?;
-            return Ok(Command::Insert(Vec::new(alloc), name, value));
+            return Ok(Command::Insert(Vec::new(alloc), key, value));
         }
     }
     Ok(Command::Bad)
