@@ -3,6 +3,7 @@ mod FirstPathLemmas
 mod Runs
 mod rows
 mod SessionLemmas
+mod CommandLemmas
 pub mod Documents
 pub mod Builds
 pub mod Puts

@@ -1,5 +1,5 @@
 -- Steps of a session.
-use Rattle.std.proofs.Common.{◌≡◌, ℕ, ◌+◌, ◌-◌, ◌<◌, ◌≤◌, Bool, true, false, not, List, [], ◌∷◌, ◌++◌, length, take, drop, map, refl, sym, ap, ◌∙◌, subst, append_assoc, append-nil, length-append, arith, inl, inr, if◌then◌else◌, codes, bytes_eq, Result, Ok, Err, true≢false}
+use Rattle.std.proofs.Common.{◌≡◌, ℕ, ◌+◌, ◌-◌, ◌<◌, ◌≤◌, Bool, true, false, not, List, [], ◌∷◌, ◌++◌, length, take, drop, map, refl, sym, ap, ◌∙◌, subst, append_assoc, append-nil, length-append, arith, if◌then◌else◌, codes, bytes_eq, Result, Ok, Err, true≢false}
 use Rattle.std.specs.Prelude.{OnOk, OnErr, ◌≢◌}
 use Rattle.std.specs.Result.{is_err}
 use Rattle.std.specs.List.{slice_range}
@@ -8,13 +8,12 @@ use Rattle.std.proofs.lemmas.Slice.{drop-put_mid}
 use borrow.Rule.Slice.PartMut.{put_mid}
 use Rattle.std.proofs.lemmas.List.{take_all, take-take, length-drop, length-take-le, drop-drop}
 use Rattle.sj_text_core.specs.Tree.{Tree, null, boolean, int, text, list, obj, Items, no_items, item, IsWithin}
-use Rattle.sj_text_core.specs.Grammar.{Spells, IsReadable}
-use Rattle.sj_text_core.specs.Keep.{keep, keep_items, IsKept}
+use Rattle.sj_text_core.specs.Grammar.{Spells}
+use Rattle.sj_text_core.specs.Keep.{keep, keep_items}
 use Rattle.sj_run.specs.Commands.{PlainCommand, read, write, bad, encode, insert}
-use Rattle.sj_run.specs.CommandLines.{AreCommandsOf, served_first, command_in}
-use Rattle.sj_run.specs.Answers.{start, answer, changed, replies_of, tree_after}
-use Rattle.sj_run.specs.Answered.{Answers, AnswersLine, AnswersLines}
-use Rattle.sj_run.specs.Replies.{PlainReply}
+use Rattle.sj_run.specs.CommandLines.{AreCommandsOf, served_first}
+use Rattle.sj_run.specs.Answers.{start, answer, replies_of, tree_after}
+use Rattle.sj_run.specs.Answered.{AnswersLine, AnswersLines}
 use Rattle.sj_run.specs.Shown.{shown, shown_all}
 use Rattle.sj_run.specs.Session.{IsServed, IsAnswered}
 use Rattle.sj_run.specs.declared.sessions.Form.{Form}
@@ -28,14 +27,8 @@ use Rattle.sj_text_core.specs.declared.error.ErrorKind.TheVariants.{InvalidUtf8,
 use Rattle.std.proofs.Math.Seq.{take-append_seam}
 use Rattle.sj_run.specs.Lines.{document, lines, after_mark, full_lines, line_text, line_texts, is_empty}
 use Rattle.sj_run.specs.Document.{IsBegunBy}
-use Rattle.sj_run.specs.FirstPath.{first_two, first_four, first_of_items, first_in}
-use Rattle.sj_run.proofs.FirstPathLemmas.{served-command_in}
+use Rattle.sj_run.specs.FirstPath.{first_two, first_four, first_of_items, first_in, kept_command}
 use Rattle.sj_run.proofs.LineLemmas.{LineAt}
-
--- a command with the first member of each key of its value
-abbrev pub kept_command : PlainCommand → PlainCommand
-kept_command (write p (insert k v)) = write p (insert k (keep v))
-kept_command c = c
 
 kept_if : (x : Bool) (c : PlainCommand) → kept_command c ≡ c → (if x then c else bad) ≡ kept_command (if x then c else bad)
 kept_if true c h = sym h
@@ -95,21 +88,6 @@ first_in-keep (text s) = refl
 first_in-keep (list is) = items-keep is
 first_in-keep (obj ms) = refl
 
--- the answer to a line that spells a tree
-pub readable_line : (t u v : Tree) (line old new : List ℕ) → Spells line u → IsWithin u → Answers t (first_in (keep u)) v old new → AnswersLine t line v old new
-readable_line t u v line old new s w a =
-    record { command = command_in (keep u); is = inl (u, s, w, refl); answers = subst (λ (c : PlainCommand). Answers t c v old new) (sym (served-command_in (keep u))) a }
-
--- the answer to any other line
-pub unreadable_line : (t : Tree) (line old new : List ℕ) → (IsReadable line → ⊥) → new ≡ old ++ codes "bad command\n" → AnswersLine t line t old new
-unreadable_line t line old new h e = record { command = bad; is = inr (h, refl); answers = record { after = refl; shows = e } }
-
--- an insert at the empty path of a tree in which no object has a key twice
-pub inserts : (t v u : Tree) (k : List ℕ) (r : PlainReply) (old new : List ℕ) → IsKept t → r ≡ (changed (insert k v) t).1 → u ≡ (changed (insert k v) t).0
-    → new ≡ old ++ shown r → Answers t (write [] (insert k v)) u old new
-inserts t v u k r old new kept e f g =
-    record { after = f ∙ ap (λ x. (changed (insert k v) x).0) (sym kept); shows = g ∙ ap (λ x. old ++ shown x) (e ∙ ap (λ x. (changed (insert k v) x).1) (sym kept)) }
-
 -- lines answered in turn
 pub answers-none : (t : Tree) (old : List ℕ) → AnswersLines t [] t old old
 answers-none t old = record { commands = []; are = tt; after = refl; shows = sym (append-nil old) }
@@ -165,19 +143,6 @@ begun_more old mid new a b = record { rest = a.rest ++ b.rest; goes_on = b.goes_
 
 pub grown : (old more new : List ℕ) → new ≡ old ++ more → IsBegunBy old new
 grown old more new e = record { rest = more; goes_on = e }
-
--- what a line's value is, with the first member of each key
-pub meant_kept : (t : Tree) (c : PlainCommand) → c ≡ first_in t → first_in (keep t) ≡ kept_command c
-meant_kept t c e = first_in-keep t ∙ ap kept_command (sym e)
-
-pub bad_kept : (t v : Tree) (old new : List ℕ) → bad ≡ first_in v → new ≡ old ++ codes "bad command\n" → Answers t (first_in (keep v)) t old new
-bad_kept t v old new e f = subst (λ (c : PlainCommand). Answers t c t old new) (sym (meant_kept v bad e)) (record { after = refl; shows = f })
-
-pub encode_kept : (t v : Tree) (old new : List ℕ) → read [] encode ≡ first_in v → Answers t (read [] encode) t old new → Answers t (first_in (keep v)) t old new
-encode_kept t v old new e a = subst (λ (c : PlainCommand). Answers t c t old new) (sym (meant_kept v (read [] encode) e)) a
-
-pub insert_kept_value : (t u v w : Tree) (k old new : List ℕ) → write [] (insert k w) ≡ first_in v → Answers t (write [] (insert k (keep w))) u old new → Answers t (first_in (keep v)) u old new
-insert_kept_value t u v w k old new e a = subst (λ (c : PlainCommand). Answers t c u old new) (sym (meant_kept v (write [] (insert k w)) e)) a
 
 -- as the code finds a line's text
 pub text_at : (b : List ℕ) (at len n : ℕ) → LineAt b at len → n ≤ length (slice_range b at (at + len)) → take n (slice_range b at (at + len)) ≡ line_text (slice_range b at (at + len)) → TextAt b at len n

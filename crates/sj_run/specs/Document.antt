@@ -3,12 +3,8 @@ use Rattle.std.specs.Prelude.{◌≡◌, ℕ, List, ◌++◌, map, String, strin
 use Rattle.std.specs.Global.{Global}
 use Rattle.sj_text_core.specs.Tree.{Tree, text, list, obj, Items, Members, items_from, members_from}
 use Rattle.sj_text_core.specs.Scalars.{static_tree}
-use Rattle.sj_run.specs.Replies.{PlainReply}
-use Rattle.sj_run.specs.Replies as reply
 use Rattle.sj_run.specs.declared.document.Document.{Document, fold-Document}
 use Rattle.sj_run.specs.declared.document.Document.TheOpen.{Document-F}
-use Rattle.sj_run.specs.declared.document.Inserted.{Inserted}
-use Rattle.sj_run.specs.declared.document.Inserted.TheVariants.{Old, Nothing, NotAnObject}
 
 -- the tree of a value whose parts are already seen as their trees
 abbrev pub document_step : Document-F Tree → Tree
@@ -26,12 +22,6 @@ items_tree ds = items_from (map document_tree ds)
 
 abbrev pub members_tree : List (String Global × Document) → Members
 members_tree ps = members_from (map (λ (p : String Global × Document). (string_bytes p.0, document_tree p.1)) ps)
-
--- the reply that an insert means
-abbrev pub inserted_reply : Inserted → PlainReply
-inserted_reply (Old d) = reply.old (document_tree d)
-inserted_reply Nothing = reply.nothing
-inserted_reply NotAnObject = reply.not_an_object
 
 -- bytes that begin with those, and go on in some way
 pub record IsBegunBy (old new : List ℕ) : Type 0 where

@@ -1,9 +1,8 @@
 -- The two commands that are served at first, as the code tells them apart. Only private clauses cite it.
 use Rattle.std.specs.Prelude.{ℕ, Bool, true, false, List, [], if◌then◌else◌, codes, bytes_eq}
 use Rattle.sj_text_core.specs.Tree.{Tree, null, boolean, int, text, list, obj, Items, no_items, item}
-use Rattle.sj_tape.specs.Value.{tree as value_tree}
+use Rattle.sj_text_core.specs.Keep.{keep}
 use Rattle.sj_run.specs.Commands.{PlainCommand, read, write, bad, encode, insert}
-use Rattle.sj_run.specs.declared.command.First.{First}
 
 -- `encode` and an empty path
 abbrev pub first_two : Tree → Tree → PlainCommand
@@ -47,8 +46,7 @@ is_root (list no_items) = true
 is_root (list (item t is)) = false
 is_root (obj ms) = false
 
--- what the code says of a line's value
-abbrev pub meant : First → PlainCommand
-meant First.Encode = read [] encode
-meant (First.Insert k v) = write [] (insert k.now (value_tree v))
-meant First.Bad = bad
+-- a command with the first member of each key of its value
+abbrev pub kept_command : PlainCommand → PlainCommand
+kept_command (write p (insert k v)) = write p (insert k (keep v))
+kept_command c = c

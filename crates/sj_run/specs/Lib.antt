@@ -8,4 +8,5 @@ pub mod Session
 pub mod Answered
 pub mod FirstPath
 pub mod Document
+pub mod Meant
 pub mod Laws

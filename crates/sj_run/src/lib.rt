@@ -6,6 +6,7 @@ mod command;
 mod document;
 pub mod laws;
 mod lines;
+mod reply;
 mod sessions;
 #[cfg(test)]
 mod tests;

@@ -2,13 +2,13 @@
 
 use crate::{Form, SessionFault, Way, session};
 use sj_text_core::ErrorKind;
-use std::alloc::{AllocError, Global};
+use std::alloc::Global;
 use std::process::Abort;
 use std::test::Fail;
 
-/// What a session appends to `out`, which held `> ` before.
-fn replies(alloc: Global, input: &str) -> Result<Result<String, SessionFault>, AllocError> {
-    let mut bytes = input.as_bytes().to_vec(alloc)?;
+/// What a session over owned documents answers, and what `out` has then, which held `> ` before.
+fn answered(alloc: Global, input: &[u8]) -> Result<(Result<(), SessionFault>, String), Fail> {
+    let mut bytes = input.to_vec(alloc)?;
     let mut out = b"> ".to_vec(alloc)?;
     let answer = session(
         alloc,
@@ -17,22 +17,33 @@ fn replies(alloc: Global, input: &str) -> Result<Result<String, SessionFault>, A
         bytes.as_mut_slice(),
         &mut out,
     );
-    let text = match String::from_utf8(out) {
-        Ok(text) => text,
-        Err(_) => return Err(AllocError),
-    };
-    Ok(match answer {
-        Ok(()) => Ok(text),
-        Err(fault) => Err(fault),
-    })
+    Ok((answer, String::from_utf8(out)?))
 }
 
-fn check(rt: &impl Abort, alloc: Global, input: &str, want: &str) -> Result<(), AllocError> {
-    match replies(alloc, input)? {
-        Ok(out) => assert_eq!(rt; out.as_str(), want, "on {input:?}"),
-        Err(fault) => panic!(rt; "{fault} on {input:?}"),
+fn check(rt: &impl Abort, alloc: Global, input: &str, want: &str) -> Result<(), Fail> {
+    let (answer, out) = answered(alloc, input.as_bytes())?;
+    assert_eq!(rt; answer, Ok(()), "on {input:?}");
+    assert_eq!(rt; out.as_str(), want, "on {input:?}");
+    Ok(())
+}
+
+/// The text is refused, alone and with a command behind it, and `out` stays.
+fn refuse(rt: &impl Abort, alloc: Global, text: &[u8], kind: ErrorKind) -> Result<(), Fail> {
+    for lines in ["", "\n---\n[\"encode\",[]]\n"] {
+        let mut input = text.to_vec(alloc)?;
+        input.extend_from_slice(lines.as_bytes())?;
+        let (answer, out) = answered(alloc, input.as_slice())?;
+        assert_eq!(rt; answer, Err(SessionFault::Refused(kind)), "on {text:?}");
+        assert_eq!(rt; out.as_str(), "> ", "on {text:?}");
     }
     Ok(())
+}
+
+/// Arrays, each the one item of the one around it.
+fn nested(alloc: Global, count: usize) -> Result<String, Fail> {
+    let mut text = "[".repeat(alloc, count)?;
+    text.push_str("]".repeat(alloc, count)?.as_str())?;
+    Ok(text)
 }
 
 #[test]
@@ -52,6 +63,10 @@ fn answers(rt: HostRuntime) -> Result<(), Fail> {
             "> \"\u{1f600}\"\n",
         ),
         // carriers at their limits print as they were read
+        (
+            "[340282366920938463463374607431768211455,-170141183460469231731687303715884105728]\n---\n[\"encode\",[]]\n",
+            "> [340282366920938463463374607431768211455,-170141183460469231731687303715884105728]\n",
+        ),
         (
             "[18446744073709551615,18446744073709551616,-9223372036854775808,-9223372036854775809,-0]\n---\n[\"encode\",[]]",
             "> [18446744073709551615,18446744073709551616,-9223372036854775808,-9223372036854775809,0]\n",
@@ -128,22 +143,25 @@ fn refuses(rt: HostRuntime) -> Result<(), Fail> {
         ("\"\\ude00\"", ErrorKind::LoneSurrogate),
     ];
     for (text, kind) in table {
-        let input = format!(in rt.alloc(); "{text}\n---\n[\"encode\",[]]\n")?;
-        match replies(rt.alloc(), input.as_str())? {
-            Ok(_) => panic!(rt; "{text:?} was read"),
-            Err(fault) => assert_eq!(rt; fault, SessionFault::Refused(kind), "on {text:?}"),
-        }
+        refuse(&rt, rt.alloc(), text.as_bytes(), kind)?;
     }
-    Ok(())
+    refuse(&rt, rt.alloc(), &[0x22, 0xff, 0x22], ErrorKind::InvalidUtf8)
+}
+
+/// 1024 levels are read, 1025 are too many.
+#[test]
+fn counts_levels(rt: HostRuntime) -> Result<(), Fail> {
+    let deepest = nested(rt.alloc(), 1024)?;
+    let input = format!(in rt.alloc(); "{deepest}\n---\n[\"encode\",[]]\n")?;
+    let want = format!(in rt.alloc(); "> {deepest}\n")?;
+    check(&rt, rt.alloc(), input.as_str(), want.as_str())?;
+    let deeper = nested(rt.alloc(), 1025)?;
+    refuse(&rt, rt.alloc(), deeper.as_bytes(), ErrorKind::TooDeep)
 }
 
 #[test]
-fn leaves_the_output(rt: HostRuntime) -> Result<(), Fail> {
+fn serves_owned_by_text(rt: HostRuntime) -> Result<(), Fail> {
     let mut out = b"> ".to_vec(rt.alloc())?;
-    let mut bytes = [0x22, 0xff, 0x22];
-    let answer = session(rt.alloc(), Form::Owned, Way::ByText, &mut bytes, &mut out);
-    assert_eq!(rt; answer, Err(SessionFault::Refused(ErrorKind::InvalidUtf8)));
-    assert_eq!(rt; out.as_slice(), b"> ".as_slice());
     for (form, way) in [
         (Form::Owned, Way::ByKnownKey),
         (Form::Borrowed, Way::ByText),

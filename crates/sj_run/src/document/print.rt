@@ -1,13 +1,13 @@
 //! Compact prints of documents.
 
-ghost use Rattle.std.specs.Prelude.{◌≡◌, [], ◌∷◌, ◌++◌, OnOk, OnErr};
+ghost use Rattle.std.specs.Prelude.{◌≡◌, [], ◌∷◌, ◌++◌, IfOk, OnOk, OnErr, string_bytes};
 ghost use Rattle.sj_text_core.specs.Print.{quoted, compact};
 ghost use Rattle.sj_text_core.specs.Tree.{list, obj};
 ghost use Rattle.sj_run.specs.Document.{document_tree, items_tree, members_tree, IsBegunBy};
 
 use super::Document;
-use sj_text_core::{BaseGenerator, WriterGenerator};
-use std::alloc::AllocError;
+use sj_text_core::{BaseGenerator, DumpGenerator, WriterGenerator};
+use std::alloc::{AllocError, Global};
 
 #[cycle(print)]
 fn print<G: BaseGenerator>(document: &Document, generator: &mut G) -> Result<(), AllocError>
@@ -84,4 +84,13 @@ pub(crate) fn write(document: &Document, out: &mut Vec<u8>) -> Result<(), AllocE
         out.truncate(start);
     }
     done
+}
+
+/// The compact print.
+pub(crate) fn printed(alloc: Global, document: &Document) -> Result<String, AllocError>
+    ensures { IfOk result (λ text. string_bytes text ≡ compact (document_tree document.now)) }
+{
+    let mut generator = DumpGenerator::new(alloc);
+    print(document, &mut generator)?;
+    Ok(generator.consume())
 }
