@@ -33,10 +33,10 @@ told() {
 count() {
   if [ "$1" = yes ]; then
     passed=$((passed + 1))
-    printf '%s: %s requests\n' "$2" "$requests"
+    printf '%s: requests %s\n' "$2" "$requests"
   else
     failed=$((failed + 1))
-    printf 'failed: %s (status %s, %s requests)\n' "$2" "$status" "$requests"
+    printf 'failed: %s (status %s, requests %s)\n' "$2" "$status" "$requests"
     head -c 600 out
     head -c 300 err
   fi
@@ -64,8 +64,8 @@ each() {
 
 # reads CALL TEXT SEEN: a reading, of which the run tells what it has seen
 reads() {
-  each "read $1 $2" $'call: OutOfMemory\nagain call: read, '"$3"$'\n' \
-    "call: read, $3"$'\nagain call: read, '"$3"$'\n'
+  each "read $1 $2" $'call: OutOfMemory\nagain read, '"$3"$'\n' \
+    "call: read, $3"$'\nagain read, '"$3"$'\n'
 }
 
 outline_of_repeat='{'
@@ -86,7 +86,7 @@ for call in owned owned_with_buffers borrowed borrowed_with_buffers; do
   [ $call = borrowed ] && borrowed=$requests
   reads $call escapes '{q"ka/bA,'
 done
-each buffers $'call: AllocError\ncall: made\n' $'call: made\ncall: made\n'
+each buffers $'call: AllocError\nagain made\n' $'call: made\nagain made\n'
 
 for members in 0 32; do
   after="$((members + 1)) members"$'\n'
@@ -94,7 +94,7 @@ for members in 0 32; do
     "call: AllocError, key and value as before, map as before, then inserted, $after" \
     "call: inserted, $after"
 done
-each capacity $'call: AllocError\ncall: made\n' $'call: made\ncall: made\n'
+each capacity $'call: AllocError\nagain made\n' $'call: made\nagain made\n'
 free 'insert present' $'call: replaced, value as before, 32 members\n'
 free room $'call: filled, 40 members\n'
 free 'map reads' $'call: found, 32 members\n'
@@ -129,11 +129,11 @@ none
 each session "call: OutOfMemory, out as before, then answered"$'\n'"$replies" \
   $'call: answered\n'"$replies"
 
-# The keys of a borrowed document lie in the text.
-requests="$borrowed of borrowed, $owned of owned"
+# The keys and texts of a borrowed document lie in the input.
+requests="$borrowed, $owned"
 good=no
 [ "$borrowed" -lt "$owned" ] && good=yes
-count $good 'fewer for a borrowed document than for an owned one'
+count $good 'fewer where a document borrows its keys'
 
 echo "$passed passed, $failed failed"
 [ "$failed" = 0 ]

@@ -1,7 +1,7 @@
 //! Calls on maps, whose members are `k00` with 0, `k01` with 1 and so on.
 
 use crate::fault::Fault;
-use crate::say::{say, say_call, say_kept};
+use crate::say::{say, say_call, say_kept, say_made};
 use sj_object::{HashMap, ObjectHasher};
 use std::alloc::{AllocError, Global};
 
@@ -108,25 +108,22 @@ fn tell_map(rt: &(impl Print + AllocGlobal), map: &Numbers, keys: &[String]) -> 
     say(rt, format!(in rt.alloc(); "{len} members\n")?.as_str())
 }
 
-/// Makes a map with room for 40 members.
+fn with_room(alloc: Global) -> Result<Numbers, AllocError> {
+    HashMap::with_capacity_and_hasher(alloc, 40, ObjectHasher::default())
+}
+
+/// Makes a map with room for 40 members, twice.
 pub fn with_capacity(rt: &(impl Print + AllocGlobal)) -> Result<(), Fault> {
-    let alloc = rt.alloc();
-    for words in ["made\n", "made\n"] {
-        say_call(rt)?;
-        let made: Result<Numbers, AllocError> = HashMap::with_capacity_and_hasher(
-            alloc,
-            40,
-            ObjectHasher::default(),
-        );
-        say(rt, if made.is_ok() { words } else { "AllocError\n" })?;
-    }
-    Ok(())
+    say_call(rt)?;
+    say_made(rt, with_room(rt.alloc()).is_ok())?;
+    say(rt, "again ")?;
+    say_made(rt, with_room(rt.alloc()).is_ok())
 }
 
 /// Fills a map that was made with room for 40 members, and reads it.
 pub fn fill_room(rt: &(impl Print + AllocGlobal)) -> Result<(), Fault> {
     let alloc = rt.alloc();
-    let mut map = HashMap::with_capacity_and_hasher(alloc, 40, ObjectHasher::default())?;
+    let mut map = with_room(alloc)?;
     let keys = keys_of(alloc, 40)?;
     let mut given = keys_of(alloc, 40)?.into_iter();
     let mut is_filled = true;

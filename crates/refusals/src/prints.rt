@@ -1,4 +1,4 @@
-//! Calls on generators, behind `[` at the level 1.
+//! Calls on generators, behind `[`; in pretty prints at level 1.
 
 use crate::fault::Fault;
 use crate::say::{say, say_bytes, say_call};
@@ -11,14 +11,37 @@ use std::alloc::AllocError;
 /// How many spaces a level has in pretty prints.
 const SPACES: u16 = 20;
 
-/// Makes the call on that generator.
+/// What is called on a generator.
+#[derive(Clone, Copy, Debug)]
+enum Call {
+    Write,
+    WriteString,
+    WriteStatic,
+    WriteMin,
+    NewLine,
+}
+
+impl Call {
+    fn of(word: &str) -> Result<Call, Fault> {
+        match word {
+            "write" => Ok(Call::Write),
+            "write_string" => Ok(Call::WriteString),
+            "write_static" => Ok(Call::WriteStatic),
+            "write_min" => Ok(Call::WriteMin),
+            "new_line" => Ok(Call::NewLine),
+            _ => Err(Fault::Usage),
+        }
+    }
+}
+
+/// Makes the call on that generator, and tells what was written.
 pub fn write(rt: &(impl Print + AllocGlobal), call: &str, generator: &str) -> Result<(), Fault> {
     let alloc = rt.alloc();
+    let call = Call::of(call)?;
     let mut out = Vec::new(alloc);
     match generator {
         "dump" => {
             let mut dump = DumpGenerator::new(alloc);
-            dump.indent();
             call_on(rt, call, &mut dump)?;
             out.extend_from_slice(dump.consume().as_bytes())?;
         }
@@ -28,11 +51,7 @@ pub fn write(rt: &(impl Print + AllocGlobal), call: &str, generator: &str) -> Re
             call_on(rt, call, &mut pretty)?;
             out.extend_from_slice(pretty.consume().as_bytes())?;
         }
-        "writer" => {
-            let mut writer = WriterGenerator::new(&mut out);
-            writer.indent();
-            call_on(rt, call, &mut writer)?;
-        }
+        "writer" => call_on(rt, call, &mut WriterGenerator::new(&mut out))?,
         "pretty_writer" => {
             let mut writer = PrettyWriterGenerator::new(&mut out, SPACES);
             writer.indent();
@@ -47,26 +66,25 @@ pub fn write(rt: &(impl Print + AllocGlobal), call: &str, generator: &str) -> Re
 /// Makes the call between the first two writes, and again where it was refused.
 fn call_on<G: BaseGenerator>(
     rt: &(impl Print + AllocGlobal),
-    call: &str,
+    call: Call,
     out: &mut G,
 ) -> Result<(), Fault> {
     out.write("[")?;
     say_call(rt)?;
-    if append(call, out)?.is_ok() {
+    if append(call, out).is_ok() {
         return say(rt, "done: ");
     }
     say(rt, "AllocError, ")?;
-    append(call, out)??;
+    append(call, out)?;
     say(rt, "then done: ")
 }
 
-fn append<G: BaseGenerator>(call: &str, out: &mut G) -> Result<Result<(), AllocError>, Fault> {
+fn append<G: BaseGenerator>(call: Call, out: &mut G) -> Result<(), AllocError> {
     match call {
-        "write" => Ok(out.write("a text of more than eight bytes")),
-        "write_string" => Ok(out.write_string("a \"text\" with a line feed\n")),
-        "write_static" => Ok(out.write_static(StaticNode::U128(u128::MAX))),
-        "write_min" => Ok(out.write_min("the longer one of the two", "the shorter one")),
-        "new_line" => Ok(out.new_line()),
-        _ => Err(Fault::Usage),
+        Call::Write => out.write("a text of more than eight bytes"),
+        Call::WriteString => out.write_string("a \"text\" with a line feed\n"),
+        Call::WriteStatic => out.write_static(StaticNode::U128(u128::MAX)),
+        Call::WriteMin => out.write_min("the longer one of the two", "the shorter one"),
+        Call::NewLine => out.new_line(),
     }
 }

@@ -1,7 +1,7 @@
 //! Readings of texts, to tapes and to documents.
 
 use crate::fault::Fault;
-use crate::say::{say, say_bytes, say_call};
+use crate::say::{say, say_bytes, say_call, say_made};
 use crate::texts::text_of;
 use sj_object::{KeyText, deserialize, deserialize_with_buffers};
 use sj_object_uses::{BorrowedValue, Document, OwnedValue, outline};
@@ -9,12 +9,39 @@ use sj_tape::{Buffers, Tape, to_tape, to_tape_with_buffers};
 use sj_text_core::{ErrorKind, StaticNode};
 use std::borrow::CowStr;
 
+/// What a text is read by.
+#[derive(Clone, Copy, Debug)]
+enum Call {
+    ToTape,
+    ToTapeWithBuffers,
+    Owned,
+    OwnedWithBuffers,
+    Borrowed,
+    BorrowedWithBuffers,
+}
+
+impl Call {
+    fn of(word: &str) -> Result<Call, Fault> {
+        match word {
+            "to_tape" => Ok(Call::ToTape),
+            "to_tape_with_buffers" => Ok(Call::ToTapeWithBuffers),
+            "owned" => Ok(Call::Owned),
+            "owned_with_buffers" => Ok(Call::OwnedWithBuffers),
+            "borrowed" => Ok(Call::Borrowed),
+            "borrowed_with_buffers" => Ok(Call::BorrowedWithBuffers),
+            _ => Err(Fault::Usage),
+        }
+    }
+}
+
 /// Reads the text of that name twice, each time from a fresh copy: between the first two writes,
 /// and once more.
 pub fn read(rt: &(impl Print + AllocGlobal), call: &str, text: &str) -> Result<(), Fault> {
+    let call = Call::of(call)?;
     let mut bytes = text_of(rt.alloc(), text)?;
     let mut copy = text_of(rt.alloc(), text)?;
     let mut buffers = Buffers::new(rt.alloc(), 0)?;
+    say_call(rt)?;
     read_once(rt, call, bytes.as_mut_slice(), &mut buffers)?;
     say(rt, "again ")?;
     read_once(rt, call, copy.as_mut_slice(), &mut buffers)
@@ -22,33 +49,31 @@ pub fn read(rt: &(impl Print + AllocGlobal), call: &str, text: &str) -> Result<(
 
 fn read_once(
     rt: &(impl Print + AllocGlobal),
-    call: &str,
+    call: Call,
     bytes: &mut [u8],
     buffers: &mut Buffers,
 ) -> Result<(), Fault> {
     let alloc = rt.alloc();
-    say_call(rt)?;
     match call {
-        "to_tape" => tell_tape(rt, to_tape(alloc, bytes)),
-        "to_tape_with_buffers" => tell_tape(rt, to_tape_with_buffers(alloc, bytes, buffers)),
-        "owned" => tell_document(rt, deserialize::<OwnedValue, String>(alloc, bytes)),
-        "owned_with_buffers" => tell_document(
+        Call::ToTape => tell_tape(rt, to_tape(alloc, bytes)),
+        Call::ToTapeWithBuffers => tell_tape(rt, to_tape_with_buffers(alloc, bytes, buffers)),
+        Call::Owned => tell_document(rt, deserialize::<OwnedValue, String>(alloc, bytes)),
+        Call::OwnedWithBuffers => tell_document(
             rt,
             deserialize_with_buffers::<OwnedValue, String>(alloc, bytes, buffers),
         ),
-        "borrowed" => tell_document(
+        Call::Borrowed => tell_document(
             rt,
             deserialize::<BorrowedValue<'_>, CowStr<'_>>(alloc, bytes),
         ),
-        "borrowed_with_buffers" => tell_document(
+        Call::BorrowedWithBuffers => tell_document(
             rt,
             deserialize_with_buffers::<BorrowedValue<'_>, CowStr<'_>>(alloc, bytes, buffers),
         ),
-        _ => Err(Fault::Usage),
     }
 }
 
-/// Tells how many nodes the tape has, and the value of `k00`.
+/// Tells how many nodes the tape has.
 fn tell_tape(
     rt: &(impl Print + AllocGlobal),
     read: Result<Tape<'_>, ErrorKind>,
@@ -63,7 +88,7 @@ fn tell_tape(
     }
 }
 
-/// Tells the outline of the document, and the value of `k00`.
+/// Tells the outline of the document, and the value of `k00` where it is there.
 fn tell_document<T: KeyText + Drop>(
     rt: &(impl Print + AllocGlobal),
     read: Result<Document<T>, ErrorKind>,
@@ -95,13 +120,10 @@ fn tell_kind(rt: &(impl Print + AllocGlobal), kind: ErrorKind) -> Result<(), Fau
     )
 }
 
-/// Makes buffers for a text of 1000 bytes.
+/// Makes buffers for a text of 1000 bytes, twice.
 pub fn buffers(rt: &(impl Print + AllocGlobal)) -> Result<(), Fault> {
-    let alloc = rt.alloc();
-    for words in ["made\n", "made\n"] {
-        say_call(rt)?;
-        let made = Buffers::new(alloc, 1000);
-        say(rt, if made.is_ok() { words } else { "AllocError\n" })?;
-    }
-    Ok(())
+    say_call(rt)?;
+    say_made(rt, Buffers::new(rt.alloc(), 1000).is_ok())?;
+    say(rt, "again ")?;
+    say_made(rt, Buffers::new(rt.alloc(), 1000).is_ok())
 }

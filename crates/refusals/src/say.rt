@@ -31,3 +31,8 @@ pub fn say_kept(rt: &impl Print, what: &str, is_kept: bool) -> Result<(), Fault>
         },
     )
 }
+
+/// Tells whether something was made.
+pub fn say_made(rt: &impl Print, is_made: bool) -> Result<(), Fault> {
+    say(rt, if is_made { "made\n" } else { "AllocError\n" })
+}
