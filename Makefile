@@ -1,4 +1,4 @@
-.PHONY: demo test check-program
+.PHONY: demo test check-program check-refusals
 
 # Builds the program and runs it on the first example.
 demo:
@@ -12,3 +12,8 @@ test:
 check-program:
 	cd crates/sjval && rt run -- owned < stdin > /dev/null
 	tools/program.sh crates/sjval/out/sjval
+
+# Refuses each request for memory of each call in turn. Needs gcc.
+check-refusals:
+	cd crates/refusals && rt run -- insert new 32 > /dev/null
+	tools/refusals.sh crates/refusals/out/refusals

@@ -106,15 +106,25 @@ fn keeps_the_stored_key(rt: HostRuntime) -> Result<(), Fail> {
     Ok(())
 }
 
+/// A text of one character. The hashes of 40 such texts in turn differ, also modulo 64.
+fn character(alloc: Global, number: u8) -> Result<String, Fail> {
+    let mut text = String::new(alloc);
+    text.push(char::from(b'0'.wrapping_add(number)))?;
+    Ok(text)
+}
+
 #[test]
 fn removes_from_the_middle_of_40(rt: HostRuntime) -> Result<(), Fail> {
     let alloc = rt.alloc();
-    let mut map = numbered(alloc, 40, ObjectHasher::default())?;
-    assert_eq!(rt; map.remove("k20"), Some(20));
+    let mut map = HashMap::with_capacity_and_hasher(alloc, 0, ObjectHasher::default())?;
+    for number in 0..40 {
+        map.insert(character(alloc, number)?, number)?;
+    }
+    assert_eq!(rt; map.remove("D"), Some(20));
     assert_eq!(rt; map.len(), 39);
-    for i in 0..40 {
-        let key = format!(in alloc; "k{i:02}")?;
-        let wanted = if i == 20 { None } else { Some(i) };
+    for number in 0..40 {
+        let key = character(alloc, number)?;
+        let wanted = if number == 20 { None } else { Some(number) };
         assert_eq!(rt; map.get(key.as_str()).copied(), wanted, "{key}");
     }
     Ok(())

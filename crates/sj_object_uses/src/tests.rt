@@ -123,22 +123,36 @@ fn keeps_the_first_of_each_key(rt: HostRuntime) -> Result<(), Fail> {
     Ok(())
 }
 
+/// The text of an object: the keys `k00`, `k01` and so on, each with its number, and then one of
+/// them once more with 99.
+fn text_with_repeat(alloc: Global, len: usize, repeat: usize) -> Result<Vec<u8>, Fail> {
+    let mut text = String::from_str(alloc, "{")?;
+    for i in 0..len {
+        text.push_str(format!(in alloc; "\"k{i:02}\":{i},")?.as_str())?;
+    }
+    text.push_str(format!(in alloc; "\"k{repeat:02}\":99}}")?.as_str())?;
+    Ok(text.into_bytes())
+}
+
 #[test]
 fn reads_a_text_with_a_repeat(rt: HostRuntime) -> Result<(), Fail> {
     let alloc = rt.alloc();
-    let mut text = String::from_str(alloc, "{")?;
-    for i in 0..32 {
-        text.push_str(format!(in alloc; "\"k{i:02}\":{i},")?.as_str())?;
+    for (len, repeat) in [(32, 0), (40, 34)] {
+        let mut bytes = text_with_repeat(alloc, len, repeat)?;
+        let value = deserialize::<OwnedValue, String>(alloc, bytes.as_mut_slice())?;
+        let Document::Object(members) = &value else {
+            return Err("no object".into());
+        };
+        assert_eq!(rt; members.len(), len);
+        assert_eq!(rt; members.buckets(), None);
+        for i in 0..len {
+            let key = format!(in alloc; "k{i:02}")?;
+            let found = members.get(key.as_str());
+            assert!(rt;
+                matches!(found, Some(Document::Static(StaticNode::U64(n))) if *n == i as u64),
+                "{key}"
+            );
+        }
     }
-    text.push_str("\"k00\":99}")?;
-    let mut bytes = text.into_bytes();
-    let value = deserialize::<OwnedValue, String>(alloc, bytes.as_mut_slice())?;
-    let Document::Object(members) = &value else {
-        return Err("no object".into());
-    };
-    assert_eq!(rt; members.len(), 32);
-    assert_eq!(rt; members.buckets(), None);
-    let first = members.get("k00");
-    assert!(rt; matches!(first, Some(Document::Static(StaticNode::U64(0)))));
     Ok(())
 }

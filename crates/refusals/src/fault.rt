@@ -1,0 +1,45 @@
+//! Why nothing, or not all, was told.
+
+use std::alloc::{AllocError, AllocFailed};
+use std::io;
+use thiserror::Error;
+
+/// Why nothing, or not all, was told.
+#[derive(Debug, Drop, Error)]
+pub enum Fault {
+    #[error("no such call")]
+    Usage,
+    #[error("out of memory")]
+    OutOfMemory,
+    #[error("output failed")]
+    Failed,
+}
+
+impl Fault {
+    /// The exit status.
+    pub fn status(&self) -> u8 {
+        match self {
+            Fault::Usage => 2,
+            Fault::OutOfMemory => 4,
+            Fault::Failed => 5,
+        }
+    }
+}
+
+impl From<AllocError> for Fault {
+    fn from(_error: AllocError) -> Fault {
+        Fault::OutOfMemory
+    }
+}
+
+impl<T: Drop> From<AllocFailed<T>> for Fault {
+    fn from(_error: AllocFailed<T>) -> Fault {
+        Fault::OutOfMemory
+    }
+}
+
+impl From<io::Error> for Fault {
+    fn from(_error: io::Error) -> Fault {
+        Fault::Failed
+    }
+}

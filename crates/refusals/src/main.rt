@@ -1,0 +1,59 @@
+//! Makes one call between its first two writes to standard output, tells what it answered and what
+//! stands, and where the call was refused makes it again. It is run with each request for memory of
+//! that call refused in turn, which `tools/refusals.sh` does; its words name the call:
+//!
+//!     refusals read CALL TEXT | buffers | insert new MEMBERS | insert present | capacity | room
+//!     refusals map reads | write CALL GENERATOR | tape new | tape reads | session
+//!
+//! The statuses: 0 told; 2 usage; 4 out of memory where the call was not yet made, or again; 5
+//! output failed.
+#![tactic(auto)]
+
+mod fault;
+mod maps;
+mod prints;
+mod readings;
+mod say;
+mod sessions;
+mod tapes;
+mod texts;
+
+use crate::fault::Fault;
+use std::env;
+use std::process::ExitCode;
+use std::rt::Env;
+
+/// The word at that place; empty where there is none.
+fn word(words: &[String], place: usize) -> &str {
+    match words.get(place) {
+        Some(word) => word.as_str(),
+        None => "",
+    }
+}
+
+fn run(rt: &(impl Env + Print + AllocGlobal)) -> Result<(), Fault> {
+    let words: Vec<String> = env::args(rt)?.skip(1).collect(rt.alloc())?;
+    let (second, third) = (word(&words, 1), word(&words, 2));
+    match word(&words, 0) {
+        "read" => readings::read(rt, second, third),
+        "buffers" => readings::buffers(rt),
+        "insert" => maps::insert(rt, second, third),
+        "capacity" => maps::with_capacity(rt),
+        "room" => maps::fill_room(rt),
+        "map" => maps::reads(rt),
+        "write" => prints::write(rt, second, third),
+        "tape" => tapes::call(rt, second),
+        "session" => sessions::answer(rt),
+        _ => Err(Fault::Usage),
+    }
+}
+
+fn main(rt: HostRuntime) -> ExitCode {
+    match run(&rt) {
+        Ok(()) => ExitCode::SUCCESS,
+        Err(fault) => {
+            let _ = eprintln!(rt; "{fault}");
+            ExitCode::from(fault.status())
+        }
+    }
+}

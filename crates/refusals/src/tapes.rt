@@ -1,0 +1,95 @@
+//! Calls on tapes, none of which asks for memory.
+
+use crate::fault::Fault;
+use crate::say::{say, say_call};
+use crate::texts::text_of;
+use sj_tape::{Node, Tape, Value, to_tape};
+use sj_text_core::{ErrorKind, StaticNode, TypedValue, ValueAsScalar, ValueType};
+
+/// Makes a tape of nodes, or reads one.
+pub fn call(rt: &(impl Print + AllocGlobal), call: &str) -> Result<(), Fault> {
+    match call {
+        "new" => make(rt),
+        "reads" => reads(rt),
+        _ => Err(Fault::Usage),
+    }
+}
+
+/// Makes a tape of the nodes of `[null]`, and none of the same list without its last node.
+fn make(rt: &(impl Print + AllocGlobal)) -> Result<(), Fault> {
+    let array = Node::Array { len: 1, count: 1 };
+    let nodes = vec![in rt.alloc(); array, Node::Static(StaticNode::Null)]?;
+    let short = vec![in rt.alloc(); array]?;
+    say_call(rt)?;
+    let is_made = Tape::new(nodes).is_ok();
+    let is_back = match Tape::new(short) {
+        Ok(_) => false,
+        Err(refused) => refused.value.as_slice() == [array].as_slice(),
+    };
+    say(
+        rt,
+        if is_made && is_back {
+            "made, and refused\n"
+        } else {
+            "NOT MADE\n"
+        },
+    )
+}
+
+/// Reads the tape of the first example in every way.
+fn reads(rt: &(impl Print + AllocGlobal)) -> Result<(), Fault> {
+    let mut bytes = text_of(rt.alloc(), "example")?;
+    let tape = match to_tape(rt.alloc(), bytes.as_mut_slice()) {
+        Ok(tape) => tape,
+        Err(ErrorKind::OutOfMemory) => return Err(Fault::OutOfMemory),
+        Err(_) => return Err(Fault::Usage),
+    };
+    say_call(rt)?;
+    let is_found = is_example(tape.as_value());
+    say(rt, if is_found { "found\n" } else { "NOT FOUND\n" })
+}
+
+/// Whether it is an object whose one member, `some`, has three items, the texts `key` and `value`
+/// and the number 2.
+fn is_example(value: Value<'_, '_>) -> bool {
+    let Some(some) = value.get("some") else {
+        return false;
+    };
+    let Some(array) = some.as_array() else {
+        return false;
+    };
+    let mut items = array.iter();
+    is_text(items.next(), "key")
+        && is_text(items.next(), "value")
+        && is_two(items.next())
+        && items.next().is_none()
+        && is_two(some.get_idx(2))
+        && is_only_member(value)
+}
+
+fn is_text(item: Option<Value<'_, '_>>, text: &str) -> bool {
+    match item {
+        Some(value) => value.as_str() == Some(text) && value.into_string() == Some(text),
+        None => false,
+    }
+}
+
+fn is_two(item: Option<Value<'_, '_>>) -> bool {
+    match item {
+        Some(value) => value.as_u8() == Some(2) && value.value_type() == ValueType::U64,
+        None => false,
+    }
+}
+
+/// Whether the member `some` is the object's only one.
+fn is_only_member(value: Value<'_, '_>) -> bool {
+    let Some(members) = value.as_object() else {
+        return false;
+    };
+    for key in members.keys() {
+        if key != "some" {
+            return false;
+        }
+    }
+    members.len() == 1 && members.get("none").is_none() && !value.contains_key("none")
+}

@@ -1,0 +1,139 @@
+#!/usr/bin/env bash
+# Refuses each request for memory of each call in turn, and looks at what the call answers and at
+# what stands: the Nth request is refused, N counting up until a run meets none.
+# Usage: tools/refusals.sh PROGRAM, which is the program of crates/refusals. Needs gcc. A line for
+# each call has its number of requests; the last line is 'N passed, M failed'.
+set -u
+program=$(realpath "$1")
+tools=$(dirname "$(realpath "${BASH_SOURCE[0]}")")
+work=$(mktemp -d)
+trap 'rm -rf "$work"' EXIT
+gcc -O2 -shared -fPIC -o "$work/refuse.so" "$tools/refuse.c" || exit 1
+cd "$work" || exit 1
+passed=0
+failed=0
+
+# run N WORDS: one run with the Nth request refused; sets status and requests
+run() {
+  rm -f count
+  # shellcheck disable=SC2086
+  REFUSE=$1 REFUSE_COUNT=count LD_PRELOAD=./refuse.so "$program" $2 > out 2> err
+  status=$?
+  requests=none
+  [ -e count ] && read -r requests < count
+}
+
+# told TEXT: whether the run told that, and nothing else
+told() {
+  printf '%s' "$1" > want
+  [ "$status" = 0 ] && cmp -s out want && [ ! -s err ]
+}
+
+# count PASSED WHAT: counts one call
+count() {
+  if [ "$1" = yes ]; then
+    passed=$((passed + 1))
+    printf '%s: requests %s\n' "$2" "$requests"
+  else
+    failed=$((failed + 1))
+    printf 'failed: %s (status %s, requests %s)\n' "$2" "$status" "$requests"
+    head -c 600 out
+    head -c 300 err
+  fi
+}
+
+# free WORDS TEXT: a call that meets no request
+free() {
+  run 1 "$1"
+  good=no
+  told "$2" && [ "$requests" = 0 ] && good=yes
+  count $good "$1"
+}
+
+# each WORDS REFUSED DONE: a call that is refused at each of its requests, asks for nothing more
+# then, and is done where none is refused
+each() {
+  local n=1
+  good=no
+  while run $n "$1"; [ "$requests" = $n ] && told "$2"; do
+    n=$((n + 1))
+  done
+  told "$3" && [ $n -gt 1 ] && [ "$requests" = $((n - 1)) ] && good=yes
+  count $good "$1"
+}
+
+# reads CALL TEXT SEEN: a reading, of which the run tells what it has seen
+reads() {
+  each "read $1 $2" $'call: OutOfMemory\nagain read, '"$3"$'\n' \
+    "call: read, $3"$'\nagain read, '"$3"$'\n'
+}
+
+outline_of_repeat='{'
+for ((i = 0; i < 32; i++)); do
+  printf -v key 'k%02d.,' $i
+  outline_of_repeat+=$key
+done
+
+for call in to_tape to_tape_with_buffers; do
+  reads $call example '6 nodes'
+  reads $call repeat '67 nodes'
+  reads $call escapes '3 nodes'
+done
+for call in owned owned_with_buffers borrowed borrowed_with_buffers; do
+  reads $call example '{some[key,value,.,,'
+  reads $call repeat "$outline_of_repeat k00 is 0"
+  [ $call = owned ] && owned=$requests
+  [ $call = borrowed ] && borrowed=$requests
+  reads $call escapes '{q"ka/bA,'
+done
+each buffers $'call: AllocError\nagain made\n' $'call: made\nagain made\n'
+
+for members in 0 32; do
+  after="$((members + 1)) members"$'\n'
+  each "insert new $members" \
+    "call: AllocError, key and value as before, map as before, then inserted, $after" \
+    "call: inserted, $after"
+done
+each capacity $'call: AllocError\nagain made\n' $'call: made\nagain made\n'
+free 'insert present' $'call: replaced, value as before, 32 members\n'
+free room $'call: filled, 40 members\n'
+free 'map reads' $'call: found, 32 members\n'
+
+# writes CALL GENERATOR WRITTEN
+writes() {
+  each "write $1 $2" "call: AllocError, then done: [$3"$'\n' "call: done: [$3"$'\n'
+}
+
+for generator in dump writer pretty pretty_writer; do
+  writes write $generator 'a text of more than eight bytes'
+  writes write_string $generator '"a \"text\" with a line feed\n"'
+  writes write_static $generator 340282366920938463463374607431768211455
+done
+for generator in dump writer; do
+  writes write_min $generator 'the shorter one'
+  free "write new_line $generator" $'call: done: [\n'
+done
+for generator in pretty pretty_writer; do
+  writes write_min $generator 'the longer one of the two'
+  writes new_line $generator $'\n                    '
+done
+
+free 'tape new' $'call: made, and refused\n'
+free 'tape reads' $'call: found\n'
+
+replies='> {"some":["key","value",2]}
+none
+0
+{"some":["key","value",2],"n":true}
+'
+each session "call: OutOfMemory, out as before, then answered"$'\n'"$replies" \
+  $'call: answered\n'"$replies"
+
+# The keys and texts of a borrowed document lie in the input.
+requests="$borrowed, $owned"
+good=no
+[ "$borrowed" -lt "$owned" ] && good=yes
+count $good 'fewer where a document borrows its keys'
+
+echo "$passed passed, $failed failed"
+[ "$failed" = 0 ]
