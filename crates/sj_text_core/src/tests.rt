@@ -2,6 +2,7 @@
 
 mod comparisons;
 mod faults;
+mod parts;
 mod prints;
 mod reads;
 mod steps;

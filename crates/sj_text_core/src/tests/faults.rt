@@ -4,7 +4,7 @@ use crate::{
     AccessError, BadTape, ErrorKind, ExtendedValueType, Refused, TryTypeError, ValueType,
     WriteError,
 };
-use std::alloc::AllocError;
+use std::alloc::{AllocError, AllocFailed};
 use std::test::Fail;
 
 #[test]
@@ -63,4 +63,16 @@ fn refused_memory_is_a_fault(rt: HostRuntime) {
     assert_eq!(rt; ErrorKind::from(AllocError), ErrorKind::OutOfMemory);
     assert_eq!(rt; WriteError::from(AllocError), WriteError::OutOfMemory);
     assert_eq!(rt; AccessError::from(AllocError), AccessError::OutOfMemory);
+    assert_eq!(rt;
+        ErrorKind::from(AllocFailed { value: 1_u8 }),
+        ErrorKind::OutOfMemory
+    );
+    assert_eq!(rt;
+        WriteError::from(AllocFailed { value: 1_u8 }),
+        WriteError::OutOfMemory
+    );
+    assert_eq!(rt;
+        AccessError::from(AllocFailed { value: 1_u8 }),
+        AccessError::OutOfMemory
+    );
 }

@@ -1,0 +1,87 @@
+//! Texts, arrays and objects, which no scalar node is.
+
+use crate::{Meaning, SameAs, TryTypeError, TypedValue, ValueAsScalar, ValueType};
+use std::test::Fail;
+
+/// A text, an empty array or an empty object.
+#[derive(Clone, Copy)]
+enum Part<'t> {
+    Text(&'t str),
+    Array,
+    Object,
+}
+
+impl Meaning for Part<'_> {
+    ghost use Rattle.sj_text_core.specs.Tree.{text, list, obj, no_items, no_members};
+    ghost use Rattle.sj_text_core.specs.declared.tests.parts.Part.TheVariants.{Text, Array, Object};
+
+    ghost tree = { elim [ Text s ↦ text s.now | Array ↦ list no_items | Object ↦ obj no_members ] };
+}
+
+impl TypedValue for Part<'_> {
+    fn value_type(&self) -> ValueType {
+        match self {
+            Part::Text(_) => ValueType::String,
+            Part::Array => ValueType::Array,
+            Part::Object => ValueType::Object,
+        }
+    }
+}
+
+impl ValueAsScalar for Part<'_> {
+    fn as_bool(&self) -> Option<bool> {
+        None
+    }
+
+    fn as_str(&self) -> Option<&str> {
+        match *self {
+            Part::Text(text) => Some(text),
+            _ => None,
+        }
+    }
+
+    fn as_i128(&self) -> Option<i128> {
+        None
+    }
+
+    fn as_u128(&self) -> Option<u128> {
+        None
+    }
+}
+
+#[test]
+fn parts_are_told(rt: HostRuntime) {
+    let parts = [
+        (Part::Text("null"), ValueType::String),
+        (Part::Array, ValueType::Array),
+        (Part::Object, ValueType::Object),
+    ];
+    for (part, kind) in parts {
+        assert_eq!(rt; part.value_type(), kind);
+        assert_eq!(rt; part.is_str(), kind == ValueType::String);
+        assert_eq!(rt; part.is_array(), kind == ValueType::Array);
+        assert_eq!(rt; part.is_object(), kind == ValueType::Object);
+        assert!(rt; !part.is_null() && !part.is_bool() && !part.is_i128() && !part.is_u128());
+    }
+}
+
+#[test]
+fn texts_are_read(rt: HostRuntime) -> Result<(), Fail> {
+    let part = Part::Text("null");
+    assert_eq!(rt; part.as_str(), Some("null"));
+    assert_eq!(rt; part.try_as_str(), Ok("null"));
+    assert!(rt; Part::Array.as_str().is_none());
+    assert_eq!(rt;
+        Part::Object.try_as_str().err(),
+        Some(TryTypeError {
+            expected: ValueType::String,
+            got: ValueType::Object,
+        })
+    );
+    for (other, same) in [("null", true), ("nul", false), ("nulL", false), ("", false)] {
+        let text = String::from_str(rt.alloc(), other)?;
+        assert_eq!(rt; part.same_as(&other), same);
+        assert_eq!(rt; part.same_as(&text), same);
+    }
+    Ok(())
+}
