@@ -30,12 +30,14 @@ pub(crate) fn lend<'i>(
         match *piece {
             Piece::Null => nodes.push_reserved(Node::Static(StaticNode::Null)),
             Piece::Bool(truth) => nodes.push_reserved(Node::Static(StaticNode::Bool(truth))),
-            Piece::Integer { is_negative: true, bits } => {
-                nodes.push_reserved(Node::Static(StaticNode::I64(bits.cast_signed())))
-            }
-            Piece::Integer { is_negative: false, bits } => {
-                nodes.push_reserved(Node::Static(StaticNode::U64(bits)))
-            }
+            Piece::Integer {
+                is_negative: true,
+                bits,
+            } => { nodes.push_reserved(Node::Static(StaticNode::I64(bits.cast_signed()))) }
+            Piece::Integer {
+                is_negative: false,
+                bits,
+            } => { nodes.push_reserved(Node::Static(StaticNode::U64(bits))) }
             Piece::Wide { start, end } => {
                 nodes.push_reserved(Node::Static(wide(&bytes[start..end])))
             }

@@ -50,10 +50,19 @@ pub(crate) fn separator(bytes: &[u8], at: usize, close: u8) -> Stop
     let place = skip(bytes, at);
     let byte = byte_at(bytes, place);
     if byte == b',' {
-        return Stop { behind: Behind::Comma, next: skip(bytes, place + 1) };
+        return Stop {
+            behind: Behind::Comma,
+            next: skip(bytes, place + 1),
+        };
     }
     if byte == close {
-        return Stop { behind: Behind::Close, next: place + 1 };
+        return Stop {
+            behind: Behind::Close,
+            next: place + 1,
+        };
     }
-    Stop { behind: Behind::Other, next: 0 }
+    Stop {
+        behind: Behind::Other,
+        next: 0,
+    }
 }
