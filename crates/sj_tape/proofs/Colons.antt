@@ -1,13 +1,12 @@
 -- One member of an object: its key, a colon, its value.
 use Rattle.std.proofs.Common.{◌≡◌, ◌≢◌, ◌==◌, ℕ, ◌+◌, List, [], ◌∷◌, ◌++◌, drop, get_or, cond, option_map, option_and_then, Some, None, Ok, Err, Result, IfErr, sym, ap, ◌∙◌, arith}
-use Rattle.std.proofs.lemmas.List.{append_assoc, drop-drop, get_or-drop, map-append}
+use Rattle.std.proofs.lemmas.List.{append_assoc, drop-drop, get_or-drop}
 use Rattle.std.proofs.lemmas.Bool.Decides.{nat_tests}
 use Rattle.sj_text_core.specs.declared.error.ErrorKind.{ErrorKind}
 use Rattle.sj_text_core.specs.Tree.{Tree}
-use Rattle.sj_text_core.specs.Nodes.{flat}
+use Rattle.sj_text_core.specs.Nodes.{Mark, flat}
 use Rattle.sj_tape.specs.Parse.{Read, text_at, after_blank, after_key, member_at}
-use Rattle.sj_tape.specs.Pieces.{piece_mark, piece_marks, Reads, ReadsMember, PutsText}
-use Rattle.sj_tape.specs.declared.reader.piece.Piece.{Piece}
+use Rattle.sj_tape.specs.Pieces.{piece_mark, Reads, ReadsMember, PutsText}
 
 pick : {X : Type 0} (c d : ℕ) (x y : X) → c ≡ d → cond (c == d) x y ≡ x
 pick c d x y e = grind (arith, nat_tests)
@@ -33,16 +32,13 @@ member_is read b at behind colon place k quote text blank mark next =
     ∙ ap (λ l. option_map (λ p. ((k, p.0), p.1)) (read l)) (ap (λ l. after_blank l) (next_at b colon) ∙ sym next)))
 
 -- what was read of a member
-pub member_reads : (x : Read (List ℕ × Tree)) (y : Read Tree) (b : List ℕ) (at behind next : ℕ) (old mid new : List Piece) → (t : PutsText b at behind old mid)
+pub member_reads : (x : Read (List ℕ × Tree)) (y : Read Tree) (b : List ℕ) (at behind next : ℕ) (old mid new : List Mark) → (t : PutsText b at behind old mid)
     → x ≡ option_map (λ p. ((t.reads.text, p.0), p.1)) y → Reads y b next mid new → ReadsMember x b next old new
 member_reads x y b at behind next old mid new t e r = record {
   key = t.reads.text;
   tree = r.tree;
   was = e ∙ ap (λ o. option_map (λ p. ((t.reads.text, p.0), p.1)) o) r.was;
-  nodes = r.nodes
-      ∙ (ap (λ ps. piece_marks b ps ++ flat r.tree) t.items
-      ∙ (ap (λ ms. ms ++ flat r.tree) (map-append (piece_mark b) old (t.piece ∷ []))
-      ∙ (append_assoc (piece_marks b old) (piece_mark b t.piece ∷ []) (flat r.tree) ∙ ap (λ m. piece_marks b old ++ (m ∷ flat r.tree)) t.reads.node)));
+  nodes = r.nodes ∙ (ap (λ ms. ms ++ flat r.tree) t.items ∙ (append_assoc old (piece_mark b t.piece ∷ []) (flat r.tree) ∙ ap (λ m. old ++ (m ∷ flat r.tree)) t.reads.node));
 }
 
 -- and what was not

@@ -1,6 +1,8 @@
 -- What is read is spelled, and what is spelled is read.
-use Rattle.std.proofs.Common.{◌≡◌, ℕ, ◌≤◌, List, [], ◌∷◌, ◌++◌, max, option_and_then, Some, None, All, IsUtf8, refl, sym, ap, subst, ◌∙◌, arith, append-nil}
+use Rattle.std.proofs.Common.{◌≡◌, ◌≢◌, Result, Ok, Err, IfErr, ℕ, ◌≤◌, List, [], ◌∷◌, ◌++◌, max, option_and_then, Some, None, All, IsUtf8, refl, sym, ap, subst, ◌∙◌, arith, append-nil}
 use Rattle.std.specs.List.{AllByRecursion}
+use Rattle.sj_text_core.specs.declared.error.ErrorKind.{ErrorKind}
+use Rattle.sj_text_core.specs.declared.error.ErrorKind.TheVariants.{InvalidUtf8, OutOfMemory}
 use Rattle.sj_text_core.specs.Tree.{Tree, depth}
 use Rattle.sj_text_core.specs.Grammar.{Spelling, Spells, IsReadable}
 use Rattle.sj_text_core.specs.Nodes.{Mark, flat, tree_of, IsPreorder}
@@ -59,6 +61,11 @@ only d b t u utf8 e s =
 -- what is not read is not readable
 pub unreadable : (b : List ℕ) → tree_at 1024 b ≡ None → IsReadable b → ⊥
 unreadable b e r = let k : tree_at 1024 b ≡ Some r.0 = complete 1024 b r.0 r.1 r.2 in cc
+
+-- what is refused is not readable
+pub errs_read : {T : Type 0} (b : List ℕ) (r : Result T ErrorKind) → IfErr r (λ e. e ≢ OutOfMemory → tree_at 1024 b ≡ None) → IfErr r (λ e. e ≢ InvalidUtf8 → e ≢ OutOfMemory → ¬ (IsReadable b))
+errs_read b (Ok x) h = tt
+errs_read b (Err e) h = λ _ n r. unreadable b (h n) r
 
 -- texts of nodes are those of their pieces
 pub texts_of : (b : List ℕ) (ps : List Piece) → AllByRecursion IsTextMark (piece_marks b ps) → All (λ p. IsTextMark (piece_mark b p)) ps

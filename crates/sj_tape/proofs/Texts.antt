@@ -1,8 +1,10 @@
 -- In UTF-8 what the reader takes for a string is one.
-use Rattle.std.proofs.Common.{◌≡◌, ℕ, ◌+◌, ◌<◌, true, false, List, [], ◌∷◌, ◌++◌, length, drop, get_or, IsUtf8, refl, sym, ap, subst, ◌∙◌, arith, append_assoc, length-append}
+use Rattle.std.proofs.Common.{◌≡◌, ℕ, ◌+◌, ◌-◌, ◌<◌, ◌≤◌, true, false, List, [], ◌∷◌, ◌++◌, length, length-drop, drop, get_or, IsUtf8, refl, sym, ap, subst, ◌∙◌, arith, append_assoc, length-append}
 use Rattle.std.specs.List.{AllByRecursion}
 use Rattle.std.proofs.lemmas.Str.{IsUtf8-drop, IsUtf8-take, IsCharBoundary-after_ascii, IsCharBoundary-before_ascii}
-use Rattle.std.proofs.lemmas.List.{drop_at, take_at, get_or_at}
+use Rattle.std.specs.Str.{IsCharBoundary}
+use Rattle.std.specs.Prelude.{slice_range}
+use Rattle.std.proofs.lemmas.List.{drop_at, take_at, get_or_at, get_or-drop}
 use Rattle.sj_text_core.specs.Tree.{Tree, null, boolean, int, text, list, obj, Items, no_items, item, Members, no_members, member}
 use Rattle.sj_text_core.specs.Nodes.{Mark, flat, flat_items, flat_members}
 use Rattle.sj_text_core.specs.Grammar.{IsString, Spaced, Spelling, SpellsItems, MoreItems, SpellsMembers, MoreMembers}
@@ -20,6 +22,14 @@ cut a b c h u =
       subst (λ l. IsUtf8 l) (ap (λ l. drop (length a + 1) l) (sym (append_assoc a (c ∷ []) b)) ∙ drop_at (a ++ c ∷ []) b (length a + 1) (length-append a (c ∷ [])))
           (IsUtf8-drop (a ++ (c ∷ b)) (length a + 1) u (IsCharBoundary-after_ascii (a ++ (c ∷ b)) (length a) u lt at)),
     )
+
+-- what stands between two quotes in UTF-8
+pub cut_between : (b : List ℕ) (at e : ℕ) → IsUtf8 b → 0 < at → at ≤ length b → get_or b (at - 1) 0 ≡ 34 → at ≤ e → e < length b → get_or b e 0 ≡ 34 → IsUtf8 (slice_range b at e)
+cut_between b at e u opened within quote order lt closed =
+    let from : IsUtf8 (drop at b) = IsUtf8-drop b at u (subst (λ n. IsCharBoundary b n) (omega (arith, opened)) (IsCharBoundary-after_ascii b (at - 1) u (omega (arith, opened, within)) (omega (arith, quote)))) in
+    let same : get_or (drop at b) (e - at) 0 ≡ get_or b e 0 = get_or-drop at b (e - at) 0 ∙ ap (λ n. get_or b n 0) (omega (arith, order)) in
+    let here : get_or (drop at b) (e - at) 0 < 128 = omega (arith, same, closed) in
+    IsUtf8-take (drop at b) (e - at) from (IsCharBoundary-before_ascii (drop at b) (e - at) (omega (arith, length-drop at b, order, lt)) here)
 
 -- a string anywhere in UTF-8
 a_string : (p s x y : List ℕ) → raw.IsString p s → IsUtf8 (x ++ (p ++ y)) → IsString p s

@@ -1,14 +1,13 @@
 -- Steps of reading a value, as the recursion goes.
 use Rattle.std.proofs.Common.{◌≡◌, ◌≢◌, ℕ, zero, suc, ◌+◌, ◌-◌, ◌<◌, ◌≤◌, List, [], ◌∷◌, ◌++◌, length, drop, get_or, set, option_map, option_and_then, Some, None, refl, sym, ap, ◌∙◌, arith, length-append, length-drop}
-use Rattle.std.proofs.lemmas.List.{length-map, map-append, map-set, drop_more, drop_all, get_or-drop}
+use Rattle.std.proofs.lemmas.List.{drop_more, drop_all, get_or-drop}
 use Rattle.std.proofs.lemmas.Grind.{common_steps}
 use Rattle.std.proofs.lemmas.Bool.Decides.{nat_tests}
 use Rattle.sj_text_core.specs.Tree.{Tree, list, obj}
 use Rattle.sj_text_core.specs.Nodes.{Mark, flat, array, object}
 use Rattle.sj_tape.specs.Parse.{Read, parts_at, all_parts_at, after_blank, list_at, obj_at, member_at, value_at, value_by, nothing_at, tree_at, last}
 use Rattle.sj_text_core.specs.Tree.{items_from, members_from}
-use Rattle.sj_tape.specs.Pieces.{piece_mark, piece_marks, Reads}
-use Rattle.sj_tape.specs.declared.reader.piece.Piece.{Piece}
+use Rattle.sj_tape.specs.Pieces.{Reads}
 use Rattle.std.proofs.Common.{Result, Ok, Err, IfErr}
 use Rattle.sj_text_core.specs.declared.error.ErrorKind.{ErrorKind}
 use Rattle.sj_tape.proofs.Parts.{item_flats, member_flats, items_len-from, members_len-from}
@@ -70,7 +69,7 @@ value_scalar d b i h n m =
     ap (λ l. value_at d l) e ∙ (value_is d (get_or b i 0 ∷ drop (i + 1) b) ∙ (by_other (in_list d) (in_obj d) (get_or b i 0) (drop (i + 1) b) n m ∙ ap (λ l. value_by nothing_at nothing_at l) (sym e)))
 
 -- what is read by another way to read
-pub reads_by : (read read' : Read Tree) (b : List ℕ) (next : ℕ) (old new : List Piece) → read ≡ read' → Reads read' b next old new → Reads read b next old new
+pub reads_by : (read read' : Read Tree) (b : List ℕ) (next : ℕ) (old new : List Mark) → read ≡ read' → Reads read' b next old new → Reads read b next old new
 reads_by read read' b next old new e r = record { tree = r.tree; was = e ∙ r.was; nodes = r.nodes }
 
 -- the whole of the parts, behind the opening byte
@@ -102,22 +101,13 @@ set_at : (O : List Mark) (x y : Mark) (F : List Mark) → set ((O ++ x ∷ []) +
 set_at [] x y F = refl
 set_at (m ∷ O) x y F = ap (λ l. m ∷ l) (set_at O x y F)
 
--- how many pieces were put
-pub count_is : (b : List ℕ) (old new : List Piece) (p : Piece) (F : List Mark) → piece_marks b new ≡ piece_marks b (old ++ p ∷ []) ++ F → length new - length old - 1 ≡ length F
-count_is b old new p F e =
-    let k : length new ≡ length old + 1 + length F =
-    sym (length-map new (piece_mark b)) ∙ (ap (λ (l : List Mark). length l) e ∙ (length-append (piece_marks b (old ++ p ∷ [])) F
-    ∙ ap (λ n. n + length F) (length-map (old ++ p ∷ []) (piece_mark b) ∙ length-append old (p ∷ [])))) in
-    omega arith
+-- how many nodes were put
+pub count_is : (old new : List Mark) (p : Mark) (F : List Mark) → new ≡ (old ++ p ∷ []) ++ F → length new - length old - 1 ≡ length F
+count_is old new p F e = omega (arith, ap (λ (l : List Mark). length l) e, length-append (old ++ p ∷ []) F, length-append old (p ∷ []))
 
 -- a head in place of the blank one
-pub nodes_set : (b : List ℕ) (old new : List Piece) (p q : Piece) (F : List Mark) → piece_marks b new ≡ piece_marks b (old ++ p ∷ []) ++ F
-    → piece_marks b (set new (length old) q) ≡ piece_marks b old ++ (piece_mark b q ∷ F)
-nodes_set b old new p q F e =
-    map-set (piece_mark b) new (length old) q
-    ∙ (ap (λ l. set l (length old) (piece_mark b q)) (e ∙ ap (λ l. l ++ F) (map-append (piece_mark b) old (p ∷ [])))
-    ∙ (ap (λ n. set ((piece_marks b old ++ piece_mark b p ∷ []) ++ F) n (piece_mark b q)) (sym (length-map old (piece_mark b)))
-    ∙ set_at (piece_marks b old) (piece_mark b p) (piece_mark b q) F))
+pub nodes_set : (old new : List Mark) (p q : Mark) (F : List Mark) → new ≡ (old ++ p ∷ []) ++ F → set new (length old) q ≡ old ++ (q ∷ F)
+nodes_set old new p q F e = ap (λ l. set l (length old) q) e ∙ set_at old p q F
 
 -- the nodes of a list
 pub flat_list_is : (ts : List Tree) (len count : ℕ) → len ≡ length ts → count ≡ length (item_flats ts) → flat (list (items_from ts)) ≡ array len count ∷ item_flats ts

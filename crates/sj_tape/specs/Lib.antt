@@ -2,6 +2,7 @@ pub mod Marks
 pub mod Parse
 pub mod Pieces
 pub mod Room
+pub mod Sinks
 pub mod Run
 pub mod Parts
 pub mod Fronts

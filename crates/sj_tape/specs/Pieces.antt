@@ -92,10 +92,10 @@ pub record ReadsText (b : List ℕ) (at next : ℕ) (piece : Piece) : Type 0 whe
   pub node : piece_mark b piece ≡ string text
 
 -- a tree was read from the place `at` up to `next`, and its nodes were put behind the old ones
-pub record Reads (read : Read Tree) (b : List ℕ) (next : ℕ) (old new : List Piece) : Type 0 where
+pub record Reads (read : Read Tree) (b : List ℕ) (next : ℕ) (old new : List Mark) : Type 0 where
   pub tree : Tree
   pub was : read ≡ Some (tree, drop next b)
-  pub nodes : piece_marks b new ≡ piece_marks b old ++ flat tree
+  pub nodes : new ≡ old ++ flat tree
 
 -- a tree with one node was read from the place `at` up to `next`
 pub record ReadsPiece (read : Read Tree) (b : List ℕ) (next : ℕ) (piece : Piece) : Type 0 where
@@ -104,16 +104,16 @@ pub record ReadsPiece (read : Read Tree) (b : List ℕ) (next : ℕ) (piece : Pi
   pub node : flat tree ≡ piece_mark b piece ∷ []
 
 -- the same, and its one piece was put behind the old ones
-pub record Puts (read : Read Tree) (b : List ℕ) (at next : ℕ) (old new : List Piece) : Type 0 where
+pub record Puts (read : Read Tree) (b : List ℕ) (at next : ℕ) (old new : List Mark) : Type 0 where
   pub piece : Piece
-  pub items : new ≡ old ++ piece ∷ []
+  pub items : new ≡ old ++ piece_mark b piece ∷ []
   pub between : IsBetween b at next piece
   pub reads : ReadsPiece read b next piece
 
 -- a text was read, and its piece was put behind the old ones
-pub record PutsText (b : List ℕ) (at next : ℕ) (old new : List Piece) : Type 0 where
+pub record PutsText (b : List ℕ) (at next : ℕ) (old new : List Mark) : Type 0 where
   pub piece : Piece
-  pub items : new ≡ old ++ piece ∷ []
+  pub items : new ≡ old ++ piece_mark b piece ∷ []
   pub between : IsBetween b at next piece
   pub reads : ReadsText b at next piece
 
@@ -121,30 +121,40 @@ abbrev pub AreInside : List ℕ → List Piece → Type 0
 AreInside b ps = All (IsInside b (length b)) ps
 
 -- a list's items were read up to the place `next`, and their nodes were put behind the old ones
-pub record ReadsItems (read : Read (List Tree)) (b : List ℕ) (next len : ℕ) (old new : List Piece) : Type 0 where
+pub record ReadsItems (read : Read (List Tree)) (b : List ℕ) (next len : ℕ) (old new : List Mark) : Type 0 where
   pub trees : List Tree
   pub was : read ≡ Some (trees, drop next b)
-  pub nodes : piece_marks b new ≡ piece_marks b old ++ flat_items (items_from trees)
+  pub nodes : new ≡ old ++ flat_items (items_from trees)
   pub count : len ≡ length trees
 
-pub record ReadsMembers (read : Read (List (List ℕ × Tree))) (b : List ℕ) (next len : ℕ) (old new : List Piece) : Type 0 where
+pub record ReadsMembers (read : Read (List (List ℕ × Tree))) (b : List ℕ) (next len : ℕ) (old new : List Mark) : Type 0 where
   pub pairs : List (List ℕ × Tree)
   pub was : read ≡ Some (pairs, drop next b)
-  pub nodes : piece_marks b new ≡ piece_marks b old ++ flat_members (members_from pairs)
+  pub nodes : new ≡ old ++ flat_members (members_from pairs)
   pub count : len ≡ length pairs
 
-pub record ReadsMember (read : Read (List ℕ × Tree)) (b : List ℕ) (next : ℕ) (old new : List Piece) : Type 0 where
+pub record ReadsMember (read : Read (List ℕ × Tree)) (b : List ℕ) (next : ℕ) (old new : List Mark) : Type 0 where
   pub key : List ℕ
   pub tree : Tree
   pub was : read ≡ Some ((key, tree), drop next b)
-  pub nodes : piece_marks b new ≡ piece_marks b old ++ (string key ∷ flat tree)
+  pub nodes : new ≡ old ++ (string key ∷ flat tree)
 
 -- the whole text was read, and these are the tree's nodes
-pub record Scans (read : Option Tree) (b : List ℕ) (ps : List Piece) : Type 0 where
+pub record Scans (read : Option Tree) (ns : List Mark) : Type 0 where
   pub tree : Tree
   pub was : read ≡ Some tree
-  pub nodes : piece_marks b ps ≡ flat tree
-  pub inside : InOrder b 0 ps (length b)
+  pub nodes : ns ≡ flat tree
+
+-- a text that is cut out of the bytes is UTF-8
+abbrev pub IsCut : List ℕ → Piece → Type 0
+IsCut b Null = Unit {0}
+IsCut b (Bool t) = Unit {0}
+IsCut b (Integer m n) = Unit {0}
+IsCut b (Wide start end) = Unit {0}
+IsCut b (Text start end) = IsUtf8 (slice_range b start end)
+IsCut b (Escaped start end) = Unit {0}
+IsCut b (Array l n) = Unit {0}
+IsCut b (Object l n) = Unit {0}
 
 -- a text is UTF-8
 abbrev pub IsTextMark : Mark → Type 0

@@ -9,21 +9,24 @@ mod number;
 mod piece;
 mod run;
 mod scan;
+mod sink;
 mod string;
 mod structure;
 
-ghost use Rattle.std.specs.Prelude.{◌≡◌, ◌≢◌, ◌↔◌, Some, IfOk, IfErr, IsErrOf, IsUtf8};
+ghost use Rattle.std.specs.Prelude.{◌≡◌, ◌≢◌, ◌↔◌, Some, None, length, IfOk, IfErr, IsErrOf, IsUtf8};
 ghost use Rattle.sj_text_core.specs.Tree.{Tree, IsWithin};
 ghost use Rattle.sj_text_core.specs.Grammar.{Spells, IsReadable};
 ghost use Rattle.sj_tape.specs.Parse.{tree_at};
-ghost use Rattle.sj_tape.specs.Pieces.{Scans};
+ghost use Rattle.sj_tape.specs.Pieces.{HasBackslash, Scans, piece_marks};
+ghost use Rattle.sj_tape.specs.Sinks.{Holds};
 
 pub use crate::reader::buffers::Buffers;
 use crate::reader::decode::decode;
-use crate::reader::nodes::lend;
+use crate::reader::nodes::{Nodes, lend};
 use crate::reader::piece::Piece;
 use crate::reader::scan::scan;
 use crate::tape::Tape;
+use memchr::memchr;
 use sj_text_core::ErrorKind;
 use std::alloc::Global;
 
@@ -85,6 +88,41 @@ fn read<'i>(
     if simdutf8::basic::from_utf8(bytes).is_err() {
         return Err(ErrorKind::InvalidUtf8);
     }
+    if memchr(b'\\', bytes).is_some() {
+        read_escaped(alloc, bytes, pieces)
+    } else {
+        read_plain(alloc, bytes)
+    }
+}
+
+/// Reads a text without a backslash: the nodes are made while it is scanned.
+fn read_plain<'i>(alloc: Global, bytes: &'i [u8]) -> Result<Tape<'i>, ErrorKind>
+    requires utf8 { IsUtf8 bytes.now }
+    requires plain { ¬ (HasBackslash bytes.now) }
+    ensures ok { IfOk result (λ t. tree_at 1024 bytes.now ≡ Some t) }
+    ensures err { IfErr result (λ e. e ≢ ErrorKind.OutOfMemory → tree_at 1024 bytes.now ≡ None) }
+    ensures kind { IfErr result (λ e. e ≢ ErrorKind.InvalidUtf8) }
+{
+    let mut out = Nodes {
+        bytes,
+        nodes: Vec::new(alloc),
+    };
+    scan(bytes, DEPTH_LIMIT, &mut out)?;
+    Ok(Tape::from_nodes(out.nodes))
+}
+
+/// Reads a text in which escapes may stand, with its pieces in place of those that were there.
+fn read_escaped<'i>(
+    alloc: Global,
+    bytes: &'i mut [u8],
+    pieces: &mut Vec<Piece>,
+) -> Result<Tape<'i>, ErrorKind>
+    requires utf8 { IsUtf8 bytes.old }
+    ensures ok { IfOk result (λ t. tree_at 1024 bytes.old ≡ Some t) }
+    ensures err { IfErr result (λ e. e ≢ ErrorKind.OutOfMemory → tree_at 1024 bytes.old ≡ None) }
+    ensures kind { IfErr result (λ e. e ≢ ErrorKind.InvalidUtf8) }
+{
+    pieces.clear();
     scan(bytes, DEPTH_LIMIT, pieces)?;
     tape_of(alloc, bytes, pieces.as_mut_slice())
 }
@@ -96,7 +134,8 @@ fn tape_of<'i>(
     pieces: &mut [Piece],
 ) -> Result<Tape<'i>, ErrorKind>
     requires utf8 { IsUtf8 bytes.old }
-    requires scanned { Scans (tree_at 1024 bytes.old) bytes.old pieces.old }
+    requires scanned { Scans (tree_at 1024 bytes.old) (piece_marks bytes.old pieces.old) }
+    requires order { Holds bytes.old pieces.old (length bytes.old) }
     ensures ok { IfOk result (λ t. tree_at 1024 bytes.old ≡ Some t) }
     ensures err { IfErr result (λ e. e ≡ ErrorKind.OutOfMemory) }
 {

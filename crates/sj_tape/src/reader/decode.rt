@@ -7,7 +7,6 @@ ghost use Rattle.sj_tape.specs.Pieces.{after, text_of, InOrder, AreInside, piece
 
 use crate::reader::escape::escape;
 use crate::reader::piece::{Piece, spelling};
-use memchr::memchr;
 
 /// Writes the UTF-8 of a character at `to`, and answers the place after it.
 fn put(bytes: &mut [u8], to: usize, character: char) -> usize
@@ -56,17 +55,6 @@ pub(crate) fn unescape(bytes: &mut [u8], start: usize, end: usize) -> usize
 
 /// The second pass: texts with escapes are written over their own spelling.
 pub(crate) fn decode(bytes: &mut [u8], pieces: &mut [Piece])
-    requires { InOrder bytes.old 0 pieces.old (length bytes.old) }
-    ensures nodes { piece_marks bytes.new pieces.new ≡ piece_marks bytes.old pieces.old }
-    ensures inside { AreInside bytes.new pieces.new }
-{
-    if memchr(b'\\', bytes).is_some() {
-        decode_all(bytes, pieces);
-    }
-}
-
-/// The same, where an escape may stand.
-fn decode_all(bytes: &mut [u8], pieces: &mut [Piece])
     requires { InOrder bytes.old 0 pieces.old (length bytes.old) }
     ensures nodes { piece_marks bytes.new pieces.new ≡ piece_marks bytes.old pieces.old }
     ensures inside { AreInside bytes.new pieces.new }

@@ -1,20 +1,19 @@
-//! The third pass: the nodes of the pieces, with texts that lie in the bytes.
+//! Nodes with texts that lie in the bytes, made of pieces or at once.
 
-ghost use Rattle.std.specs.Prelude.{◌≡◌, ◌≢◌, ◌+◌, ◌<◌, ◌≤◌, ◌++◌, ◌∷◌, [], None, length, IfOk, IfErr, IsUtf8, All};
-ghost use Rattle.sj_tape.specs.Pieces.{AreInside, IsInside, IsTextMark, number_mark, piece_mark, piece_marks};
+ghost use Rattle.std.specs.Prelude.{◌≡◌, ◌≢◌, ◌+◌, ◌<◌, ◌≤◌, ◌++◌, ◌∷◌, [], None, length, IfOk, OnOk, IfErr, IsUtf8, All};
+ghost use Rattle.sj_tape.specs.Pieces.{AreInside, HasBackslash, IsCut, IsInside, IsTextMark, number_mark, piece_mark, piece_marks};
 ghost use Rattle.sj_tape.specs.Marks.{static_mark, marks};
 ghost use Rattle.sj_tape.specs.Parse.{number_at};
-ghost use Rattle.std.specs.Vec.{vec_len, vec_capacity};
 
 use crate::node::Node;
 use crate::reader::number::number;
 use crate::reader::piece::Piece;
+use crate::reader::sink::{Sink, push};
 use sj_text_core::{ErrorKind, StaticNode};
 use std::alloc::Global;
 use std::str::from_utf8_unchecked;
 
 /// The third pass: the nodes of the pieces, with texts that lie in the bytes.
-#[tactic(auto, using(crate::proofs::NodeMarks::marks_push))]
 pub(crate) fn lend<'i>(
     alloc: Global,
     bytes: &'i [u8],
@@ -27,29 +26,71 @@ pub(crate) fn lend<'i>(
 {
     let mut nodes = Vec::with_capacity(alloc, pieces.len())?;
     for piece in pieces {
-        match *piece {
-            Piece::Null => nodes.push_reserved(Node::Static(StaticNode::Null)),
-            Piece::Bool(truth) => nodes.push_reserved(Node::Static(StaticNode::Bool(truth))),
-            Piece::Integer {
-                is_negative: true,
-                bits,
-            } => { nodes.push_reserved(Node::Static(StaticNode::I64(bits.cast_signed()))) }
-            Piece::Integer {
-                is_negative: false,
-                bits,
-            } => { nodes.push_reserved(Node::Static(StaticNode::U64(bits))) }
-            Piece::Wide { start, end } => {
-                nodes.push_reserved(Node::Static(wide(&bytes[start..end])))
-            }
-            Piece::Text { start, end } => {
-                nodes.push_reserved(Node::String(text(&bytes[start..end])))
-            }
-            Piece::Escaped { .. } => unreachable!(),
-            Piece::Array { len, count } => nodes.push_reserved(Node::Array { len, count }),
-            Piece::Object { len, count } => nodes.push_reserved(Node::Object { len, count }),
-        }
+        push_node(&mut nodes, bytes, *piece)?;
     }
     Ok(nodes)
+}
+
+/// Nodes that a scan makes at once, with texts that lie in bytes without a backslash.
+#[derive(Drop)]
+pub(crate) struct Nodes<'i> {
+    pub(crate) bytes: &'i [u8],
+    pub(crate) nodes: Vec<Node<'i>>,
+}
+
+impl<'i> Sink for Nodes<'i> {
+    ghost marks = { λ _ s. marks s.nodes.items };
+
+    ghost Takes = { λ b s _. (s.bytes.now ≡ b) × (¬ (HasBackslash b)) };
+
+    #[inline(always)]
+    fn count(&self) -> usize {
+        self.nodes.len()
+    }
+
+    #[inline(always)]
+    fn put(&mut self, _bytes: &[u8], piece: Piece) -> Result<(), ErrorKind> {
+        push_node(&mut self.nodes, self.bytes, piece)
+    }
+
+    #[inline(always)]
+    fn close_array(&mut self, _bytes: &[u8], place: usize, len: usize, count: usize) {
+        self.nodes[place] = Node::Array { len, count };
+    }
+
+    #[inline(always)]
+    fn close_object(&mut self, _bytes: &[u8], place: usize, len: usize, count: usize) {
+        self.nodes[place] = Node::Object { len, count };
+    }
+
+    ghost wider = { λ _ _ _ _ _ h. h };
+}
+
+/// Puts the node of a piece at the end.
+#[tactic(auto, using(crate::proofs::NodeMarks::marks_push))]
+#[inline(always)]
+fn push_node<'i>(nodes: &mut Vec<Node<'i>>, bytes: &'i [u8], piece: Piece) -> Result<(), ErrorKind>
+    requires inside { IsInside bytes.now (length bytes.now) piece }
+    requires cut { IsCut bytes.now piece }
+    ensures marks { OnOk result (marks nodes.new.items ≡ marks nodes.old.items ++ piece_mark bytes.now piece ∷ []) }
+    ensures err { IfErr result (λ e. e ≡ ErrorKind.OutOfMemory) }
+{
+    match piece {
+        Piece::Null => push(nodes, Node::Static(StaticNode::Null)),
+        Piece::Bool(truth) => push(nodes, Node::Static(StaticNode::Bool(truth))),
+        Piece::Integer { is_negative, bits } => {
+            if is_negative {
+                push(nodes, Node::Static(StaticNode::I64(bits.cast_signed())))
+            } else {
+                push(nodes, Node::Static(StaticNode::U64(bits)))
+            }
+        }
+        Piece::Wide { start, end } => push(nodes, Node::Static(wide(&bytes[start..end]))),
+        Piece::Text { start, end } => push(nodes, Node::String(text(&bytes[start..end]))),
+        Piece::Escaped { .. } => unreachable!(),
+        Piece::Array { len, count } => push(nodes, Node::Array { len, count }),
+        Piece::Object { len, count } => push(nodes, Node::Object { len, count }),
+    }
 }
 
 /// The text that the bytes are. They are UTF-8, so they are not tested once more.

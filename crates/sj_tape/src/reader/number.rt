@@ -8,7 +8,8 @@ ghost use Rattle.sj_text_core.specs.Grammar.{value_of, number_of};
 ghost use Rattle.sj_text_core.specs.Scalars.{static_tree};
 
 use crate::reader::blank::byte_at;
-use crate::reader::piece::{Piece, push};
+use crate::reader::piece::Piece;
+use crate::reader::sink::Sink;
 use core::dec2flt::read_digits;
 use sj_text_core::{ErrorKind, StaticNode};
 
@@ -125,14 +126,16 @@ fn numeral(bytes: &[u8], at: usize, is_negative: bool) -> Result<(StaticNode, us
 
 /// Reads the whole number at `at`, puts its piece at the end, and answers the place after it.
 #[inline(always)]
-pub(crate) fn number_piece(
+pub(crate) fn number_piece<S: Sink>(
     bytes: &[u8],
     at: usize,
-    out: &mut Vec<Piece>,
+    out: &mut S,
 ) -> Result<usize, ErrorKind>
-    requires { at < length bytes.now }
+    requires at { at < length bytes.now }
+    requires takes { S.Takes bytes.now out.old at }
     ensures within { IfOk result (λ next. (at < next) × (next ≤ length bytes.now)) }
-    ensures ok { IfOk result (λ next. Puts (parse.number_at (drop at bytes.now)) bytes.now at next out.old.items out.new.items) }
+    ensures ok { IfOk result (λ next. Puts (parse.number_at (drop at bytes.now)) bytes.now at next (S.marks bytes.now out.old) (S.marks bytes.now out.new)) }
+    ensures takes { IfOk result (λ next. S.Takes bytes.now out.new next) }
     ensures err { IfErr result (λ e. e ≢ ErrorKind.OutOfMemory → parse.number_at (drop at bytes.now) ≡ None) }
     ensures kind { IfErr result (λ e. e ≢ ErrorKind.InvalidUtf8) }
 {
@@ -143,19 +146,21 @@ pub(crate) fn number_piece(
 
 /// The same, where the digits begin at `start`.
 #[inline(always)]
-fn numeral_piece(
+fn numeral_piece<S: Sink>(
     bytes: &[u8],
     at: usize,
     start: usize,
     is_negative: bool,
-    out: &mut Vec<Piece>,
+    out: &mut S,
 ) -> Result<usize, ErrorKind>
     requires at { at < length bytes.now }
+    requires takes { S.Takes bytes.now out.old at }
     requires low { at ≤ start }
     requires high { start ≤ length bytes.now }
     requires sign { parse.number_at (drop at bytes.now) ≡ parse.numeral_at is_negative (parse.digits_len (drop start bytes.now)) (drop start bytes.now) }
     ensures within { IfOk result (λ next. (at < next) × (next ≤ length bytes.now)) }
-    ensures ok { IfOk result (λ next. Puts (parse.number_at (drop at bytes.now)) bytes.now at next out.old.items out.new.items) }
+    ensures ok { IfOk result (λ next. Puts (parse.number_at (drop at bytes.now)) bytes.now at next (S.marks bytes.now out.old) (S.marks bytes.now out.new)) }
+    ensures takes { IfOk result (λ next. S.Takes bytes.now out.new next) }
     ensures err { IfErr result (λ e. e ≢ ErrorKind.OutOfMemory → parse.number_at (drop at bytes.now) ≡ None) }
     ensures kind { IfErr result (λ e. e ≢ ErrorKind.InvalidUtf8) }
 {
@@ -174,7 +179,7 @@ fn numeral_piece(
         return wide_piece(bytes, at, out);
     }
     let bits = word_of(is_negative, n);
-    push(out, Piece::Integer { is_negative, bits })?;
+    out.put(bytes, Piece::Integer { is_negative, bits })?;
     Ok(end)
 }
 
@@ -202,14 +207,16 @@ fn word_of(is_negative: bool, n: u64) -> u64
 
 /// The same for a number of many digits.
 #[inline(never)]
-fn wide_piece(bytes: &[u8], at: usize, out: &mut Vec<Piece>) -> Result<usize, ErrorKind>
-    requires { at < length bytes.now }
+fn wide_piece<S: Sink>(bytes: &[u8], at: usize, out: &mut S) -> Result<usize, ErrorKind>
+    requires at { at < length bytes.now }
+    requires takes { S.Takes bytes.now out.old at }
     ensures within { IfOk result (λ next. (at < next) × (next ≤ length bytes.now)) }
-    ensures ok { IfOk result (λ next. Puts (parse.number_at (drop at bytes.now)) bytes.now at next out.old.items out.new.items) }
+    ensures ok { IfOk result (λ next. Puts (parse.number_at (drop at bytes.now)) bytes.now at next (S.marks bytes.now out.old) (S.marks bytes.now out.new)) }
+    ensures takes { IfOk result (λ next. S.Takes bytes.now out.new next) }
     ensures err { IfErr result (λ e. e ≢ ErrorKind.OutOfMemory → parse.number_at (drop at bytes.now) ≡ None) }
     ensures kind { IfErr result (λ e. e ≢ ErrorKind.InvalidUtf8) }
 {
     let (_, end) = number(bytes, at)?;
-    push(out, Piece::Wide { start: at, end })?;
+    out.put(bytes, Piece::Wide { start: at, end })?;
     Ok(end)
 }

@@ -1,10 +1,7 @@
 //! Nodes whose texts are ranges of the bytes.
 
-ghost use Rattle.std.specs.Prelude.{◌≡◌, ◌<◌, ◌++◌, ◌∷◌, [], OnOk, IfErr};
-ghost use Rattle.std.specs.Vec.{vec_len, vec_capacity};
+ghost use Rattle.std.specs.Prelude.{◌≡◌};
 ghost use Rattle.sj_tape.specs.Pieces.{spelling_of};
-
-use sj_text_core::ErrorKind;
 
 /// A node whose text lies in the bytes from `start` up to `end`.
 #[derive(Clone, Copy, Debug)]
@@ -35,28 +32,4 @@ pub(crate) fn spelling(piece: Piece) -> Option<(usize, usize)>
         Piece::Array { .. } => None,
         Piece::Object { .. } => None,
     }
-}
-
-/// Makes room for one piece more.
-#[inline(never)]
-fn grow(out: &mut Vec<Piece>) -> Result<(), ErrorKind>
-    ensures items { out.new.items ≡ out.old.items }
-    ensures room { OnOk result (vec_len out.new < vec_capacity out.new) }
-    ensures err { IfErr result (λ e. e ≡ ErrorKind.OutOfMemory) }
-{
-    out.reserve(1)?;
-    Ok(())
-}
-
-/// Puts a piece at the end.
-#[inline(always)]
-pub(crate) fn push(out: &mut Vec<Piece>, piece: Piece) -> Result<(), ErrorKind>
-    ensures items { OnOk result (out.new.items ≡ out.old.items ++ piece ∷ []) }
-    ensures err { IfErr result (λ e. e ≡ ErrorKind.OutOfMemory) }
-{
-    if out.len() >= out.capacity() {
-        grow(out)?;
-    }
-    out.push_reserved(piece);
-    Ok(())
 }

@@ -1,23 +1,27 @@
 //! The first pass: from bytes to pieces.
 
-ghost use Rattle.std.specs.Prelude.{◌≡◌, ◌+◌, ◌-◌, ◌<◌, ◌≤◌, ℕ, Some, None, length, drop, IfOk, IfErr, OnOk, OnErr, MatchResult, IsTrue, ◌↔◌, ◌≢◌, ◌==◌, ◌++◌, ◌∷◌, [], slice_index};
-ghost use Rattle.sj_tape.specs.Pieces.{InOrder, Puts, Reads, ReadsItems, ReadsMembers, ReadsMember, Scans};
+ghost use Rattle.std.specs.Prelude.{◌≡◌, ◌+◌, ◌-◌, ◌<◌, ◌≤◌, ℕ, Some, None, length, drop, IfOk, IfErr, OnOk, OnErr, MatchResult, IsTrue, ◌↔◌, ◌≢◌, ◌==◌, ◌++◌, ◌∷◌, [], slice_index, IsUtf8};
+ghost use Rattle.sj_tape.specs.Pieces.{Puts, Reads, ReadsItems, ReadsMembers, ReadsMember, Scans};
 ghost use Rattle.sj_tape.specs.Parse as parse;
 
 use crate::reader::blank::skip;
 use crate::reader::number::number_piece;
-use crate::reader::piece::{Piece, push};
+use crate::reader::piece::Piece;
+use crate::reader::sink::Sink;
 use crate::reader::string::text;
 use crate::reader::structure::{Behind, separator, word_end};
 use sj_text_core::ErrorKind;
 
 /// Reads the string or the number at `at`, where no other value begins.
 #[inline(always)]
-fn text_or_number(bytes: &[u8], at: usize, out: &mut Vec<Piece>) -> Result<usize, ErrorKind>
+fn text_or_number<S: Sink>(bytes: &[u8], at: usize, out: &mut S) -> Result<usize, ErrorKind>
     requires at { at < length bytes.now }
     requires first { slice_index bytes.now at ≤ 57 }
+    requires utf8 { IsUtf8 bytes.now }
+    requires takes { S.Takes bytes.now out.old at }
     ensures within { IfOk result (λ next. (at < next) × (next ≤ length bytes.now)) }
-    ensures ok { IfOk result (λ next. Puts (parse.value_by parse.nothing_at parse.nothing_at (drop at bytes.now)) bytes.now at next out.old.items out.new.items) }
+    ensures ok { IfOk result (λ next. Puts (parse.value_by parse.nothing_at parse.nothing_at (drop at bytes.now)) bytes.now at next (S.marks bytes.now out.old) (S.marks bytes.now out.new)) }
+    ensures takes { IfOk result (λ next. S.Takes bytes.now out.new next) }
     ensures err { IfErr result (λ e. e ≢ ErrorKind.OutOfMemory → parse.value_by parse.nothing_at parse.nothing_at (drop at bytes.now) ≡ None) }
     ensures kind { IfErr result (λ e. e ≢ ErrorKind.InvalidUtf8) }
 {
@@ -29,30 +33,32 @@ fn text_or_number(bytes: &[u8], at: usize, out: &mut Vec<Piece>) -> Result<usize
 
 /// Reads the word at `at`.
 #[inline(always)]
-fn word(bytes: &[u8], at: usize, out: &mut Vec<Piece>) -> Result<usize, ErrorKind>
+fn word<S: Sink>(bytes: &[u8], at: usize, out: &mut S) -> Result<usize, ErrorKind>
     requires at { at < length bytes.now }
     requires first { 57 < slice_index bytes.now at }
+    requires takes { S.Takes bytes.now out.old at }
     requires no_list { slice_index bytes.now at ≢ 91 }
     requires no_object { slice_index bytes.now at ≢ 123 }
     ensures within { IfOk result (λ next. (at < next) × (next ≤ length bytes.now)) }
-    ensures ok { IfOk result (λ next. Puts (parse.value_by parse.nothing_at parse.nothing_at (drop at bytes.now)) bytes.now at next out.old.items out.new.items) }
+    ensures ok { IfOk result (λ next. Puts (parse.value_by parse.nothing_at parse.nothing_at (drop at bytes.now)) bytes.now at next (S.marks bytes.now out.old) (S.marks bytes.now out.new)) }
+    ensures takes { IfOk result (λ next. S.Takes bytes.now out.new next) }
     ensures err { IfErr result (λ e. e ≢ ErrorKind.OutOfMemory → parse.value_by parse.nothing_at parse.nothing_at (drop at bytes.now) ≡ None) }
     ensures kind { IfErr result (λ e. e ≢ ErrorKind.InvalidUtf8) }
 {
     let byte = bytes[at];
     if byte == b'n' {
         let next = word_end(bytes, at, b"null")?;
-        push(out, Piece::Null)?;
+        out.put(bytes, Piece::Null)?;
         return Ok(next);
     }
     if byte == b't' {
         let next = word_end(bytes, at, b"true")?;
-        push(out, Piece::Bool(true))?;
+        out.put(bytes, Piece::Bool(true))?;
         return Ok(next);
     }
     if byte == b'f' {
         let next = word_end(bytes, at, b"false")?;
-        push(out, Piece::Bool(false))?;
+        out.put(bytes, Piece::Bool(false))?;
         return Ok(next);
     }
     Err(ErrorKind::Syntax)
@@ -61,11 +67,13 @@ fn word(bytes: &[u8], at: usize, out: &mut Vec<Piece>) -> Result<usize, ErrorKin
 /// Reads the value at `at`, puts its nodes at the end, and answers the place after it.
 #[cycle(scan)]
 #[inline(always)]
-fn value(bytes: &[u8], at: usize, depth: usize, out: &mut Vec<Piece>) -> Result<usize, ErrorKind>
+fn value<S: Sink>(bytes: &[u8], at: usize, depth: usize, out: &mut S) -> Result<usize, ErrorKind>
     requires at { at ≤ length bytes.now }
+    requires utf8 { IsUtf8 bytes.now }
+    requires takes { S.Takes bytes.now out.old at }
     ensures within { IfOk result (λ next. (at < next) × (next ≤ length bytes.now)) }
-    ensures ok { IfOk result (λ next. Reads (parse.value_at depth (drop at bytes.now)) bytes.now next out.old.items out.new.items) }
-    ensures inside { InOrder bytes.now 0 out.old.items at → IfOk result (λ next. InOrder bytes.now 0 out.new.items next) }
+    ensures ok { IfOk result (λ next. Reads (parse.value_at depth (drop at bytes.now)) bytes.now next (S.marks bytes.now out.old) (S.marks bytes.now out.new)) }
+    ensures takes { IfOk result (λ next. S.Takes bytes.now out.new next) }
     ensures err { IfErr result (λ e. e ≢ ErrorKind.OutOfMemory → parse.value_at depth (drop at bytes.now) ≡ None) }
     ensures kind { IfErr result (λ e. e ≢ ErrorKind.InvalidUtf8) }
 {
@@ -94,23 +102,25 @@ fn value(bytes: &[u8], at: usize, depth: usize, out: &mut Vec<Piece>) -> Result<
 /// Reads an array behind its first bracket.
 #[cycle(scan)]
 #[inline(never)]
-fn array(bytes: &[u8], at: usize, depth: usize, out: &mut Vec<Piece>) -> Result<usize, ErrorKind>
+fn array<S: Sink>(bytes: &[u8], at: usize, depth: usize, out: &mut S) -> Result<usize, ErrorKind>
     requires at { at ≤ length bytes.now }
+    requires utf8 { IsUtf8 bytes.now }
+    requires takes { S.Takes bytes.now out.old at }
     ensures within { IfOk result (λ next. (at < next) × (next ≤ length bytes.now)) }
-    ensures ok { IfOk result (λ next. Reads (parse.list_at (parse.value_at depth) (drop at bytes.now)) bytes.now next out.old.items out.new.items) }
-    ensures inside { InOrder bytes.now 0 out.old.items at → IfOk result (λ next. InOrder bytes.now 0 out.new.items next) }
+    ensures ok { IfOk result (λ next. Reads (parse.list_at (parse.value_at depth) (drop at bytes.now)) bytes.now next (S.marks bytes.now out.old) (S.marks bytes.now out.new)) }
+    ensures takes { IfOk result (λ next. S.Takes bytes.now out.new next) }
     ensures err { IfErr result (λ e. e ≢ ErrorKind.OutOfMemory → parse.list_at (parse.value_at depth) (drop at bytes.now) ≡ None) }
     ensures kind { IfErr result (λ e. e ≢ ErrorKind.InvalidUtf8) }
 {
-    let place = out.len();
-    push(out, Piece::Array { len: 0, count: 0 })?;
+    let place = out.count();
+    out.put(bytes, Piece::Array { len: 0, count: 0 })?;
     let first = skip(bytes, at);
     if first < bytes.len() && bytes[first] == b']' {
         return Ok(first + 1);
     }
     let (next, len) = items(bytes, first, depth, out)?;
-    let count = out.len() - place - 1;
-    out[place] = Piece::Array { len, count };
+    let count = out.count() - place - 1;
+    out.close_array(bytes, place, len, count);
     Ok(next)
 }
 
@@ -118,16 +128,18 @@ fn array(bytes: &[u8], at: usize, depth: usize, out: &mut Vec<Piece>) -> Result<
 /// many there are.
 #[cycle(scan)]
 #[inline(always)]
-fn items(
+fn items<S: Sink>(
     bytes: &[u8],
     at: usize,
     depth: usize,
-    out: &mut Vec<Piece>,
+    out: &mut S,
 ) -> Result<(usize, usize), ErrorKind>
     requires at { at ≤ length bytes.now }
+    requires utf8 { IsUtf8 bytes.now }
+    requires takes { S.Takes bytes.now out.old at }
     ensures within { IfOk result (λ p. (at < p.0) × (p.0 ≤ length bytes.now)) }
-    ensures ok { IfOk result (λ p. ReadsItems (parse.parts_at 93 (parse.value_at depth) (length bytes.now - at) (drop at bytes.now)) bytes.now p.0 p.1 out.old.items out.new.items) }
-    ensures inside { InOrder bytes.now 0 out.old.items at → IfOk result (λ p. InOrder bytes.now 0 out.new.items p.0) }
+    ensures ok { IfOk result (λ p. ReadsItems (parse.parts_at 93 (parse.value_at depth) (length bytes.now - at) (drop at bytes.now)) bytes.now p.0 p.1 (S.marks bytes.now out.old) (S.marks bytes.now out.new)) }
+    ensures takes { IfOk result (λ p. S.Takes bytes.now out.new p.0) }
     ensures err { IfErr result (λ e. e ≢ ErrorKind.OutOfMemory → parse.parts_at 93 (parse.value_at depth) (length bytes.now - at) (drop at bytes.now) ≡ None) }
     ensures kind { IfErr result (λ e. e ≢ ErrorKind.InvalidUtf8) }
 {
@@ -148,38 +160,42 @@ fn items(
 /// Reads an object behind its first brace.
 #[cycle(scan)]
 #[inline(never)]
-fn object(bytes: &[u8], at: usize, depth: usize, out: &mut Vec<Piece>) -> Result<usize, ErrorKind>
+fn object<S: Sink>(bytes: &[u8], at: usize, depth: usize, out: &mut S) -> Result<usize, ErrorKind>
     requires at { at ≤ length bytes.now }
+    requires utf8 { IsUtf8 bytes.now }
+    requires takes { S.Takes bytes.now out.old at }
     ensures within { IfOk result (λ next. (at < next) × (next ≤ length bytes.now)) }
-    ensures ok { IfOk result (λ next. Reads (parse.obj_at (parse.value_at depth) (drop at bytes.now)) bytes.now next out.old.items out.new.items) }
-    ensures inside { InOrder bytes.now 0 out.old.items at → IfOk result (λ next. InOrder bytes.now 0 out.new.items next) }
+    ensures ok { IfOk result (λ next. Reads (parse.obj_at (parse.value_at depth) (drop at bytes.now)) bytes.now next (S.marks bytes.now out.old) (S.marks bytes.now out.new)) }
+    ensures takes { IfOk result (λ next. S.Takes bytes.now out.new next) }
     ensures err { IfErr result (λ e. e ≢ ErrorKind.OutOfMemory → parse.obj_at (parse.value_at depth) (drop at bytes.now) ≡ None) }
     ensures kind { IfErr result (λ e. e ≢ ErrorKind.InvalidUtf8) }
 {
-    let place = out.len();
-    push(out, Piece::Object { len: 0, count: 0 })?;
+    let place = out.count();
+    out.put(bytes, Piece::Object { len: 0, count: 0 })?;
     let first = skip(bytes, at);
     if first < bytes.len() && bytes[first] == b'}' {
         return Ok(first + 1);
     }
     let (next, len) = members(bytes, first, depth, out)?;
-    let count = out.len() - place - 1;
-    out[place] = Piece::Object { len, count };
+    let count = out.count() - place - 1;
+    out.close_object(bytes, place, len, count);
     Ok(next)
 }
 
 #[cycle(scan)]
 #[inline(always)]
-fn members(
+fn members<S: Sink>(
     bytes: &[u8],
     at: usize,
     depth: usize,
-    out: &mut Vec<Piece>,
+    out: &mut S,
 ) -> Result<(usize, usize), ErrorKind>
     requires at { at ≤ length bytes.now }
+    requires utf8 { IsUtf8 bytes.now }
+    requires takes { S.Takes bytes.now out.old at }
     ensures within { IfOk result (λ p. (at < p.0) × (p.0 ≤ length bytes.now)) }
-    ensures ok { IfOk result (λ p. ReadsMembers (parse.parts_at 125 (parse.member_at (parse.value_at depth)) (length bytes.now - at) (drop at bytes.now)) bytes.now p.0 p.1 out.old.items out.new.items) }
-    ensures inside { InOrder bytes.now 0 out.old.items at → IfOk result (λ p. InOrder bytes.now 0 out.new.items p.0) }
+    ensures ok { IfOk result (λ p. ReadsMembers (parse.parts_at 125 (parse.member_at (parse.value_at depth)) (length bytes.now - at) (drop at bytes.now)) bytes.now p.0 p.1 (S.marks bytes.now out.old) (S.marks bytes.now out.new)) }
+    ensures takes { IfOk result (λ p. S.Takes bytes.now out.new p.0) }
     ensures err { IfErr result (λ e. e ≢ ErrorKind.OutOfMemory → parse.parts_at 125 (parse.member_at (parse.value_at depth)) (length bytes.now - at) (drop at bytes.now) ≡ None) }
     ensures kind { IfErr result (λ e. e ≢ ErrorKind.InvalidUtf8) }
 {
@@ -200,11 +216,13 @@ fn members(
 /// Reads one member of an object.
 #[cycle(scan)]
 #[inline(always)]
-fn member(bytes: &[u8], at: usize, depth: usize, out: &mut Vec<Piece>) -> Result<usize, ErrorKind>
+fn member<S: Sink>(bytes: &[u8], at: usize, depth: usize, out: &mut S) -> Result<usize, ErrorKind>
     requires at { at ≤ length bytes.now }
+    requires utf8 { IsUtf8 bytes.now }
+    requires takes { S.Takes bytes.now out.old at }
     ensures within { IfOk result (λ next. (at < next) × (next ≤ length bytes.now)) }
-    ensures ok { IfOk result (λ next. ReadsMember (parse.member_at (parse.value_at depth) (drop at bytes.now)) bytes.now next out.old.items out.new.items) }
-    ensures inside { InOrder bytes.now 0 out.old.items at → IfOk result (λ next. InOrder bytes.now 0 out.new.items next) }
+    ensures ok { IfOk result (λ next. ReadsMember (parse.member_at (parse.value_at depth) (drop at bytes.now)) bytes.now next (S.marks bytes.now out.old) (S.marks bytes.now out.new)) }
+    ensures takes { IfOk result (λ next. S.Takes bytes.now out.new next) }
     ensures err { IfErr result (λ e. e ≢ ErrorKind.OutOfMemory → parse.member_at (parse.value_at depth) (drop at bytes.now) ≡ None) }
     ensures kind { IfErr result (λ e. e ≢ ErrorKind.InvalidUtf8) }
 {
@@ -216,16 +234,20 @@ fn member(bytes: &[u8], at: usize, depth: usize, out: &mut Vec<Piece>) -> Result
     if colon >= bytes.len() || bytes[colon] != b':' {
         return Err(ErrorKind::Syntax);
     }
-    value(bytes, skip(bytes, colon + 1), depth, out)
+    let place = skip(bytes, colon + 1);
+    value(bytes, place, depth, out)
 }
 
-/// The pieces of the one value that the bytes spell, in place of what was there.
-pub(crate) fn scan(bytes: &[u8], depth: usize, out: &mut Vec<Piece>) -> Result<(), ErrorKind>
-    ensures ok { OnOk result (Scans (parse.tree_at depth bytes.now) bytes.now out.new.items) }
+/// Puts the nodes of the one value that the bytes spell.
+pub(crate) fn scan<S: Sink>(bytes: &[u8], depth: usize, out: &mut S) -> Result<(), ErrorKind>
+    requires utf8 { IsUtf8 bytes.now }
+    requires empty { S.marks bytes.now out.old ≡ [] }
+    requires takes { S.Takes bytes.now out.old 0 }
+    ensures ok { OnOk result (Scans (parse.tree_at depth bytes.now) (S.marks bytes.now out.new)) }
+    ensures takes { OnOk result (S.Takes bytes.now out.new (length bytes.now)) }
     ensures err { IfErr result (λ e. e ≢ ErrorKind.OutOfMemory → parse.tree_at depth bytes.now ≡ None) }
     ensures kind { IfErr result (λ e. e ≢ ErrorKind.InvalidUtf8) }
 {
-    out.clear();
     let after = value(bytes, skip(bytes, 0), depth, out)?;
     if skip(bytes, after) < bytes.len() {
         return Err(ErrorKind::Syntax);

@@ -1,21 +1,27 @@
 //! Strings.
 
-ghost use Rattle.std.specs.Prelude.{◌≡◌, ◌+◌, ◌-◌, ◌<◌, ◌≤◌, ℕ, Some, None, length, drop, IfOk, IfErr, OnOk, OnErr, MatchResult, IsTrue, ◌↔◌, ◌≢◌, ◌==◌, slice_index};
+ghost use Rattle.std.specs.Prelude.{◌≡◌, ◌+◌, ◌-◌, ◌<◌, ◌≤◌, ℕ, Some, None, length, drop, IfOk, IfErr, OnOk, OnErr, MatchResult, IsTrue, ◌↔◌, ◌≢◌, ◌==◌, slice_index, IsUtf8};
 ghost use Rattle.sj_tape.specs.Pieces.{after, PutsText};
 ghost use Rattle.sj_tape.specs.Parse as parse;
 
 use crate::reader::escape::escape;
-use crate::reader::piece::{Piece, push};
+use crate::reader::piece::Piece;
 use crate::reader::run::plain_end;
+use crate::reader::sink::Sink;
 use sj_text_core::ErrorKind;
 
 /// Reads the text whose first byte stands at `at`, puts its piece at the end, and answers the place
 /// after its quote.
 #[inline(always)]
-pub(crate) fn text(bytes: &[u8], at: usize, out: &mut Vec<Piece>) -> Result<usize, ErrorKind>
-    requires { at ≤ length bytes.now }
+pub(crate) fn text<S: Sink>(bytes: &[u8], at: usize, out: &mut S) -> Result<usize, ErrorKind>
+    requires at { at ≤ length bytes.now }
+    requires some { 0 < at }
+    requires quote { slice_index bytes.now (at - 1) ≡ 34 }
+    requires utf8 { IsUtf8 bytes.now }
+    requires takes { S.Takes bytes.now out.old at }
     ensures within { IfOk result (λ next. (at < next) × (next ≤ length bytes.now)) }
-    ensures ok { IfOk result (λ next. PutsText bytes.now at next out.old.items out.new.items) }
+    ensures ok { IfOk result (λ next. PutsText bytes.now at next (S.marks bytes.now out.old) (S.marks bytes.now out.new)) }
+    ensures takes { IfOk result (λ next. S.Takes bytes.now out.new next) }
     ensures err { IfErr result (λ e. e ≢ ErrorKind.OutOfMemory → parse.text_at (drop at bytes.now) ≡ None) }
     ensures kind { IfErr result (λ e. e ≢ ErrorKind.InvalidUtf8) }
 {
@@ -24,14 +30,14 @@ pub(crate) fn text(bytes: &[u8], at: usize, out: &mut Vec<Piece>) -> Result<usiz
         return Err(ErrorKind::Syntax);
     }
     if bytes[end] == b'"' {
-        push(out, Piece::Text { start: at, end })?;
+        out.put(bytes, Piece::Text { start: at, end })?;
         return Ok(end + 1);
     }
     if bytes[end] != b'\\' {
         return Err(ErrorKind::Syntax);
     }
     let end = escaped_end(bytes, end)?;
-    push(out, Piece::Escaped { start: at, end })?;
+    out.put(bytes, Piece::Escaped { start: at, end })?;
     Ok(end + 1)
 }
 

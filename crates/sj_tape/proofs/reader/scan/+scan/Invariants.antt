@@ -1,49 +1,48 @@
 use Rattle.std.proofs.Common.{◌*◌, ◌+◌, ◌-◌, ◌≤◌, length, drop}
 use Rattle.sj_tape.specs.Parse.{parts_at, value_at, member_at}
-use Rattle.sj_tape.specs.Pieces.{piece_marks, InOrder}
 use Rattle.sj_tape.proofs.Parts.{Progress, item_flats, member_flats}
 use Rattle.sj_tape.proofs.reader.scan.+scan.Given as goal
 
 abbrev pub decreases-value : goal.decreases-value
-decreases-value l = 4 * l.depth
+decreases-value g l = 4 * l.depth
 
 abbrev pub decreases-array : goal.decreases-array
-decreases-array l = 4 * l.depth + 3
+decreases-array g l = 4 * l.depth + 3
 
 abbrev pub decreases-object : goal.decreases-object
-decreases-object l = 4 * l.depth + 3
+decreases-object g l = 4 * l.depth + 3
 
 abbrev pub decreases-items : goal.decreases-items
-decreases-items l = 4 * l.depth + 2
+decreases-items g l = 4 * l.depth + 2
 
 abbrev pub decreases-members : goal.decreases-members
-decreases-members l = 4 * l.depth + 2
+decreases-members g l = 4 * l.depth + 2
 
 abbrev pub decreases-member : goal.decreases-member
-decreases-member l = 4 * l.depth + 1
+decreases-member g l = 4 * l.depth + 1
 
 abbrev pub invariant-items-loop-after : goal.invariant-items-loop-after
-invariant-items-loop-after l = record {
+invariant-items-loop-after g l = record {
   low : l.at + l.len ≤ l.place;
   high : l.place ≤ length l.bytes;
   progress : Progress item_flats (parts_at 93 (value_at l.depth) (length l.bytes - l.at - l.len) (drop l.place l.bytes))
       (parts_at 93 (value_at l.depth) (length l.bytes - l.at) (drop l.at l.bytes))
-      (piece_marks l.bytes l.initial.out.items) (piece_marks l.bytes l.out.items) l.len;
-  inside : InOrder l.bytes 0 l.initial.out.items l.at → InOrder l.bytes 0 l.out.items l.place;
+      (g.S.Sink.marks l.bytes l.initial.out) (g.S.Sink.marks l.bytes l.out) l.len;
+  takes : g.S.Sink.Takes l.bytes l.out l.place;
 }
 
 abbrev pub decreases-items-loop-after : goal.decreases-items-loop-after
-decreases-items-loop-after l = length l.bytes - l.place
+decreases-items-loop-after g l = length l.bytes - l.place
 
 abbrev pub invariant-members-loop-after : goal.invariant-members-loop-after
-invariant-members-loop-after l = record {
+invariant-members-loop-after g l = record {
   low : l.at + l.len ≤ l.place;
   high : l.place ≤ length l.bytes;
   progress : Progress member_flats (parts_at 125 (member_at (value_at l.depth)) (length l.bytes - l.at - l.len) (drop l.place l.bytes))
       (parts_at 125 (member_at (value_at l.depth)) (length l.bytes - l.at) (drop l.at l.bytes))
-      (piece_marks l.bytes l.initial.out.items) (piece_marks l.bytes l.out.items) l.len;
-  inside : InOrder l.bytes 0 l.initial.out.items l.at → InOrder l.bytes 0 l.out.items l.place;
+      (g.S.Sink.marks l.bytes l.initial.out) (g.S.Sink.marks l.bytes l.out) l.len;
+  takes : g.S.Sink.Takes l.bytes l.out l.place;
 }
 
 abbrev pub decreases-members-loop-after : goal.decreases-members-loop-after
-decreases-members-loop-after l = length l.bytes - l.place
+decreases-members-loop-after g l = length l.bytes - l.place

@@ -2,21 +2,22 @@ use Rattle.std.proofs.Common.{refl, ◌∙◌, arith, true, false}
 use Rattle.std.proofs.lemmas.Result.{err_from_is_err_and}
 use Rattle.sj_text_core.specs.Tree.{null, boolean}
 use Rattle.sj_tape.specs.Parse.{nothing_at}
+use Rattle.sj_tape.specs.declared.reader.piece.Piece.TheVariants.{Null, Bool}
 use Rattle.sj_tape.proofs.Scalars.{null_at, true_at, false_at, nothing_else}
 use Rattle.sj_tape.proofs.reader.scan.word.Goals as goal
 
 pub returns-clause-err : goal.returns-clause-err
-returns-clause-err c = λ _. nothing_else nothing_at nothing_at c.args.bytes.now c.args.at c.requires.at c.requires.first c.requires.no_list c.requires.no_object c.if-byte-eq110.false c.if-byte-eq116.false c.if-byte-eq102.false
+returns-clause-err g c = λ _. nothing_else nothing_at nothing_at c.args.bytes.now c.args.at c.requires.at c.requires.first c.requires.no_list c.requires.no_object c.if-byte-eq110.false c.if-byte-eq116.false c.if-byte-eq102.false
 
 pub returns-in_err-next-clause-err : goal.returns-in_err-next-clause-err
-returns-in_err-next-clause-err c =
+returns-in_err-next-clause-err g c =
     let p = err_from_is_err_and c.from_residual.result c.from_residual.ensures.1 in
     rw (p.1, p.2) (λ _. null_at nothing_at nothing_at c.args.bytes.now c.args.at c.requires.at c.if-byte-eq110.true ∙ c.in_err-next.ensures.err null)
 
 pub returns-then-byte-eq110-clause-ok : goal.returns-then-byte-eq110-clause-ok
-returns-then-byte-eq110-clause-ok c = record {
-  piece = _;
-  items = c.in_ok-push.ensures.items;
+returns-then-byte-eq110-clause-ok g c = record {
+  piece = Null;
+  items = c.in_ok-put.ensures.marks;
   between = omega (arith, c.in_ok-next.ensures.within.0);
   reads = record {
     tree = null;
@@ -26,14 +27,14 @@ returns-then-byte-eq110-clause-ok c = record {
 }
 
 pub returns-in_err-next-2-clause-err : goal.returns-in_err-next-2-clause-err
-returns-in_err-next-2-clause-err c =
+returns-in_err-next-2-clause-err g c =
     let p = err_from_is_err_and c.from_residual-in_err-next-2.result c.from_residual-in_err-next-2.ensures.1 in
     rw (p.1, p.2) (λ _. true_at nothing_at nothing_at c.args.bytes.now c.args.at c.requires.at c.if-byte-eq116.true ∙ c.in_err-next-2.ensures.err (boolean true))
 
 pub returns-then-byte-eq116-clause-ok : goal.returns-then-byte-eq116-clause-ok
-returns-then-byte-eq116-clause-ok c = record {
-  piece = _;
-  items = c.in_ok-push-2.ensures.items;
+returns-then-byte-eq116-clause-ok g c = record {
+  piece = Bool true;
+  items = c.in_ok-put-2.ensures.marks;
   between = omega (arith, c.in_ok-next-2.ensures.within.0);
   reads = record {
     tree = boolean true;
@@ -43,14 +44,14 @@ returns-then-byte-eq116-clause-ok c = record {
 }
 
 pub returns-in_err-next-3-clause-err : goal.returns-in_err-next-3-clause-err
-returns-in_err-next-3-clause-err c =
+returns-in_err-next-3-clause-err g c =
     let p = err_from_is_err_and c.from_residual-in_err-next-3.result c.from_residual-in_err-next-3.ensures.1 in
     rw (p.1, p.2) (λ _. false_at nothing_at nothing_at c.args.bytes.now c.args.at c.requires.at c.if-byte-eq102.true ∙ c.in_err-next-3.ensures.err (boolean false))
 
 pub returns-then-byte-eq102-clause-ok : goal.returns-then-byte-eq102-clause-ok
-returns-then-byte-eq102-clause-ok c = record {
-  piece = _;
-  items = c.in_ok-push-3.ensures.items;
+returns-then-byte-eq102-clause-ok g c = record {
+  piece = Bool false;
+  items = c.in_ok-put-3.ensures.marks;
   between = omega (arith, c.in_ok-next-3.ensures.within.0);
   reads = record {
     tree = boolean false;

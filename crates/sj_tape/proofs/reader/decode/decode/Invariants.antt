@@ -1,6 +1,6 @@
 use Rattle.std.proofs.Common.{◌≡◌, ◌≤◌, ◌-◌, length}
 use Rattle.sj_tape.proofs.Passes.{Decoding}
-use Rattle.sj_tape.proofs.reader.decode.decode_all.Given as goal
+use Rattle.sj_tape.proofs.reader.decode.decode.Given as goal
 
 abbrev pub invariant-loop-place : goal.invariant-loop-place
 invariant-loop-place l = record {
