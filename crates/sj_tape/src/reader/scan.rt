@@ -32,7 +32,7 @@ fn text_or_number<S: Sink>(bytes: &[u8], at: usize, out: &mut S) -> Result<usize
 }
 
 /// Reads the word at `at`.
-#[inline(always)]
+#[inline(never)]
 fn word<S: Sink>(bytes: &[u8], at: usize, out: &mut S) -> Result<usize, ErrorKind>
     requires at { at < length bytes.now }
     requires first { 57 < slice_index bytes.now at }
