@@ -1,14 +1,13 @@
 -- Texts are decoded one after another.
-use Rattle.std.proofs.Common.{◌≡◌, ◌≢◌, ℕ, zero, suc, ◌+◌, ◌-◌, ◌<◌, ◌≤◌, List, [], ◌∷◌, ◌++◌, length, take, drop, set, Option, Some, None, is_some, false, ◌==◌, refl, sym, ap, subst, ◌∙◌, arith, length-drop}
+use Rattle.std.proofs.Common.{◌≡◌, ◌≢◌, ℕ, zero, suc, ◌+◌, ◌-◌, ◌<◌, ◌≤◌, List, [], ◌∷◌, ◌++◌, length, take, drop, set, Some, None, refl, sym, ap, subst, ◌∙◌, arith, length-drop}
 use Rattle.std.specs.Prelude.{slice_range}
 use Rattle.std.specs.List.{AllByRecursion}
-use Rattle.memchr.specs.Find.{IsFirstByte, is_byte}
 use Rattle.std.proofs.lemmas.Option.{none-some, some_pair_parts}
 use Rattle.std.proofs.lemmas.List.{take-append-drop, length-take-le, map-append, take_all}
 use Rattle.std.proofs.lemmas.List.Elements.{All-from_recursion}
 use Rattle.sj_text_core.specs.Nodes.{string}
 use Rattle.sj_tape.specs.Parse.{text_at, number_at}
-use Rattle.sj_tape.specs.Pieces.{after, text_of, number_mark, piece_mark, piece_marks, spelling_of, HasBackslash, IsBetween, InOrder, IsInside, AreInside}
+use Rattle.sj_tape.specs.Pieces.{after, text_of, number_mark, piece_mark, piece_marks, spelling_of, IsBetween, InOrder, IsInside, AreInside}
 use Rattle.sj_tape.specs.declared.reader.piece.Piece.{Piece}
 use Rattle.sj_tape.specs.declared.reader.piece.Piece.TheVariants.{Null, Bool, Integer, Wide, Text, Escaped, Array, Object}
 use Rattle.sj_tape.proofs.Decode.{drop_front, take_front, same_rest, EndsAt}
@@ -144,30 +143,6 @@ plain_inside b old lo hi (Text s t) n e h = (h.1, omega (arith, h.2))
 plain_inside b old lo hi (Escaped s t) n e h = absurd (none-some (s, t) (sym n))
 plain_inside b old lo hi (Array x y) n e h = tt
 plain_inside b old lo hi (Object x y) n e h = tt
-
-no_spelling : (b : List ℕ) (lo hi : ℕ) (p : Piece) → ¬ (HasBackslash b) → IsBetween b lo hi p → spelling_of p ≡ None
-no_spelling b lo hi Null n h = refl
-no_spelling b lo hi (Bool x) n h = refl
-no_spelling b lo hi (Integer y x) n h = refl
-no_spelling b lo hi (Wide s t) n h = refl
-no_spelling b lo hi (Text s t) n h = refl
-no_spelling b lo hi (Escaped s t) n h = absurd (n h.4)
-no_spelling b lo hi (Array x y) n h = refl
-no_spelling b lo hi (Object x y) n h = refl
-
-all_plain_from : (b : List ℕ) (lo : ℕ) (ps : List Piece) → ¬ (HasBackslash b) → InOrder b lo ps (length b) → AllByRecursion (IsInside b (length b)) ps
-all_plain_from b lo [] n h = tt
-all_plain_from b lo (p ∷ ps) n h =
-    (inside_wider b h.0 (length b) p (order_le b h.0 ps (length b) h.2) (plain_inside b b lo h.0 p (no_spelling b lo h.0 p n h.1) refl h.1), all_plain_from b h.0 ps n h.2)
-
--- without a backslash nothing is to be decoded
-pub all_plain : (b : List ℕ) (ps : List Piece) → ¬ (HasBackslash b) → InOrder b 0 ps (length b) → AreInside b ps
-all_plain b ps n h = All-from_recursion (IsInside b (length b)) ps (all_plain_from b 0 ps n h)
-
--- a search that found none
-pub no_backslash : (b : List ℕ) (r : Option ℕ) → is_some r ≡ false → IsFirstByte (is_byte 92) b r → ¬ (HasBackslash b)
-no_backslash b None e h = λ k. h k.0 (omega arith) k.1 (ap (λ c. c == 92) k.2)
-no_backslash b (Some n) e h = cc
 
 -- a piece that is no spelling stays
 pub skipped : (old : List ℕ) (from : List Piece) (b : List ℕ) (ps : List Piece) (i : ℕ) (p : Piece) → Decoding old from b ps i → drop i ps ≡ p ∷ drop (i + 1) ps → spelling_of p ≡ None → Decoding old from b ps (i + 1)

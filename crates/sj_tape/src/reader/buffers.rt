@@ -6,8 +6,9 @@ ghost use Rattle.sj_tape.specs.Room.{room};
 use crate::reader::piece::Piece;
 use std::alloc::{AllocError, Global};
 
-/// Memory that readings share, one after another. What a reading answers does not depend on what
-/// was read with the same buffers before, and they can be used again whatever it answered.
+/// Memory that readings share, one after another; texts without a backslash are read without it.
+/// What a reading answers does not depend on what was read with the same buffers before, and they
+/// can be used again whatever it answered.
 #[derive(Drop)]
 pub struct Buffers {
     pub(crate) pieces: Vec<Piece>,
