@@ -96,7 +96,7 @@ for members in 0 32; do
 done
 each capacity $'call: AllocError\nagain made\n' $'call: made\nagain made\n'
 free 'insert present' $'call: replaced, value as before, 32 members\n'
-free room $'call: filled, 40 members\n'
+free room $'call: filled, 32 members\n'
 free 'map reads' $'call: found, 32 members\n'
 
 # writes CALL GENERATOR WRITTEN

@@ -29,8 +29,14 @@ fn numbered(alloc: Global, members: u64) -> Result<Numbers, Fault> {
     Ok(map)
 }
 
-/// Whether the map has these keys in order, each with its place for its value, and no buckets.
-fn is_numbered(map: &Numbers, keys: &[String]) -> bool {
+/// How many buckets a map has that grew to so many members, and not past 64.
+fn buckets_at(members: usize) -> Option<usize> {
+    if members > 32 { Some(64) } else { None }
+}
+
+/// Whether the map has these keys in order, each with its place for its value, and so many
+/// buckets.
+fn is_numbered(map: &Numbers, keys: &[String], buckets: Option<usize>) -> bool {
     let mut place = 0;
     for (key, value) in map.iter() {
         let is_next = match keys.get(place) {
@@ -42,7 +48,7 @@ fn is_numbered(map: &Numbers, keys: &[String]) -> bool {
         }
         place += 1;
     }
-    place == keys.len() && map.len() == place && map.buckets().is_none()
+    place == keys.len() && map.len() == place && map.buckets() == buckets
 }
 
 /// Inserts a new key behind so many members, or one that is there.
@@ -71,14 +77,14 @@ fn insert_new(rt: &(impl Print + AllocGlobal), members: u8) -> Result<(), Fault>
                 .last()
                 .is_some_and(|last| last.as_str() == key.as_str());
             say_kept(rt, "key and value", is_key && value == members)?;
-            say_kept(rt, "map", is_numbered(&map, &before))?;
+            say_kept(rt, "map", is_numbered(&map, &before, buckets_at(before.len())))?;
             if map.insert(key, value).is_err() {
                 return Err(Fault::OutOfMemory);
             }
             say(rt, "then inserted, ")?;
         }
     }
-    tell_map(rt, &map, &after)
+    tell_map(rt, &map, &after, buckets_at(after.len()))
 }
 
 fn insert_present(rt: &(impl Print + AllocGlobal)) -> Result<(), Fault> {
@@ -96,12 +102,17 @@ fn insert_present(rt: &(impl Print + AllocGlobal)) -> Result<(), Fault> {
         say_kept(rt, "value", *value == 99)?;
         *value = 5;
     }
-    tell_map(rt, &map, &keys)
+    tell_map(rt, &map, &keys, None)
 }
 
 /// Tells how many members the map has, if they are as they should be.
-fn tell_map(rt: &(impl Print + AllocGlobal), map: &Numbers, keys: &[String]) -> Result<(), Fault> {
-    if !is_numbered(map, keys) {
+fn tell_map(
+    rt: &(impl Print + AllocGlobal),
+    map: &Numbers,
+    keys: &[String],
+    buckets: Option<usize>,
+) -> Result<(), Fault> {
+    if !is_numbered(map, keys, buckets) {
         return say(rt, "WRONG MEMBERS\n");
     }
     let len = map.len();
@@ -120,21 +131,21 @@ pub fn with_capacity(rt: &(impl Print + AllocGlobal)) -> Result<(), Fault> {
     say_made(rt, with_room(rt.alloc()).is_ok())
 }
 
-/// Fills a map that was made with room for 40 members, and reads it.
+/// Puts 32 members into a map that was made with room for 40, and reads it.
 pub fn fill_room(rt: &(impl Print + AllocGlobal)) -> Result<(), Fault> {
     let alloc = rt.alloc();
     let mut map = with_room(alloc)?;
-    let keys = keys_of(alloc, 40)?;
-    let mut given = keys_of(alloc, 40)?.into_iter();
+    let keys = keys_of(alloc, 32)?;
+    let mut given = keys_of(alloc, 32)?.into_iter();
     let mut is_filled = true;
     say_call(rt)?;
-    for number in 0..40 {
+    for number in 0..32 {
         if let Some(key) = given.next() {
             is_filled = is_filled && map.insert(key, number).is_ok();
         }
     }
     say(rt, if is_filled { "filled, " } else { "REFUSED, " })?;
-    tell_map(rt, &map, &keys)
+    tell_map(rt, &map, &keys, None)
 }
 
 /// Reads a map of 33 members in every way, and takes one out.
@@ -150,5 +161,5 @@ pub fn reads(rt: &(impl Print + AllocGlobal)) -> Result<(), Fault> {
         && map.get_mut("k08").is_some()
         && map.remove("k32") == Some(32);
     say(rt, if found { "found, " } else { "NOT FOUND, " })?;
-    tell_map(rt, &map, &keys)
+    tell_map(rt, &map, &keys, buckets_at(33))
 }

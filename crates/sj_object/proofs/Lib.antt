@@ -1,6 +1,10 @@
 pub mod Repeats
 pub mod Position
 pub mod Lent
+pub mod Chains
+pub mod Walked
+pub mod Hashed
+pub mod Added
 pub mod Shown
 pub mod Kept
 pub mod Walks

@@ -1,20 +1,27 @@
 -- Piles, and the trees that nodes are.
-use Rattle.std.proofs.Common.{◌≡◌, ℕ, zero, suc, ◌+◌, ◌*◌, ◌≤◌, ◌<◌, Bool, true, false, ◌||◌, List, [], ◌∷◌, ◌++◌, map, take, drop, length, get_or, refl, ap, sym, ◌∙◌, append_assoc, append-nil, arith, All, subst, Some, Bor, drop-cons, bytes_eq}
+use Rattle.std.proofs.Common.{◌≡◌, ℕ, zero, suc, ◌+◌, ◌*◌, ◌≤◌, ◌<◌, Bool, true, false, ◌||◌, List, [], ◌∷◌, ◌++◌, map, take, drop, length, get_or, refl, ap, sym, ◌∙◌, append_assoc, append-nil, arith, All, subst, Some, Bor, drop-cons, bytes_eq, IsTrue}
 use Rattle.std.specs.Bool.{if◌then◌else◌}
-use Rattle.std.proofs.lemmas.List.Elements.{All-pop}
+use Rattle.std.specs.List.{AllByRecursion}
+use Rattle.std.proofs.lemmas.List.Elements.{All-pop, All-from_recursion, recursion_from_All}
+use Rattle.sj_object.specs.Builder.{AreMade}
 use Rattle.sj_text_core.specs.Tree.{Tree, null, boolean, int, text, list, obj, Items, no_items, item, Members, no_members, member, items_len, members_len, items_from, members_from}
 use Rattle.sj_text_core.specs.Nodes.{Mark, nothing, truth, number, string, array, object, flat, flat_items, flat_members, trees_of, tree_of, items_of, members_of, IsPreorder}
 use Rattle.sj_text_core.specs.Keep.{is_seen, keep, keep_items, keep_members}
+use Rattle.sj_text_core.specs.Edits as members
+use Rattle.sj_text_core.specs.Repeats.{keep_by, keep_last_items, keep_last_values, put_all}
+use Rattle.sj_text_core.specs.declared.repeats.Repeats.{Repeats}
+use Rattle.sj_text_core.specs.declared.repeats.Repeats.TheVariants.{First, Last}
 use Rattle.sj_tape.specs.Marks.{static_mark}
 use Rattle.sj_text_core.specs.Scalars.{static_tree}
 use Rattle.sj_text_core.specs.Flat.{paired, trees_of-flat, trees_of-flat_members}
 use Rattle.sj_text_core.specs.declared.static_node.StaticNode.{StaticNode}
 use Rattle.sj_text_core.specs.declared.static_node.StaticNode.TheVariants as scalar
 use Rattle.sj_object.specs.Entries.{Entry, texts}
+use Rattle.sj_object.specs.Edits as edits
 use Rattle.sj_object.specs.Members.{entry_members}
 use Rattle.sj_object.specs.declared.build.Part.TheVariants as part
 use Rattle.sj_object.specs.declared.build.Part.{Part}
-use Rattle.sj_object.specs.Piles.{Seen, word, whole, seen, tree_seen, part_seen, part_built, pile_onto, pile, pairs_seen, HasPairs, HasWord, keys_of, kept, shown, Needs, grown}
+use Rattle.sj_object.specs.Piles.{Seen, word, whole, seen, tree_seen, part_seen, part_built, pile_onto, pile, pairs_seen, HasPairs, HasWord, keys_of, kept, kept_by, put_pair, in_turn, shown, Needs, grown}
 
 -- ---- one part more, or less
 
@@ -114,8 +121,39 @@ seen_tree (text s) = refl
 seen_tree (list is) = refl
 seen_tree (obj ms) = refl
 
-abbrev pub kept_seen : List Tree → List Seen
-kept_seen ts = map (λ t. seen (keep t)) ts
+abbrev items_by : Repeats → Items → Items
+items_by First is = keep_items is
+items_by Last is = keep_last_items is
+
+abbrev members_by : Repeats → Members → Members
+members_by First ms = keep_members [] ms
+members_by Last ms = put_all no_members (keep_last_values ms)
+
+-- a tree with the members that count, by its own cases
+abbrev pub seen_by : Repeats → Tree → Seen
+seen_by c null = whole null
+seen_by c (boolean b) = whole (boolean b)
+seen_by c (int n d) = whole (int n d)
+seen_by c (text s) = word s
+seen_by c (list is) = whole (list (items_by c is))
+seen_by c (obj ms) = whole (obj (members_by c ms))
+
+pub seen_kept : (c : Repeats) (t : Tree) → tree_seen (seen_by c t) ≡ keep_by c t
+seen_kept First null = refl
+seen_kept First (boolean b) = refl
+seen_kept First (int n c) = refl
+seen_kept First (text s) = refl
+seen_kept First (list is) = refl
+seen_kept First (obj ms) = refl
+seen_kept Last null = refl
+seen_kept Last (boolean b) = refl
+seen_kept Last (int n c) = refl
+seen_kept Last (text s) = refl
+seen_kept Last (list is) = refl
+seen_kept Last (obj ms) = refl
+
+abbrev pub kept_seen : Repeats → List Tree → List Seen
+kept_seen c ts = map (seen_by c) ts
 
 abbrev Agree : List (List ℕ × Tree) → List (List ℕ) → Type 0
 Agree done ks = (k : List ℕ) → is_seen k (keys_of done) ≡ is_seen k ks
@@ -132,8 +170,8 @@ choose false false e k t done rest u v x y = y ∙ join_push done k t v
 choose true false e k t done rest u v x y = cc
 choose false true e k t done rest u v x y = cc
 
-pub keeps_first : (n : ℕ) (ts : List Tree) (done : List (List ℕ × Tree)) (ks : List (List ℕ)) → HasPairs n (kept_seen ts) → Agree done ks
-    → members_from (kept done (pairs_seen n (kept_seen ts))) ≡ join done (keep_members ks (members_of n ts))
+pub keeps_first : (n : ℕ) (ts : List Tree) (done : List (List ℕ × Tree)) (ks : List (List ℕ)) → HasPairs n (kept_seen First ts) → Agree done ks
+    → members_from (kept done (pairs_seen n (kept_seen First ts))) ≡ join done (keep_members ks (members_of n ts))
 keeps_first zero ts done ks h a = join_end done
 keeps_first (suc n) [] done ks h a = absurd h
 keeps_first (suc n) (null ∷ ts) done ks h a = absurd h
@@ -143,53 +181,86 @@ keeps_first (suc n) (list is ∷ ts) done ks h a = absurd h
 keeps_first (suc n) (obj ms ∷ ts) done ks h a = absurd h
 keeps_first (suc n) (text s ∷ []) done ks h a = absurd h
 keeps_first (suc n) (text s ∷ t ∷ ts) done ks h a =
-    ap (λ u. members_from (kept (if is_seen s (keys_of done) then done else done ++ (s, u) ∷ []) (pairs_seen n (kept_seen ts)))) (seen_tree (keep t))
-    ∙ choose (is_seen s (keys_of done)) (is_seen s ks) (a s) s (keep t) done (pairs_seen n (kept_seen ts)) _ _
+    ap (λ u. members_from (kept (if is_seen s (keys_of done) then done else done ++ (s, u) ∷ []) (pairs_seen n (kept_seen First ts)))) (seen_kept First t)
+    ∙ choose (is_seen s (keys_of done)) (is_seen s ks) (a s) s (keep t) done (pairs_seen n (kept_seen First ts)) _ _
     (keeps_first n ts done ks h a)
     (keeps_first n ts (done ++ (s, keep t) ∷ []) (s ∷ ks) h (agree_more done ks s (keep t) a))
 
-items_kept : (n : ℕ) (ts : List Tree) → items_from (map tree_seen (take n (kept_seen ts))) ≡ keep_items (items_of n ts)
-items_kept zero ts = refl
-items_kept (suc n) [] = refl
-items_kept (suc n) (t ∷ ts) = ap (λ u. item u (items_from (map tree_seen (take n (kept_seen ts))))) (seen_tree (keep t)) ∙ ap (item (keep t)) (items_kept n ts)
+members_from-put : (k : List ℕ) (t : Tree) (ps : List (List ℕ × Tree)) → members_from (put_pair k t ps) ≡ members.put k t (members_from ps)
+members_from-put k t [] = refl
+members_from-put k t (p ∷ ps) = by_test (bytes_eq k p.0) (members_from-put k t ps)
+  where
+    by_test : (b : Bool) → members_from (put_pair k t ps) ≡ members.put k t (members_from ps)
+        → members_from (if b then (p.0, t) ∷ ps else p ∷ put_pair k t ps) ≡ (if b then member p.0 t (members_from ps) else member p.0 p.1 (members.put k t (members_from ps)))
+    by_test true e = refl
+    by_test false e = ap (member p.0 p.1) e
 
-drop_kept : (n : ℕ) (ts : List Tree) → drop n (kept_seen ts) ≡ kept_seen (drop n ts)
-drop_kept zero ts = refl
-drop_kept (suc n) [] = refl
-drop_kept (suc n) (t ∷ ts) = drop_kept n ts
+pub puts_last : (n : ℕ) (ts : List Tree) (done : List (List ℕ × Tree)) → HasPairs n (kept_seen Last ts)
+    → members_from (in_turn done (pairs_seen n (kept_seen Last ts))) ≡ put_all (members_from done) (keep_last_values (members_of n ts))
+puts_last zero ts done h = refl
+puts_last (suc n) [] done h = absurd h
+puts_last (suc n) (null ∷ ts) done h = absurd h
+puts_last (suc n) (boolean b ∷ ts) done h = absurd h
+puts_last (suc n) (int i c ∷ ts) done h = absurd h
+puts_last (suc n) (list is ∷ ts) done h = absurd h
+puts_last (suc n) (obj ms ∷ ts) done h = absurd h
+puts_last (suc n) (text s ∷ []) done h = absurd h
+puts_last (suc n) (text s ∷ t ∷ ts) done h =
+    puts_last n ts (put_pair s (tree_seen (seen_by Last t)) done) h
+    ∙ ap (λ ms. put_all ms (keep_last_values (members_of n ts))) (members_from-put s (tree_seen (seen_by Last t)) done ∙ ap (λ u. members.put s u (members_from done)) (seen_kept Last t))
 
-abbrev pub ahead : List Mark → List Seen
-ahead ns = kept_seen (trees_of ns)
+no_items_by : (c : Repeats) → no_items ≡ items_by c no_items
+no_items_by First = refl
+no_items_by Last = refl
+
+item_by : (c : Repeats) (t : Tree) (is : Items) → item (keep_by c t) (items_by c is) ≡ items_by c (item t is)
+item_by First t is = refl
+item_by Last t is = refl
+
+items_kept : (c : Repeats) (n : ℕ) (ts : List Tree) → items_from (map tree_seen (take n (kept_seen c ts))) ≡ items_by c (items_of n ts)
+items_kept c zero ts = no_items_by c
+items_kept c (suc n) [] = no_items_by c
+items_kept c (suc n) (t ∷ ts) =
+    ap (λ u. item u (items_from (map tree_seen (take n (kept_seen c ts))))) (seen_kept c t) ∙ ap (item (keep_by c t)) (items_kept c n ts) ∙ item_by c t (items_of n ts)
+
+drop_kept : (c : Repeats) (n : ℕ) (ts : List Tree) → drop n (kept_seen c ts) ≡ kept_seen c (drop n ts)
+drop_kept c zero ts = refl
+drop_kept c (suc n) [] = refl
+drop_kept c (suc n) (t ∷ ts) = drop_kept c n ts
+
+members_kept : (c : Repeats) (n : ℕ) (ts : List Tree) → HasPairs n (kept_seen c ts) → members_from (kept_by c [] (pairs_seen n (kept_seen c ts))) ≡ members_by c (members_of n ts)
+members_kept First n ts h = keeps_first n ts [] [] h (λ k. refl)
+members_kept Last n ts h = puts_last n ts [] h
+
+abbrev pub ahead : Repeats → List Mark → List Seen
+ahead c ns = kept_seen c (trees_of ns)
 
 -- what a node does to the pile, it does to the trees ahead
-pub grown_kept : (m : Mark) (ns : List Mark) → Needs m (ahead ns) → grown m (ahead ns) ≡ ahead (m ∷ ns)
-grown_kept nothing ns h = refl
-grown_kept (truth b) ns h = refl
-grown_kept (number n c) ns h = refl
-grown_kept (string s) ns h = refl
-grown_kept (array len count) ns h =
-    ap (λ is. whole (list is) ∷ drop len (ahead ns)) (items_kept len (trees_of ns))
-    ∙ ap (λ l. whole (list (keep_items (items_of len (trees_of ns)))) ∷ l) (drop_kept len (trees_of ns))
-grown_kept (object len count) ns h =
-    ap (λ ms. whole (obj ms) ∷ drop (2 * len) (ahead ns)) (first_members len (trees_of ns) h)
-    ∙ ap (λ l. whole (obj (keep_members [] (members_of len (trees_of ns)))) ∷ l) (drop_kept (2 * len) (trees_of ns))
-  where
-    first_members : (n : ℕ) (ts : List Tree) → HasPairs n (kept_seen ts) → members_from (kept [] (pairs_seen n (kept_seen ts))) ≡ keep_members [] (members_of n ts)
-    first_members n ts h = keeps_first n ts [] [] h (λ k. refl)
+pub grown_kept : (c : Repeats) (m : Mark) (ns : List Mark) → Needs m (ahead c ns) → grown c m (ahead c ns) ≡ ahead c (m ∷ ns)
+grown_kept c nothing ns h = refl
+grown_kept c (truth b) ns h = refl
+grown_kept c (number n d) ns h = refl
+grown_kept c (string s) ns h = refl
+grown_kept c (array len count) ns h =
+    ap (λ is. whole (list is) ∷ drop len (ahead c ns)) (items_kept c len (trees_of ns))
+    ∙ ap (λ l. whole (list (items_by c (items_of len (trees_of ns)))) ∷ l) (drop_kept c len (trees_of ns))
+grown_kept c (object len count) ns h =
+    ap (λ ms. whole (obj ms) ∷ drop (2 * len) (ahead c ns)) (members_kept c len (trees_of ns) h)
+    ∙ ap (λ l. whole (obj (members_by c (members_of len (trees_of ns)))) ∷ l) (drop_kept c (2 * len) (trees_of ns))
 
-pub grown_static : (n : StaticNode) (ps : List Seen) → grown (static_mark n) ps ≡ whole (static_tree n) ∷ ps
-grown_static scalar.Null ps = refl
-grown_static (scalar.Bool b) ps = refl
-grown_static (scalar.I64 n) ps = refl
-grown_static (scalar.U64 n) ps = refl
-grown_static (scalar.I128 n) ps = refl
-grown_static (scalar.U128 n) ps = refl
+pub grown_static : (c : Repeats) (n : StaticNode) (ps : List Seen) → grown c (static_mark n) ps ≡ whole (static_tree n) ∷ ps
+grown_static c scalar.Null ps = refl
+grown_static c (scalar.Bool b) ps = refl
+grown_static c (scalar.I64 n) ps = refl
+grown_static c (scalar.U64 n) ps = refl
+grown_static c (scalar.I128 n) ps = refl
+grown_static c (scalar.U128 n) ps = refl
 
 -- ---- the nodes of a tree have each container's parts ahead
 
-abbrev pub IsFull : List Mark → Type 0
-IsFull [] = Unit {0}
-IsFull (m ∷ ns) = Needs m (ahead ns) × IsFull ns
+abbrev pub IsFull : Repeats → List Mark → Type 0
+IsFull c [] = Unit {0}
+IsFull c (m ∷ ns) = Needs m (ahead c ns) × IsFull c ns
 
 -- items as a list
 abbrev listed : Items → List Tree
@@ -201,40 +272,40 @@ trees_of-flat_items no_items ns = refl
 trees_of-flat_items (item t is) ns =
     rw (append_assoc (flat t) (flat_items is) ns, trees_of-flat t (flat_items is ++ ns), trees_of-flat_items is ns) refl
 
-enough : (is : Items) (ts : List Tree) → items_len is ≤ length (kept_seen (listed is ++ ts))
-enough no_items ts = omega arith
-enough (item t is) ts = omega (arith, enough is ts)
+enough : (c : Repeats) (is : Items) (ts : List Tree) → items_len is ≤ length (kept_seen c (listed is ++ ts))
+enough c no_items ts = omega arith
+enough c (item t is) ts = omega (arith, enough c is ts)
 
-paired_up : (ms : Members) (ts : List Tree) → HasPairs (members_len ms) (kept_seen (paired ms ++ ts))
-paired_up no_members ts = tt
-paired_up (member k t ms) ts = paired_up ms ts
+paired_up : (c : Repeats) (ms : Members) (ts : List Tree) → HasPairs (members_len ms) (kept_seen c (paired ms ++ ts))
+paired_up c no_members ts = tt
+paired_up c (member k t ms) ts = paired_up c ms ts
 
 mutual
-  full_flat : (t : Tree) (ns : List Mark) → IsFull ns → IsFull (flat t ++ ns)
-  full_flat null ns h = (tt, h)
-  full_flat (boolean b) ns h = (tt, h)
-  full_flat (int n c) ns h = (tt, h)
-  full_flat (text s) ns h = (tt, h)
-  full_flat (list is) ns h =
-      (subst (λ ts. items_len is ≤ length (kept_seen ts)) (sym (trees_of-flat_items is ns)) (enough is (trees_of ns)), full_items is ns h)
-  full_flat (obj ms) ns h =
-      (subst (λ ts. HasPairs (members_len ms) (kept_seen ts)) (sym (trees_of-flat_members ms ns)) (paired_up ms (trees_of ns)), full_members ms ns h)
+  full_flat : (c : Repeats) (t : Tree) (ns : List Mark) → IsFull c ns → IsFull c (flat t ++ ns)
+  full_flat c null ns h = (tt, h)
+  full_flat c (boolean b) ns h = (tt, h)
+  full_flat c (int n d) ns h = (tt, h)
+  full_flat c (text s) ns h = (tt, h)
+  full_flat c (list is) ns h =
+      (subst (λ ts. items_len is ≤ length (kept_seen c ts)) (sym (trees_of-flat_items is ns)) (enough c is (trees_of ns)), full_items c is ns h)
+  full_flat c (obj ms) ns h =
+      (subst (λ ts. HasPairs (members_len ms) (kept_seen c ts)) (sym (trees_of-flat_members ms ns)) (paired_up c ms (trees_of ns)), full_members c ms ns h)
 
-  full_items : (is : Items) (ns : List Mark) → IsFull ns → IsFull (flat_items is ++ ns)
-  full_items no_items ns h = h
-  full_items (item t is) ns h = subst IsFull (sym (append_assoc (flat t) (flat_items is) ns)) (full_flat t (flat_items is ++ ns) (full_items is ns h))
+  full_items : (c : Repeats) (is : Items) (ns : List Mark) → IsFull c ns → IsFull c (flat_items is ++ ns)
+  full_items c no_items ns h = h
+  full_items c (item t is) ns h = subst (IsFull c) (sym (append_assoc (flat t) (flat_items is) ns)) (full_flat c t (flat_items is ++ ns) (full_items c is ns h))
 
-  full_members : (ms : Members) (ns : List Mark) → IsFull ns → IsFull (flat_members ms ++ ns)
-  full_members no_members ns h = h
-  full_members (member k t ms) ns h = (tt, subst IsFull (sym (append_assoc (flat t) (flat_members ms) ns)) (full_flat t (flat_members ms ++ ns) (full_members ms ns h)))
+  full_members : (c : Repeats) (ms : Members) (ns : List Mark) → IsFull c ns → IsFull c (flat_members ms ++ ns)
+  full_members c no_members ns h = h
+  full_members c (member k t ms) ns h = (tt, subst (IsFull c) (sym (append_assoc (flat t) (flat_members ms) ns)) (full_flat c t (flat_members ms ++ ns) (full_members c ms ns h)))
 
-pub full : (ns : List Mark) → IsPreorder ns → IsFull ns
-full ns h = subst IsFull (append-nil (flat (tree_of ns)) ∙ sym h) (full_flat (tree_of ns) [] tt)
+pub full : (c : Repeats) (ns : List Mark) → IsPreorder ns → IsFull c ns
+full c ns h = subst (IsFull c) (append-nil (flat (tree_of ns)) ∙ sym h) (full_flat c (tree_of ns) [] tt)
 
-full_drop : (i : ℕ) (ns : List Mark) → IsFull ns → IsFull (drop i ns)
-full_drop zero ns h = h
-full_drop (suc i) [] h = tt
-full_drop (suc i) (m ∷ ns) h = full_drop i ns h.1
+full_drop : (c : Repeats) (i : ℕ) (ns : List Mark) → IsFull c ns → IsFull c (drop i ns)
+full_drop c zero ns h = h
+full_drop c (suc i) [] h = tt
+full_drop c (suc i) (m ∷ ns) h = full_drop c i ns h.1
 
 -- ---- a turn of the loop
 
@@ -246,29 +317,29 @@ drop_map f zero xs = refl
 drop_map f (suc i) [] = refl
 drop_map f (suc i) (x ∷ xs) = drop_map f i xs
 
-module _ {X : Type 0} (f : X → Mark) (xs : List X) (n i : ℕ) (d : X) (e : suc i ≡ n) (h : i < length xs) (whole : IsPreorder (map f xs)) where
-  fits : Needs (f (get_or xs i d)) (ahead (map f (drop n xs)))
-  fits = (subst IsFull (sym (drop_map f i xs) ∙ map_drop_at f xs n i d e h) (full_drop i (map f xs) (full (map f xs) whole))).0
+module _ (c : Repeats) {X : Type 0} (f : X → Mark) (xs : List X) (n i : ℕ) (d : X) (e : suc i ≡ n) (h : i < length xs) (whole : IsPreorder (map f xs)) where
+  fits : Needs (f (get_or xs i d)) (ahead c (map f (drop n xs)))
+  fits = (subst (IsFull c) (sym (drop_map f i xs) ∙ map_drop_at f xs n i d e h) (full_drop c i (map f xs) (full c (map f xs) whole))).0
 
-  pub turn_needs : (ps : List Seen) → ps ≡ ahead (map f (drop n xs)) → Needs (f (get_or xs i d)) ps
+  pub turn_needs : (ps : List Seen) → ps ≡ ahead c (map f (drop n xs)) → Needs (f (get_or xs i d)) ps
   turn_needs ps q = subst (Needs (f (get_or xs i d))) (sym q) fits
 
-  pub turn : (ps qs : List Seen) → ps ≡ ahead (map f (drop n xs)) → qs ≡ grown (f (get_or xs i d)) ps → qs ≡ ahead (map f (drop i xs))
-  turn ps qs q g = g ∙ ap (grown (f (get_or xs i d))) q ∙ grown_kept (f (get_or xs i d)) (map f (drop n xs)) fits ∙ ap ahead (sym (map_drop_at f xs n i d e h))
+  pub turn : (ps qs : List Seen) → ps ≡ ahead c (map f (drop n xs)) → qs ≡ grown c (f (get_or xs i d)) ps → qs ≡ ahead c (map f (drop i xs))
+  turn ps qs q g = g ∙ ap (grown c (f (get_or xs i d))) q ∙ grown_kept c (f (get_or xs i d)) (map f (drop n xs)) fits ∙ ap (ahead c) (sym (map_drop_at f xs n i d e h))
 
 pub drop_end : {X : Type 0} (xs : List X) → drop (length xs) xs ≡ []
 drop_end [] = refl
 drop_end (x ∷ xs) = drop_end xs
 
-pub at_end : (ns : List Mark) → IsPreorder ns → ahead ns ≡ seen (keep (tree_of ns)) ∷ []
-at_end ns h = ap ahead (h ∙ sym (append-nil (flat (tree_of ns)))) ∙ ap kept_seen (trees_of-flat (tree_of ns) [])
+pub at_end : (c : Repeats) (ns : List Mark) → IsPreorder ns → ahead c ns ≡ seen_by c (tree_of ns) ∷ []
+at_end c ns h = ap (ahead c) (h ∙ sym (append-nil (flat (tree_of ns)))) ∙ ap (kept_seen c) (trees_of-flat (tree_of ns) [])
 
 -- the one part that is left
-pub last_part : {V : Type 0} (tree : V → Tree) (ns : List Mark) → IsPreorder ns → (ps qs : List (Part V)) (p : Part V) → pile tree ps ≡ ahead ns → ps ≡ qs ++ p ∷ [] → tree_seen (part_seen tree p) ≡ keep (tree_of ns)
-last_part tree ns h ps qs p is pop =
-    let e : part_seen tree p ∷ pile tree qs ≡ seen (keep (tree_of ns)) ∷ [] = sym (popped tree ps qs p pop) ∙ is ∙ at_end ns h in
-    let f : part_seen tree p ≡ seen (keep (tree_of ns)) = cc in
-    ap tree_seen f ∙ seen_tree (keep (tree_of ns))
+pub last_part : (c : Repeats) {V : Type 0} (tree : V → Tree) (ns : List Mark) → IsPreorder ns → (ps qs : List (Part V)) (p : Part V) → pile tree ps ≡ ahead c ns → ps ≡ qs ++ p ∷ [] → tree_seen (part_seen tree p) ≡ keep_by c (tree_of ns)
+last_part c tree ns h ps qs p is pop =
+    let e : part_seen tree p ∷ pile tree qs ≡ seen_by c (tree_of ns) ∷ [] = sym (popped tree ps qs p pop) ∙ is ∙ at_end c ns h in
+    let f : part_seen tree p ≡ seen_by c (tree_of ns) = cc in
+    ap tree_seen f ∙ seen_kept c (tree_of ns)
 
 -- ---- a member of a map
 
@@ -300,10 +371,10 @@ text_off tree ps qs p s e is = popped tree ps qs p e ∙ ap (λ x. part_seen tre
 pub put_on : {V : Type 0} (tree : V → Tree) (old new : List (Part V)) (p : Part V) (x : Seen) → new ≡ old ++ p ∷ [] → part_seen tree p ≡ x → pile tree new ≡ x ∷ pile tree old
 put_on tree old new p x e same = popped tree new old p e ∙ ap (λ y. y ∷ pile tree old) same
 
-pub array_on : {V : Type 0} (tree : V → Tree) (old mid new : List (Part V)) (v : V) (vs : List V) (len count : ℕ)
+pub array_on : (c : Repeats) {V : Type 0} (tree : V → Tree) (old mid new : List (Part V)) (v : V) (vs : List V) (len count : ℕ)
     → map tree vs ≡ map tree_seen (take len (pile tree old)) → pile tree mid ≡ drop len (pile tree old)
-    → tree v ≡ list (items_from (map tree vs)) → new ≡ mid ++ part.Value v ∷ [] → pile tree new ≡ grown (array len count) (pile tree old)
-array_on tree old mid new v vs len count means rest is e =
+    → tree v ≡ list (items_from (map tree vs)) → new ≡ mid ++ part.Value v ∷ [] → pile tree new ≡ grown c (array len count) (pile tree old)
+array_on c tree old mid new v vs len count means rest is e =
     put_on tree mid new (part.Value v) (whole (tree v)) e refl
     ∙ ap (λ t. whole t ∷ pile tree mid) (is ∙ ap (λ ts. list (items_from ts)) means)
     ∙ ap (λ l. whole (list (items_from (map tree_seen (take len (pile tree old))))) ∷ l) rest
@@ -312,15 +383,50 @@ members_from-shown : {K V : Type 0} (tree : V → Tree) (es : List (Entry K V)) 
 members_from-shown tree [] = refl
 members_from-shown tree (e ∷ es) = ap (member e.0.1 (tree e.1)) (members_from-shown tree es)
 
-pub object_on : {K V : Type 0} (tree : V → Tree) (old mid new : List (Part V)) (v : V) (es : List (Entry K V)) (len count : ℕ)
-    → shown tree es ≡ kept [] (pairs_seen len (pile tree old)) → pile tree mid ≡ drop (2 * len) (pile tree old)
-    → tree v ≡ obj (entry_members tree es) → new ≡ mid ++ part.Value v ∷ [] → pile tree new ≡ grown (object len count) (pile tree old)
-object_on tree old mid new v es len count means rest is e =
+pub object_on : (c : Repeats) {K V : Type 0} (tree : V → Tree) (old mid new : List (Part V)) (v : V) (es : List (Entry K V)) (len count : ℕ)
+    → shown tree es ≡ kept_by c [] (pairs_seen len (pile tree old)) → pile tree mid ≡ drop (2 * len) (pile tree old)
+    → tree v ≡ obj (entry_members tree es) → new ≡ mid ++ part.Value v ∷ [] → pile tree new ≡ grown c (object len count) (pile tree old)
+object_on c tree old mid new v es len count means rest is e =
     put_on tree mid new (part.Value v) (whole (tree v)) e refl
     ∙ ap (λ t. whole t ∷ pile tree mid) (is ∙ ap obj (members_from-shown tree es) ∙ ap (λ ps. obj (members_from ps)) means)
-    ∙ ap (λ l. whole (obj (members_from (kept [] (pairs_seen len (pile tree old))))) ∷ l) rest
+    ∙ ap (λ l. whole (obj (members_from (kept_by c [] (pairs_seen len (pile tree old))))) ∷ l) rest
 
-pub scalar_on : {V : Type 0} (tree : V → Tree) (old new : List (Part V)) (v : V) (n : StaticNode)
-    → tree v ≡ static_tree n → new ≡ old ++ part.Value v ∷ [] → pile tree new ≡ grown (static_mark n) (pile tree old)
-scalar_on tree old new v n is e =
-    put_on tree old new (part.Value v) (whole (tree v)) e refl ∙ ap (λ t. whole t ∷ pile tree old) is ∙ sym (grown_static n (pile tree old))
+pub scalar_on : (c : Repeats) {V : Type 0} (tree : V → Tree) (old new : List (Part V)) (v : V) (n : StaticNode)
+    → tree v ≡ static_tree n → new ≡ old ++ part.Value v ∷ [] → pile tree new ≡ grown c (static_mark n) (pile tree old)
+scalar_on c tree old new v n is e =
+    put_on tree old new (part.Value v) (whole (tree v)) e refl ∙ ap (λ t. whole t ∷ pile tree old) is ∙ sym (grown_static c n (pile tree old))
+
+-- ---- a member that is set
+
+put_by : {K V : Type 0} (tree : V → Tree) (b : Bool) (e : Entry K V) (w : V) (es fs : List (Entry K V)) (ps : List (List ℕ × Tree)) → shown tree fs ≡ ps
+    → shown tree (if b then (e.0, w) ∷ es else e ∷ fs) ≡ (if b then (e.0.1, tree w) ∷ shown tree es else (e.0.1, tree e.1) ∷ ps)
+put_by tree true e w es fs ps h = refl
+put_by tree false e w es fs ps h = ap (λ l. (e.0.1, tree e.1) ∷ l) h
+
+pub shown-put : {K V : Type 0} (tree : V → Tree) (q : K × List ℕ) (w : V) (es : List (Entry K V)) → shown tree (edits.put q w es) ≡ put_pair q.1 (tree w) (shown tree es)
+shown-put tree q w [] = refl
+shown-put tree q w (e ∷ es) = put_by tree (bytes_eq q.1 e.0.1) e w es (edits.put q w es) _ (shown-put tree q w es)
+
+pub set_one : {K V : Type 0} (tree : V → Tree) (k : List ℕ) (t : Tree) (es fs : List (Entry K V)) (key : K) (q : List ℕ) (v : V) → fs ≡ edits.put (key, q) v es → q ≡ k → tree v ≡ t → shown tree fs ≡ put_pair k t (shown tree es)
+set_one tree k t es fs key q v is same means =
+    ap (shown tree) is ∙ shown-put tree (key, q) v es ∙ (λ i. put_pair (same i) (means i) (shown tree es))
+
+-- one pair more, by the choice
+pub kept_more : (c : Repeats) (done : List (List ℕ × Tree)) (p : List ℕ × Tree) (ps : List (List ℕ × Tree)) → kept_by c (kept_by c done (p ∷ [])) ps ≡ kept_by c done (p ∷ ps)
+kept_more First done p ps = refl
+kept_more Last done p ps = refl
+
+module _ {K V : Type 0} (is_made : K → Bool) (built : V → Type 0) where
+  abbrev Made : Entry K V → Type 0
+  Made e = IsTrue (is_made e.0.0) × built e.1
+
+  put_made : (b : Bool) (e : Entry K V) (w : V) (es fs : List (Entry K V)) → built w → AllByRecursion Made (e ∷ es) → AllByRecursion Made fs → AllByRecursion Made (if b then (e.0, w) ∷ es else e ∷ fs)
+  put_made true e w es fs h a f = ((a.0.0, h), a.1)
+  put_made false e w es fs h a f = (a.0, f)
+
+  put_all_made : (key : K) (q : List ℕ) (v : V) (es : List (Entry K V)) → IsTrue (is_made key) → built v → AllByRecursion Made es → AllByRecursion Made (edits.put (key, q) v es)
+  put_all_made key q v [] m h a = ((m, h), tt)
+  put_all_made key q v (e ∷ es) m h a = put_made (bytes_eq q e.0.1) e v es (edits.put (key, q) v es) h a (put_all_made key q v es m h a.1)
+
+  pub made_put : (key : K) (q : List ℕ) (v : V) (es : List (Entry K V)) → IsTrue (is_made key) → built v → AreMade is_made built es → AreMade is_made built (edits.put (key, q) v es)
+  made_put key q v es m h a = All-from_recursion Made _ (put_all_made key q v es m h (recursion_from_All Made es a))

@@ -1,31 +1,10 @@
 -- Lists of texts stay without repeats.
-use Rattle.std.proofs.Common.{◌≡◌, ℕ, Bool, true, false, not, ◌&&◌, ◌||◌, List, [], ◌∷◌, ◌++◌, refl, sym, ap, ◌∙◌, true≢false, bytes_eq}
+use Rattle.std.proofs.Common.{◌≡◌, ℕ, Bool, true, false, List, [], ◌∷◌, ◌++◌, refl, ap, ◌∙◌, bytes_eq}
 use Rattle.std.specs.Bool.{if◌then◌else◌}
-use Rattle.std.proofs.lemmas.Slice.Eq.{bytes_eq-Decides}
 use Rattle.sj_text_core.specs.Keep.{is_seen}
-use Rattle.sj_object.specs.Texts.{no_repeats}
+use Rattle.sj_object.specs.Texts.{no_repeats, or_false, or_of_false, not_and, not_and_of, bytes_eq-sym}
 use Rattle.sj_object.specs.Entries.{Entry, texts, entries_of}
 use Rattle.sj_object.specs.Edits.{cut}
-
-pub or_false : (a b : Bool) → a || b ≡ false → (a ≡ false) × (b ≡ false)
-or_false false b e = (refl, e)
-or_false true b e = absurd (true≢false e)
-
-pub or_of_false : (a b : Bool) → a ≡ false → b ≡ false → a || b ≡ false
-or_of_false a b p q = λ i. p i || q i
-
-pub not_and : (a b : Bool) → not a && b ≡ true → (a ≡ false) × (b ≡ true)
-not_and false b e = (refl, e)
-not_and true b e = absurd (true≢false (sym e))
-
-pub not_and_of : (a b : Bool) → a ≡ false → b ≡ true → not a && b ≡ true
-not_and_of a b p q = λ i. not (p i) && q i
-
-pub bytes_eq-sym : (a b : List ℕ) → bytes_eq a b ≡ false → bytes_eq b a ≡ false
-bytes_eq-sym a b e = by_test (bytes_eq b a) refl where
-  by_test : (r : Bool) → bytes_eq b a ≡ r → r ≡ false
-  by_test false q = refl
-  by_test true q = absurd (true≢false (sym ((bytes_eq-Decides a b).1 (sym ((bytes_eq-Decides b a).0 q))) ∙ e))
 
 is_seen-last : (x k : List ℕ) (ts : List (List ℕ)) → is_seen x ts ≡ false → bytes_eq x k ≡ false → is_seen x (ts ++ k ∷ []) ≡ false
 is_seen-last x k [] h e = or_of_false _ _ e refl

@@ -4,10 +4,9 @@ use Rattle.std.specs.Bool.{if◌then◌else◌}
 use Rattle.sj_text_core.specs.Tree.{Tree, Members, member}
 use Rattle.sj_text_core.specs.Edits as members
 use Rattle.sj_text_core.specs.Keep.{is_seen}
-use Rattle.sj_object.specs.Texts.{no_repeats}
+use Rattle.sj_object.specs.Texts.{no_repeats, or_false, not_and, bytes_eq-sym}
 use Rattle.sj_object.specs.Entries.{Entry, texts}
 use Rattle.sj_object.specs.Members.{entry_members}
-use Rattle.sj_object.proofs.Repeats.{or_false, not_and, bytes_eq-sym}
 
 unseen_at : {K V : Type 0} (x : List ℕ) (ds : List (Entry K V)) (e : Entry K V) (es : List (Entry K V)) → is_seen x (texts (ds ++ e ∷ es)) ≡ false → bytes_eq x e.0.1 ≡ false
 unseen_at x [] e es h = (or_false (bytes_eq x e.0.1) _ h).0

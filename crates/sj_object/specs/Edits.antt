@@ -1,9 +1,11 @@
 -- What the calls of a map answer and leave, on its entries.
-use Rattle.std.specs.Prelude.{◌≡◌, ℕ, Bool, true, if◌then◌else◌, List, [], ◌∷◌, Option, Some, None, refl, bytes_eq}
+use Rattle.std.specs.Prelude.{◌≡◌, ℕ, zero, suc, Bool, true, false, if◌then◌else◌, List, [], ◌∷◌, length, Option, Some, None, refl, bytes_eq}
 use mathlib.Core.Path.{ap, ◌∙◌}
-use Rattle.sj_object.specs.Texts.{no_repeats}
+use Rattle.sj_text_core.specs.Keep.{is_seen}
+use Rattle.sj_object.specs.Texts.{no_repeats, or_false, or_of_false, not_and, not_and_of, bytes_eq-sym}
 use Rattle.sj_object.specs.Entries.{Entry, texts}
 use Rattle.sj_object.specs.HashMap.{Contents}
+use Rattle.sj_object.specs.Index.{buckets_for}
 
 module _ {K V : Type 0} where
   -- the value of the first entry with the text
@@ -36,3 +38,43 @@ module _ {K V : Type 0} where
 -- the map with w in the place of the value at the text
 abbrev pub with_value : {K V S : Type 0} → Contents K V S → List ℕ → V → Contents K V S
 with_value m k w = record { entries = set_value k w m.entries; hasher = m.hasher; buckets = m.buckets; distinct = ap no_repeats (texts-set_value k w m.entries) ∙ m.distinct }
+
+module _ {K V : Type 0} where
+  -- the value of the i-th entry
+  abbrev pub value_at : ℕ → List (Entry K V) → Option V
+  value_at i [] = None
+  value_at zero (e ∷ es) = Some e.1
+  value_at (suc i) (e ∷ es) = value_at i es
+
+  -- the i-th entry has the value w; its key stays
+  abbrev pub set_value_at : ℕ → V → List (Entry K V) → List (Entry K V)
+  set_value_at i w [] = []
+  set_value_at zero w (e ∷ es) = (e.0, w) ∷ es
+  set_value_at (suc i) w (e ∷ es) = e ∷ set_value_at i w es
+
+  pub texts-set_value_at : (i : ℕ) (w : V) (es : List (Entry K V)) → texts (set_value_at i w es) ≡ texts es
+  texts-set_value_at i w [] = refl
+  texts-set_value_at zero w (e ∷ es) = refl
+  texts-set_value_at (suc i) w (e ∷ es) = ap (λ l. e.0.1 ∷ l) (texts-set_value_at i w es)
+
+  unseen-put : (x : List ℕ) (q : K × List ℕ) (w : V) (es : List (Entry K V)) → bytes_eq x q.1 ≡ false → is_seen x (texts es) ≡ false → is_seen x (texts (put q w es)) ≡ false
+  unseen-put x q w [] n u = or_of_false _ _ n refl
+  unseen-put x q w (e ∷ es) n u = let r = or_false (bytes_eq x e.0.1) _ u in by_test (bytes_eq q.1 e.0.1) r.0 (unseen-put x q w es n r.1) where
+    by_test : (b : Bool) → bytes_eq x e.0.1 ≡ false → is_seen x (texts (put q w es)) ≡ false → is_seen x (texts (if b then (e.0, w) ∷ es else e ∷ put q w es)) ≡ false
+    by_test true r m = u
+    by_test false r m = or_of_false _ _ r m
+
+  pub no_repeats-put : (q : K × List ℕ) (w : V) (es : List (Entry K V)) → no_repeats (texts es) ≡ true → no_repeats (texts (put q w es)) ≡ true
+  no_repeats-put q w [] d = refl
+  no_repeats-put q w (e ∷ es) d = let n = not_and (is_seen e.0.1 (texts es)) _ d in by_test (bytes_eq q.1 e.0.1) refl n.0 (no_repeats-put q w es n.1) where
+    by_test : (b : Bool) → bytes_eq q.1 e.0.1 ≡ b → is_seen e.0.1 (texts es) ≡ false → no_repeats (texts (put q w es)) ≡ true → no_repeats (texts (if b then (e.0, w) ∷ es else e ∷ put q w es)) ≡ true
+    by_test true h u m = d
+    by_test false h u m = not_and_of _ _ (unseen-put e.0.1 q w es (bytes_eq-sym q.1 e.0.1 h) u) m
+
+-- the map with w in the place of the i-th value
+abbrev pub with_value_at : {K V S : Type 0} → Contents K V S → ℕ → V → Contents K V S
+with_value_at m i w = record { entries = set_value_at i w m.entries; hasher = m.hasher; buckets = m.buckets; distinct = ap no_repeats (texts-set_value_at i w m.entries) ∙ m.distinct }
+
+-- the map after an insert
+abbrev pub with_entry : {K V S : Type 0} → Contents K V S → K × List ℕ → V → Contents K V S
+with_entry m q w = record { entries = put q w m.entries; hasher = m.hasher; buckets = buckets_for (length (put q w m.entries)) m.buckets; distinct = no_repeats-put q w m.entries m.distinct }

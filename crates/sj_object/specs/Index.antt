@@ -1,7 +1,8 @@
--- The index of a map's members by their hashes. So far a map of any size is a plain list, and its index is empty.
-use Rattle.std.specs.Prelude.{◌≡◌, ℕ, List, [], ◌∷◌, length, Option, Some, None}
-use base.Stored.{coded_list, coded_ℕ, Coded-set}
+-- The index of a map's members by their hashes. A map of up to 32 members that never had more is a plain list, and its index is empty.
+use Rattle.std.specs.Prelude.{◌≡◌, ◌<◌, ◌≤◌, ◌*◌, ◌^◌, ℕ, List, [], ◌∷◌, length, Option, Some, None, if◌then◌else◌, nat_le, ⊤}
+use denote.Struct.Props.{props}
 use Rattle.sj_object.specs.declared.map.index.Index.{Index}
+use Rattle.sj_object.specs.Chains.{IsLinked}
 
 -- how many buckets there are, from the heads of their chains
 abbrev pub buckets_in : List ℕ → Option ℕ
@@ -11,13 +12,32 @@ buckets_in (h ∷ hs) = Some (length (h ∷ hs))
 abbrev pub buckets_of : Index → Option ℕ
 buckets_of i = buckets_in i.heads.items
 
+-- i has buckets, and the members whose hashes it keeps stand in their chains
+pub record IsTable (i : Index) : Type 0 where
+  pub bits : i.bits < 64
+  pub room : length i.hashes.items ≤ 2 ^ i.bits
+  pub linked : IsLinked (2 ^ i.bits) i.hashes.items i.links.items i.heads.items (length i.hashes.items)
+
 -- i is the index of members with those hashes
-abbrev pub IsIndexOf : List ℕ → Index → Type 0
-IsIndexOf hashes i = i.heads.items ≡ []
+pub record IsIndexOf (hashes : List ℕ) (i : Index) : Type 0 where
+  pub plain : length i.heads.items ≡ 0 → length hashes ≤ 32
+  pub same : 0 < length i.heads.items → i.hashes.items ≡ hashes
+  pub table : 0 < length i.heads.items → IsTable i
 
 pub IsIndexOf-prop : (hashes : List ℕ) (i : Index) → IsProp (IsIndexOf hashes i)
-IsIndexOf-prop hashes i = Coded-set (coded_list coded_ℕ) _ _
+IsIndexOf-prop hashes i = hlevel props
 
 -- how many buckets there are once so many members stand in the map, from those before
 abbrev pub buckets_for : ℕ → Option ℕ → Option ℕ
-buckets_for members before = before
+buckets_for members None = if nat_le members 32 then None else Some 64
+buckets_for members (Some n) = if nat_le members n then Some n else Some (2 * n)
+
+-- a plain list has at most 32 members, and a hashed map at least as many buckets as members
+abbrev pub HasRoom : ℕ → Option ℕ → Type 0
+HasRoom members None = members ≤ 32
+HasRoom members (Some n) = members ≤ n
+
+-- whether the hash of a member to come is read: there are buckets, or it makes some
+abbrev pub NeedsHash : ℕ → Option ℕ → Type 0
+NeedsHash members None = 32 ≤ members
+NeedsHash members (Some n) = ⊤

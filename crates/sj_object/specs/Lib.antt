@@ -5,6 +5,7 @@ pub mod HashMap
 pub mod Members
 pub mod Edits
 pub mod Steps
+pub mod Chains
 pub mod Index
 pub mod Lends
 pub mod Builder

@@ -1,8 +1,10 @@
 -- The pile of what was read of the nodes behind, its top first. Only private clauses cite it.
-use Rattle.std.specs.Prelude.{ℕ, zero, suc, ◌*◌, ◌≤◌, if◌then◌else◌, List, [], ◌∷◌, ◌++◌, map, length, take, drop, ⊤}
+use Rattle.std.specs.Prelude.{ℕ, zero, suc, ◌*◌, ◌≤◌, if◌then◌else◌, List, [], ◌∷◌, ◌++◌, map, length, take, drop, ⊤, bytes_eq}
 use Rattle.sj_text_core.specs.Tree.{Tree, null, boolean, int, text, list, obj, items_from, members_from}
 use Rattle.sj_text_core.specs.Nodes.{Mark, nothing, truth, number, string, array, object}
 use Rattle.sj_text_core.specs.Keep.{is_seen}
+use Rattle.sj_text_core.specs.declared.repeats.Repeats.{Repeats}
+use Rattle.sj_text_core.specs.declared.repeats.Repeats.TheVariants.{First, Last}
 use Rattle.sj_object.specs.Entries.{Entry}
 use Rattle.sj_object.specs.declared.build.Part.{Part}
 use Rattle.sj_object.specs.declared.build.Part.TheVariants as part
@@ -69,6 +71,21 @@ abbrev pub kept : List (List ℕ × Tree) → List (List ℕ × Tree) → List (
 kept done [] = done
 kept done (p ∷ ps) = kept (if is_seen p.0 (keys_of done) then done else done ++ p ∷ []) ps
 
+-- the first pair with the text has the value t, in its place; where there is none, the pair goes last
+abbrev pub put_pair : List ℕ → Tree → List (List ℕ × Tree) → List (List ℕ × Tree)
+put_pair k t [] = (k, t) ∷ []
+put_pair k t (p ∷ ps) = if bytes_eq k p.0 then (p.0, t) ∷ ps else p ∷ put_pair k t ps
+
+-- the pairs put in turn
+abbrev pub in_turn : List (List ℕ × Tree) → List (List ℕ × Tree) → List (List ℕ × Tree)
+in_turn done [] = done
+in_turn done (p ∷ ps) = in_turn (put_pair p.0 p.1 done) ps
+
+-- the pairs behind those that are done, of each text the one that counts
+abbrev pub kept_by : Repeats → List (List ℕ × Tree) → List (List ℕ × Tree) → List (List ℕ × Tree)
+kept_by First done ps = kept done ps
+kept_by Last done ps = in_turn done ps
+
 -- the entries of a map, each key as its text and each value as its tree
 abbrev pub shown : {K V : Type 0} → (V → Tree) → List (Entry K V) → List (List ℕ × Tree)
 shown {K} {V} tree es = map (λ (e : Entry K V). (e.0.1, tree e.1)) es
@@ -83,10 +100,10 @@ Needs (array len count) ps = len ≤ length ps
 Needs (object len count) ps = HasPairs len ps
 
 -- the pile after a node
-abbrev pub grown : Mark → List Seen → List Seen
-grown nothing ps = whole null ∷ ps
-grown (truth b) ps = whole (boolean b) ∷ ps
-grown (number n c) ps = whole (int n c) ∷ ps
-grown (string s) ps = word s ∷ ps
-grown (array len count) ps = whole (list (items_from (map tree_seen (take len ps)))) ∷ drop len ps
-grown (object len count) ps = whole (obj (members_from (kept [] (pairs_seen len ps)))) ∷ drop (2 * len) ps
+abbrev pub grown : Repeats → Mark → List Seen → List Seen
+grown c nothing ps = whole null ∷ ps
+grown c (truth b) ps = whole (boolean b) ∷ ps
+grown c (number n d) ps = whole (int n d) ∷ ps
+grown c (string s) ps = word s ∷ ps
+grown c (array len count) ps = whole (list (items_from (map tree_seen (take len ps)))) ∷ drop len ps
+grown c (object len count) ps = whole (obj (members_from (kept_by c [] (pairs_seen len ps)))) ∷ drop (2 * len) ps

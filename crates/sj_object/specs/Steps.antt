@@ -1,8 +1,28 @@
 -- How many members a lookup compares.
-use Rattle.std.specs.Prelude.{ℕ, suc, if◌then◌else◌, List, [], ◌∷◌, bytes_eq}
-use Rattle.sj_object.specs.Entries.{Entry}
+use Rattle.std.specs.Prelude.{ℕ, suc, ◌%◌, ◌==◌, if◌then◌else◌, List, [], ◌∷◌, Option, None, Some, bytes_eq, count_by}
+use Rattle.sj_text_core.specs.Keep.{is_seen}
+use Rattle.sj_object.specs.Entries.{Entry, texts}
 
--- the entries up to the first with the text; all where there is none
-abbrev pub visited : {K V : Type 0} → List ℕ → List (Entry K V) → ℕ
-visited k [] = 0
-visited k (e ∷ es) = if bytes_eq k e.0.1 then 1 else suc (visited k es)
+module _ {K V : Type 0} where
+  -- the entries up to the first with the text; all where there is none
+  abbrev pub visited : List ℕ → List (Entry K V) → ℕ
+  visited k [] = 0
+  visited k (e ∷ es) = if bytes_eq k e.0.1 then 1 else suc (visited k es)
+
+  -- the entries from the first with the text on
+  abbrev pub found_on : List ℕ → List (Entry K V) → List (Entry K V)
+  found_on k [] = []
+  found_on k (e ∷ es) = if bytes_eq k e.0.1 then e ∷ es else found_on k es
+
+  -- how many entries share the text's bucket of n, where h gives the hash of a text
+  abbrev pub chain : (List ℕ → ℕ) → ℕ → List ℕ → List (Entry K V) → ℕ
+  chain h n k es = count_by (λ (e : Entry K V). h e.0.1 % n == h k % n) es
+
+  -- how many of these stand at or after the entry with the text; all where there is none
+  abbrev pub walk : (List ℕ → ℕ) → ℕ → List ℕ → List (Entry K V) → ℕ
+  walk h n k es = chain h n k (if is_seen k (texts es) then found_on k es else es)
+
+  -- how many entries a lookup compares, by how many buckets there are
+  abbrev pub compared : (List ℕ → ℕ) → Option ℕ → List ℕ → List (Entry K V) → ℕ
+  compared h None k es = visited k es
+  compared h (Some n) k es = walk h n k es

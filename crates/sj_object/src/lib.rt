@@ -13,7 +13,7 @@ pub use builder::{Builder, Made, MapOf};
 pub use hasher::{KeyHasher, NotSoRandomState, ObjectHasher};
 pub use key::{KeyMade, KeyOf, KeyText};
 pub use map::{HashMap, IntoIter, Iter, Keys, Values};
-pub use read::{deserialize, deserialize_with_buffers};
+pub use read::{deserialize, deserialize_repeats, deserialize_with_buffers};
 
 #[cfg(test)]
 mod tests;

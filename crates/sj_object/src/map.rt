@@ -3,12 +3,15 @@
 ghost use Rattle.std.specs.Prelude.{◌≡◌, ◌↔◌, [], length, true, None, IsTrue, IfOk};
 ghost use Rattle.sj_object.specs.Texts.{no_repeats};
 ghost use Rattle.sj_object.specs.Entries.{texts, keys, values, entries_of};
+ghost use Rattle.sj_object.specs.Index.{HasRoom};
 
+mod chain;
 mod debug;
 mod get;
 mod index;
 mod insert;
 mod iter;
+mod or_insert;
 mod remove;
 mod search;
 
@@ -22,7 +25,9 @@ use std::marker::Model;
 /// A map from texts that keeps its members in the order of their insertion.
 ///
 /// Contracts see the list of its members, no two of one text, beside its hasher and how many
-/// buckets it has. So far the body is the plain list at every size, and there are no buckets.
+/// buckets it has. Up to 32 members it is a plain list, which is searched from its front. The
+/// insert that makes 33 members hashes them to 64 buckets, an insert that makes one member more
+/// than there are buckets doubles them, and nothing lowers them.
 #[derive(Drop)]
 pub struct HashMap<K: KeyText, V, S: KeyHasher> {
     pairs: Vec<(K, V)>,
@@ -80,9 +85,11 @@ impl<K: KeyText, V, S: KeyHasher> HashMap<K, V, S> {
         self.pairs.is_empty()
     }
 
-    /// How many buckets the members are hashed to; None where the map is a plain list.
+    /// How many buckets the members are hashed to; None where the map is a plain list. Past 32
+    /// members there are at least as many as members.
     pub fn buckets(&self) -> Option<usize>
-        ensures { result ≡ self.now.buckets }
+        ensures buckets { result ≡ self.now.buckets }
+        ensures room { HasRoom (length self.now.entries) self.now.buckets }
     {
         self.index.buckets()
     }

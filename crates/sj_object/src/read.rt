@@ -4,12 +4,13 @@ ghost use Rattle.std.specs.Prelude.{◌≡◌, ◌≢◌, ◌↔◌, IfOk, IfErr
 ghost use Rattle.sj_text_core.specs.Tree.{Tree, IsWithin};
 ghost use Rattle.sj_text_core.specs.Grammar.{Spells, IsReadable};
 ghost use Rattle.sj_text_core.specs.Keep.{keep};
+ghost use Rattle.sj_text_core.specs.Repeats.{keep_by};
 
 use crate::build::build_from_tape;
 use crate::builder::Builder;
 use crate::key::KeyOf;
 use sj_tape::{Buffers, to_tape, to_tape_with_buffers};
-use sj_text_core::ErrorKind;
+use sj_text_core::{ErrorKind, Repeats};
 use std::alloc::Global;
 
 /// Reads one text (RFC 8259 without fractions and exponents) as a document: of each key the first
@@ -28,8 +29,25 @@ pub fn deserialize<'de, V: Builder<'de, Key>, Key: KeyOf<'de>>(
     ensures utf8 { IsErrOf result ErrorKind.InvalidUtf8 ↔ ¬ (IsUtf8 bytes.old) }
     ensures err { IfErr result (λ e. e ≢ ErrorKind.InvalidUtf8 → e ≢ ErrorKind.OutOfMemory → ¬ (IsReadable bytes.old)) }
 {
+    deserialize_repeats::<V, Key>(alloc, bytes, Repeats::First)
+}
+
+/// Reads as `deserialize` does; of each key the member that counts stays, in the place of the first.
+pub fn deserialize_repeats<'de, V: Builder<'de, Key>, Key: KeyOf<'de>>(
+    alloc: Global,
+    bytes: &'de mut [u8],
+    repeats: Repeats,
+) -> Result<V, ErrorKind>
+    // What is read is spelled so, within the limit, and nothing else is.
+    ensures means { IfOk result (λ v. (t : Tree) × Spells bytes.old t × IsWithin t × (V.tree v ≡ keep_by repeats t)) }
+    ensures only { IfOk result (λ v. (u : Tree) → Spells bytes.old u → V.tree v ≡ keep_by repeats u) }
+    ensures property { IfOk result V.built }
+    // The bytes are no UTF-8.
+    ensures utf8 { IsErrOf result ErrorKind.InvalidUtf8 ↔ ¬ (IsUtf8 bytes.old) }
+    ensures err { IfErr result (λ e. e ≢ ErrorKind.InvalidUtf8 → e ≢ ErrorKind.OutOfMemory → ¬ (IsReadable bytes.old)) }
+{
     let tape = to_tape(alloc, bytes)?;
-    match build_from_tape::<V, Key>(alloc, tape.as_value()) {
+    match build_from_tape::<V, Key>(alloc, tape.as_value_repeats(repeats)) {
         Ok(value) => Ok(value),
         Err(_) => Err(ErrorKind::OutOfMemory),
     }

@@ -1,5 +1,7 @@
 ghost use Rattle.std.specs.Prelude.{◌≡◌, ◌<◌};
 
+mod hashed;
+
 use super::*;
 use sj_text_core::Steps;
 use std::alloc::Global;

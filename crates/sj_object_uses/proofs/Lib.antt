@@ -3,3 +3,9 @@ pub mod Kept
 pub mod Walks
 pub mod Steps
 pub mod Passes
+pub mod Arrays
+pub mod Subsets
+pub mod Compared
+pub mod Mixed
+pub mod Maps
+pub mod Levels

@@ -3,8 +3,10 @@ use Rattle.std.specs.Prelude.{ℕ, Bool, true, ◌&&◌, List, Option, Some, Non
 use Rattle.std.specs.List.{list_all}
 use Rattle.sj_text_core.specs.Tree.{Tree, text, list, obj, items_from, Members}
 use Rattle.sj_text_core.specs.Scalars.{static_tree}
-use Rattle.sj_text_core.specs.Edits.{put, cut}
+use Rattle.sj_text_core.specs.Edits.{put, cut, push, front, last}
 use Rattle.sj_object.specs.Members.{entry_members}
+use Rattle.sj_text_core.specs.declared.error.AccessError.{AccessError}
+use Rattle.sj_text_core.specs.declared.error.AccessError.TheVariants.{OutOfMemory}
 use Rattle.sj_object_uses.specs.declared.value.Document.{Document, fold-Document}
 use Rattle.sj_object_uses.specs.declared.value.Document.TheOpen.{Document-F}
 
@@ -45,3 +47,23 @@ with_member k u t = t
 abbrev pub without_member : List ℕ → Tree → Tree
 without_member k (obj ms) = obj (cut k ms)
 without_member k t = t
+
+-- an array with u behind its items; anything else stays
+abbrev pub with_item : Tree → Tree → Tree
+with_item u (list is) = list (push u is)
+with_item u t = t
+
+-- an array without its last item; anything else stays
+abbrev pub without_last : Tree → Tree
+without_last (list is) = list (front is)
+without_last t = t
+
+-- the last item of an array
+abbrev pub last_item : Tree → Option Tree
+last_item (list is) = last is
+last_item t = None
+
+-- why an edit is refused: the target is of another kind, else memory
+abbrev pub why_of : {A : Type 0} → AccessError → Option A → AccessError
+why_of wrong None = wrong
+why_of wrong (Some x) = OutOfMemory

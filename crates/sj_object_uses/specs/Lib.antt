@@ -1,3 +1,4 @@
 pub mod Document
 pub mod Outline
 pub mod Rows
+pub mod SameWith

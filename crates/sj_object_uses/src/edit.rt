@@ -1,14 +1,15 @@
 //! Edits of an object.
 
-ghost use Rattle.std.specs.Prelude.{◌≡◌, ◌↔◌, None, option_map, OnOk, OnErr, IfOk, IfErr, if◌then◌else◌};
+ghost use Rattle.std.specs.Prelude.{◌≡◌, option_map, OnOk, OnErr, IfOk, IfErr, IsSome, if◌then◌else◌};
 ghost use Rattle.sj_text_core.specs.Find.{find};
+ghost use Rattle.sj_text_core.specs.Reads.{as_members};
 
 use crate::value::Document;
 use sj_object::KeyText;
 use sj_text_core::{AccessError, Refused};
 
 impl<T: KeyText + Drop> Document<T> {
-    ghost use Rattle.sj_object_uses.specs.Document.{tree, object_of, with_member, without_member};
+    ghost use Rattle.sj_object_uses.specs.Document.{tree, why_of, with_member, without_member};
 
     /// Sets the value of the key, and answers the one before. On a non-object, and for want of
     /// memory, it is refused: the value comes back, and the document is as it was.
@@ -21,7 +22,8 @@ impl<T: KeyText + Drop> Document<T> {
         ensures after { OnOk result (tree T.text_of self.new ≡ with_member (T.text_of key) (tree T.text_of value) (tree T.text_of self.old)) }
         ensures refused { OnErr result (tree T.text_of self.new ≡ tree T.text_of self.old) }
         ensures returned { IfErr result (λ r. r.value ≡ value) }
-        ensures kind { IfErr result (λ r. r.why ≡ AccessError.NotAnObject ↔ object_of (tree T.text_of self.old) ≡ None) }
+        ensures kind { IfErr result (λ r. r.why ≡ why_of AccessError.NotAnObject (as_members (tree T.text_of self.old))) }
+        ensures object { OnOk result (IsSome (as_members (tree T.text_of self.old))) }
     {
         match self {
             Document::Object(members) => match members.insert(key, value) {

@@ -4,8 +4,8 @@ ghost use Rattle.std.specs.Prelude.{◌≡◌, true, map, IfOk, All, string_byte
 ghost use Rattle.std.specs.Cow.{cow_str_bytes};
 ghost use Rattle.sj_text_core.specs.Tree.{list, obj, text, items_from};
 ghost use Rattle.sj_text_core.specs.Scalars.{static_tree};
-ghost use Rattle.sj_text_core.specs.Keep.{keep};
-ghost use Rattle.sj_tape.specs.Value.{tree as tape_tree};
+ghost use Rattle.sj_text_core.specs.Repeats.{keep_by};
+ghost use Rattle.sj_tape.specs.Value.{tree as tape_tree, choice};
 ghost use Rattle.sj_object.specs.Members.{entry_members};
 ghost use Rattle.sj_object.specs.Builder.{AreMade};
 ghost use Rattle.sj_object.specs.Keys.{is_borrowed};
@@ -68,19 +68,19 @@ impl<'de> Builder<'de, CowStr<'de>> for BorrowedValue<'de> {
     }
 }
 
-/// The document of a part of a tape, which owns its texts: of each key the first member stays.
+/// The document of a part of a tape, which owns its texts: of each key the member that counts stays.
 pub fn owned_from_tape(alloc: Global, value: Value<'_, '_>) -> Result<OwnedValue, AllocError>
-    ensures { IfOk result (λ v. tree string_bytes v ≡ keep (tape_tree value.entry)) }
+    ensures { IfOk result (λ v. tree string_bytes v ≡ keep_by (choice value.entry) (tape_tree value.entry)) }
 {
     build_from_tape::<OwnedValue, String>(alloc, value)
 }
 
-/// The document of a part of a tape, with every text lent: of each key the first member stays.
+/// The document of a part of a tape, with every text lent: of each key the member that counts stays.
 pub fn borrowed_from_tape<'de>(
     alloc: Global,
     value: Value<'_, 'de>,
 ) -> Result<BorrowedValue<'de>, AllocError>
-    ensures tree { IfOk result (λ v. tree cow_str_bytes v ≡ keep (tape_tree value.entry)) }
+    ensures tree { IfOk result (λ v. tree cow_str_bytes v ≡ keep_by (choice value.entry) (tape_tree value.entry)) }
     ensures lent { IfOk result (λ v. all_texts is_borrowed v ≡ true) }
 {
     build_from_tape::<BorrowedValue<'de>, CowStr<'de>>(alloc, value)

@@ -1,7 +1,7 @@
 use super::*;
 use sj_object::{HashMap, ObjectHasher, deserialize};
-use sj_tape::{Node, Tape};
-use sj_text_core::StaticNode;
+use sj_tape::{Node, Tape, to_tape};
+use sj_text_core::{Repeats, SameAs, StaticNode, Writable};
 use std::alloc::Global;
 use std::borrow::CowStr;
 use std::test::Fail;
@@ -144,7 +144,8 @@ fn reads_a_text_with_a_repeat(rt: HostRuntime) -> Result<(), Fail> {
             return Err("no object".into());
         };
         assert_eq!(rt; members.len(), len);
-        assert_eq!(rt; members.buckets(), None);
+        let buckets = if len > 32 { Some(64) } else { None };
+        assert_eq!(rt; members.buckets(), buckets);
         for i in 0..len {
             let key = format!(in alloc; "k{i:02}")?;
             let found = members.get(key.as_str());
@@ -154,5 +155,128 @@ fn reads_a_text_with_a_repeat(rt: HostRuntime) -> Result<(), Fail> {
             );
         }
     }
+    Ok(())
+}
+
+/// A tape's text, and what it is compared with.
+const ROWS: [(&str, &str, bool); 9] = [
+    (
+        "{\"a\":[{\"b\":1,\"b\":2}],\"a\":0}",
+        "{\"a\":[{\"b\":1}]}",
+        true,
+    ),
+    (
+        "{\"a\":[{\"b\":1,\"b\":2}],\"a\":0}",
+        "{\"a\":[{\"b\":2}]}",
+        false,
+    ),
+    ("{\"a\":1,\"a\":1}", "{\"a\":1,\"b\":1}", false),
+    ("{\"a\":1,\"b\":1}", "{\"a\":1,\"a\":1}", false),
+    ("{\"a\":1,\"b\":2}", "{\"b\":2,\"c\":3,\"a\":1}", false),
+    ("{\"b\":2,\"c\":3,\"a\":1}", "{\"a\":1,\"b\":2}", false),
+    (
+        "{\"b\":2,\"a\":1,\"b\":3}",
+        "{\"a\":1,\"b\":2,\"a\":7}",
+        true,
+    ),
+    ("[]", "{}", false),
+    ("[1,\"1\",-0]", "[1,\"\\u0031\",0]", true),
+];
+
+#[test]
+fn forms_are_compared(rt: HostRuntime) -> Result<(), Fail> {
+    let alloc = rt.alloc();
+    for (left, right, same) in ROWS {
+        let mut first = left.as_bytes().to_vec(alloc)?;
+        let mut second = right.as_bytes().to_vec(alloc)?;
+        let mut lent = left.as_bytes().to_vec(alloc)?;
+        let tape = to_tape(alloc, first.as_mut_slice())?;
+        let other = deserialize::<OwnedValue, String>(alloc, second.as_mut_slice())?;
+        let borrowed = deserialize::<BorrowedValue, CowStr>(alloc, lent.as_mut_slice())?;
+        assert_eq!(rt; other.same_as(&tape.as_value()), same, "{left} and {right}");
+        assert_eq!(rt; tape.as_value().same_as(&other), same, "{left} and {right}");
+        assert_eq!(rt; other.same_as(&borrowed), same, "{left} and {right}");
+        assert_eq!(rt; borrowed.same_as(&other), same, "{left} and {right}");
+        assert!(rt; borrowed.same_as(&tape.as_value()) && other.same_as(&other));
+    }
+    let five: OwnedValue = Document::Static(StaticNode::I64(5));
+    assert!(rt; five.same_as(&5_u64) && !five.same_as(&6_u8) && !five.same_as(&"5"));
+    Ok(())
+}
+
+#[test]
+fn other_types_are_compared(rt: HostRuntime) -> Result<(), Fail> {
+    let alloc = rt.alloc();
+    let five: OwnedValue = Document::Static(StaticNode::I64(5));
+    let n = 5_u64;
+    assert!(rt; five.same_as(&n) && five.same_as(&&n) && five.same_as(&&&n));
+    assert!(rt; five == five && five.same_as(&five) && five.same_as(&&five));
+    let mut text = b"[1,2]".to_vec(alloc)?;
+    let list = deserialize::<OwnedValue, String>(alloc, text.as_mut_slice())?;
+    let numbers: [u8; 3] = [1, 2, 3];
+    assert!(rt; list.same_as(&&numbers[..2]));
+    assert!(rt; !list.same_as(&&numbers[..1]) && !list.same_as(&&numbers[..]));
+    assert!(rt; list != five && !five.same_as(&&numbers[..0]));
+    let mut text = b"{\"a\":1,\"a\":2}".to_vec(alloc)?;
+    let object = deserialize::<OwnedValue, String>(alloc, text.as_mut_slice())?;
+    let mut map = std::collections::HashMap::new(alloc);
+    map.insert("a", 1_i64)?;
+    assert!(rt; object.same_as(&map));
+    map.insert("b", 2)?;
+    assert!(rt; !object.same_as(&map) && !list.same_as(&map));
+    Ok(())
+}
+
+#[test]
+fn parts_are_compared_by_choice(rt: HostRuntime) -> Result<(), Fail> {
+    let alloc = rt.alloc();
+    let mut text = b"{\"a\":1,\"b\":[{\"c\":0,\"c\":\"x\"}],\"a\":2}".to_vec(alloc)?;
+    let tape = to_tape(alloc, text.as_mut_slice())?;
+    let mut kept = b"{\"b\":[{\"c\":\"x\"}],\"a\":2}".to_vec(alloc)?;
+    let last = deserialize::<OwnedValue, String>(alloc, kept.as_mut_slice())?;
+    let mut kept = b"{\"b\":[{\"c\":0}],\"a\":1}".to_vec(alloc)?;
+    let first = deserialize::<OwnedValue, String>(alloc, kept.as_mut_slice())?;
+    let by_last = tape.as_value_repeats(Repeats::Last);
+    let by_first = tape.as_value_repeats(Repeats::First);
+    assert!(rt; last.same_as(&by_last) && by_last.same_as(&last));
+    assert!(rt; first.same_as(&by_first) && by_first.same_as(&first));
+    assert!(rt; !first.same_as(&by_last) && !by_last.same_as(&first));
+    assert!(rt; !last.same_as(&by_first) && !by_first.same_as(&last));
+    Ok(())
+}
+
+#[test]
+fn prints_exactly(rt: HostRuntime) -> Result<(), Fail> {
+    let alloc = rt.alloc();
+    let mut value = nested(alloc)?;
+    let text = String::from_str(alloc, "a\"\u{1}\u{e9}\n")?;
+    value.insert(String::from_str(alloc, "c")?, Document::String(text))?;
+    let items = vec![in alloc;
+        Document::Static(StaticNode::I64(-5)),
+        Document::Static(StaticNode::U128(u128::MAX)),
+    ]?;
+    let items = Document::Array(Box::new(alloc, items)?);
+    value.insert(String::from_str(alloc, "d")?, items)?;
+    let print =
+        "{\"a\":\"x\",\"b\":{\"a\":null},\"c\":\"a\\\"\\u0001\u{e9}\\n\",\"d\":[-5,340282366920938463463374607431768211455]}";
+    assert_eq!(rt; value.encode(alloc)?.as_str(), print);
+    let mut out = Vec::new(alloc);
+    out.push(b'>')?;
+    value.write(&mut out)?;
+    assert_eq!(rt; out.len(), 1 + print.len());
+    assert_eq!(rt; &out[1..], print.as_bytes());
+    Ok(())
+}
+
+#[test]
+fn prints_lines(rt: HostRuntime) -> Result<(), Fail> {
+    let alloc = rt.alloc();
+    let value = nested(alloc)?;
+    let print = "{\n  \"a\": \"x\",\n  \"b\": {\n    \"a\": null\n  }\n}";
+    assert_eq!(rt; value.encode_pp(alloc)?.as_str(), print);
+    let mut bytes = text_with_repeat(alloc, 3, 1)?;
+    let tape = sj_tape::to_tape(alloc, bytes.as_mut_slice())?;
+    let print = "{\"k00\":0,\"k01\":1,\"k02\":2,\"k01\":99}";
+    assert_eq!(rt; tape.as_value().encode(alloc)?.as_str(), print);
     Ok(())
 }

@@ -3,7 +3,7 @@ use Rattle.std.proofs.Common.{◌≡◌, ℕ, ◌≤◌, ◌+◌, max, Bool, tru
 use Rattle.std.specs.List.{list_any, position, position_from}
 use Rattle.std.proofs.lemmas.Iterator.Adapters.{position_from-zero}
 use Rattle.std.proofs.lemmas.List.{append-nil}
-use Rattle.sj_text_core.specs.Tree.{Tree, null, boolean, int, text, list, obj, Items, no_items, item, Members, no_members, member, items_from, members_from, depth, members_depth}
+use Rattle.sj_text_core.specs.Tree.{Tree, null, boolean, int, text, list, obj, Items, no_items, item, Members, no_members, member, items_from, members_from, depth, items_depth, members_depth}
 use Rattle.sj_text_core.specs.Keep.{is_seen, keep, keep_items, keep_members}
 use Rattle.sj_text_core.specs.Reads.{as_members}
 use Rattle.sj_tape.specs.Parts.{listed}
@@ -117,3 +117,20 @@ new_member ps built p k t ahead rest all e f g h i j =
 -- no member is left
 pub all_members : (ps : List Pair) (ahead : List (List ℕ × Tree)) (all : Members) → kept_behind ps ahead ≡ all → ahead ≡ [] → members_tree ps ≡ all
 all_members ps ahead all e f = sym (onto-none ps) ∙ ap (λ l. kept_behind ps l) (sym f) ∙ e
+
+map_last : (ds : List Document) (d : Document) (ts : List Tree) → map document_tree (ds ++ d ∷ []) ++ ts ≡ map document_tree ds ++ (document_tree d ∷ ts)
+map_last [] d ts = refl
+map_last (e ∷ ds) d ts = ap (λ l. document_tree e ∷ l) (map_last ds d ts)
+
+-- one more item
+pub new_item : (ds built : List Document) (d : Document) (t : Tree) (ahead rest all : List Tree) → map document_tree ds ++ map keep ahead ≡ all → ahead ≡ t ∷ rest → document_tree d ≡ keep t → built ≡ ds ++ d ∷ []
+    → map document_tree built ++ map keep rest ≡ all
+new_item ds built d t ahead rest all e f g h =
+    ap (λ l. map document_tree l ++ map keep rest) h ∙ map_last ds d (map keep rest) ∙ ap (λ u. map document_tree ds ++ (u ∷ map keep rest)) g
+    ∙ ap (λ l. map document_tree ds ++ map keep l) (sym f) ∙ e
+
+pub other_items_depth : (ahead rest : List Tree) (t : Tree) (n : ℕ) → items_depth (items_from ahead) ≤ n → ahead ≡ t ∷ rest → items_depth (items_from rest) ≤ n
+other_items_depth ahead rest t n h e = let d : items_depth (items_from ahead) ≡ max (depth t) (items_depth (items_from rest)) = ap (λ l. items_depth (items_from l)) e in omega (arith, h, d)
+
+pub member_depth : (ahead rest : List (List ℕ × Tree)) (k : List ℕ) (t : Tree) (n : ℕ) → members_depth (members_from ahead) ≤ n → ahead ≡ (k, t) ∷ rest → depth t ≤ n
+member_depth ahead rest k t n h e = let d : members_depth (members_from ahead) ≡ max (depth t) (members_depth (members_from rest)) = ap (λ l. members_depth (members_from l)) e in omega (arith, h, d)

@@ -1,5 +1,6 @@
 pub mod Blanks
 pub mod Bytewise
+pub mod Chosen
 pub mod Colons
 pub mod Complete
 pub mod Containers
@@ -9,6 +10,7 @@ pub mod Digits
 pub mod Escapes
 pub mod Fronts
 pub mod Lanes
+pub mod Lookups
 pub mod NodeMarks
 pub mod Numbers
 pub mod Order
@@ -27,3 +29,8 @@ pub mod Strings
 pub mod Texts
 pub mod Units
 pub mod Values
+pub mod Compared
+pub mod Printing
+pub mod Counted
+pub mod Levels
+pub mod Yielded

@@ -1,6 +1,7 @@
 -- What an array of a tape means.
-use Rattle.std.specs.Prelude.{List}
+use Rattle.std.specs.Prelude.{List, map}
 use Rattle.sj_text_core.specs.Tree.{Tree, Items}
+use Rattle.sj_text_core.specs.declared.repeats.Repeats.{Repeats}
 use Rattle.sj_tape.specs.Marks.{marks}
 use Rattle.sj_tape.specs.Parts.{items_in, listed}
 use Rattle.sj_tape.specs.declared.array.Array.{Array}
@@ -13,3 +14,11 @@ items a = items_in (marks a.nodes.now)
 -- the items that an iterator has left
 abbrev pub items_ahead : Iter → List Tree
 items_ahead it = listed (items_in (marks it.nodes.now))
+
+-- which member of several with one key counts in the items
+abbrev pub array_choice : Array → Repeats
+array_choice a = a.repeats
+
+-- the parts that an iterator has left
+abbrev pub parts_ahead : Iter → List (Repeats × Tree)
+parts_ahead it = map (λ t. (it.repeats, t)) (items_ahead it)

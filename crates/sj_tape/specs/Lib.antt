@@ -9,3 +9,5 @@ pub mod Fronts
 pub mod Value
 pub mod Items
 pub mod Members
+pub mod Lookup
+pub mod Laws

@@ -2,6 +2,7 @@
 use Rattle.std.specs.Prelude.{ℕ, List, map}
 use Rattle.sj_text_core.specs.Tree.{Tree, Members}
 use Rattle.sj_text_core.specs.Nodes.{members_in}
+use Rattle.sj_text_core.specs.declared.repeats.Repeats.{Repeats}
 use Rattle.sj_tape.specs.Marks.{marks}
 use Rattle.sj_tape.specs.Parts.{paired}
 use Rattle.sj_tape.specs.declared.object.Object.{Object}
@@ -24,3 +25,19 @@ keys_ahead it = map (λ (p : List ℕ × Tree). p.0) (members_ahead it.members)
 -- the values that an iterator has left
 abbrev pub values_ahead : Values → List Tree
 values_ahead it = map (λ (p : List ℕ × Tree). p.1) (members_ahead it.members)
+
+-- which member of several with one key counts
+abbrev pub object_choice : Object → Repeats
+object_choice o = o.repeats
+
+-- the members with a choice, their values as parts
+abbrev pub chosen : Repeats → List (List ℕ × Tree) → List (List ℕ × (Repeats × Tree))
+chosen c ps = map (λ p. (p.0, (c, p.1))) ps
+
+-- the members that an iterator has left, their values as parts
+abbrev pub parts_ahead : Iter → List (List ℕ × (Repeats × Tree))
+parts_ahead it = chosen it.repeats (members_ahead it)
+
+-- the values that an iterator has left, as parts
+abbrev pub value_parts_ahead : Values → List (Repeats × Tree)
+value_parts_ahead it = map (λ (p : List ℕ × (Repeats × Tree)). p.1) (parts_ahead it.members)

@@ -2,12 +2,21 @@
 use Rattle.std.specs.Prelude.{Option, Some, None}
 use Rattle.sj_text_core.specs.Tree.{Tree, null, boolean, int, text, list, obj}
 use Rattle.sj_text_core.specs.Nodes.{tree_of}
+use Rattle.sj_text_core.specs.declared.repeats.Repeats.{Repeats}
 use Rattle.sj_tape.specs.Marks.{marks}
 use Rattle.sj_tape.specs.declared.value.Value.{Value}
 
 -- the tree that a part of a tape lists
 abbrev pub tree : Value → Tree
 tree v = tree_of (marks v.nodes.now)
+
+-- which member of several with one key counts in the part
+abbrev pub choice : Value → Repeats
+choice v = v.repeats
+
+-- a part of a tape as contracts see it
+abbrev pub part : Value → Repeats × Tree
+part v = (choice v, tree v)
 
 -- the tree itself, where it is a null, a truth value or a whole number
 abbrev pub as_scalar : Tree → Option Tree

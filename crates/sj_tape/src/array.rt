@@ -10,12 +10,14 @@ ghost use Rattle.sj_tape.specs.Parts.{AreItems, items_in};
 use crate::node::Node;
 use crate::step::split_tree;
 use crate::value::Value;
+use sj_text_core::Repeats;
 
 /// The items of an array of a tape.
 #[derive(Clone, Copy, Debug)]
 pub struct Array<'t, 'i> {
     len: usize,
     nodes: &'t [Node<'i>],
+    repeats: Repeats,
     ghost whole: { AreItems (marks nodes.now) } by { Coded-set (coded_list mark_code) _ _ },
     ghost counted: { len ≡ items_len (items_in (marks nodes.now)) },
 }
@@ -24,17 +26,23 @@ impl<'t, 'i> Array<'t, 'i> {
     ghost use Rattle.std.specs.Prelude.{◌≡◌, ◌↔◌, IsTrue, option_map};
     ghost use Rattle.sj_text_core.specs.Find.{nth_item};
     ghost use Rattle.sj_text_core.specs.Tree.{no_items};
-    ghost use Rattle.sj_tape.specs.Items.{items, items_ahead};
+    ghost use Rattle.std.specs.Prelude.{map, IfSome};
+    ghost use Rattle.sj_tape.specs.Value.{tree, choice};
+    ghost use Rattle.sj_tape.specs.Items.{items, items_ahead, parts_ahead, array_choice};
     ghost use Rattle.sj_tape.specs.Parts.{listed};
-    ghost use Rattle.sj_tape.specs.Value.{tree};
 
     /// The array with so many items, whose nodes are these.
-    pub(crate) fn from_nodes(len: usize, nodes: &'t [Node<'i>]) -> Self
+    pub(crate) fn from_nodes(len: usize, nodes: &'t [Node<'i>], repeats: Repeats) -> Self
         requires whole { AreItems (marks nodes.now) }
         requires counted { len ≡ items_len (items_in (marks nodes.now)) }
-        ensures { items result ≡ items_in (marks nodes.now) }
+        ensures items { items result ≡ items_in (marks nodes.now) }
+        ensures choice { array_choice result ≡ repeats }
     {
-        Array { len, nodes }
+        Array {
+            len,
+            nodes,
+            repeats,
+        }
     }
 
     /// How many items it has.
@@ -53,14 +61,19 @@ impl<'t, 'i> Array<'t, 'i> {
 
     /// The items in order.
     pub fn iter(&self) -> Iter<'t, 'i>
-        ensures { items_ahead result ≡ listed (items self.now) }
+        ensures items { items_ahead result ≡ listed (items self.now) }
+        ensures parts { parts_ahead result ≡ map (λ t. (array_choice self.now, t)) (listed (items self.now)) }
     {
-        Iter { nodes: self.nodes }
+        Iter {
+            nodes: self.nodes,
+            repeats: self.repeats,
+        }
     }
 
     /// The item at that position, counted from 0; None past the last.
     pub fn get(&self, index: usize) -> Option<Value<'t, 'i>>
-        ensures { option_map tree result ≡ nth_item index (items self.now) }
+        ensures value { option_map tree result ≡ nth_item index (items self.now) }
+        ensures choice { IfSome result (λ v. choice v ≡ array_choice self.now) }
     {
         self.iter().nth(index)
     }
@@ -70,6 +83,7 @@ impl<'t, 'i> Array<'t, 'i> {
 #[derive(Debug, Drop)]
 pub struct Iter<'t, 'i> {
     nodes: &'t [Node<'i>],
+    repeats: Repeats,
     ghost whole: { AreItems (marks nodes.now) } by { Coded-set (coded_list mark_code) _ _ },
 }
 
@@ -77,12 +91,12 @@ impl<'t, 'i> Iterator for Iter<'t, 'i> {
     type Item = Value<'t, 'i>;
 
     ghost use Rattle.std.specs.Iterator.{YieldsFirstBy, item_count};
-    ghost use Rattle.sj_tape.specs.Items.{items_ahead};
-    ghost use Rattle.sj_tape.specs.Value.{tree};
+    ghost use Rattle.sj_tape.specs.Items.{parts_ahead};
+    ghost use Rattle.sj_tape.specs.Value.{part};
 
-    ghost next_gives = { YieldsFirstBy tree items_ahead };
+    ghost next_gives = { YieldsFirstBy part parts_ahead };
 
-    ghost remaining = { item_count items_ahead };
+    ghost remaining = { item_count parts_ahead };
 
     fn next(&mut self) -> Option<Value<'t, 'i>> {
         let nodes: &'t [Node<'i>] = self.nodes;
@@ -90,7 +104,11 @@ impl<'t, 'i> Iterator for Iter<'t, 'i> {
             return None;
         }
         let (first, rest) = split_tree(nodes);
-        *self = Iter { nodes: rest };
-        Some(Value::from_nodes(first))
+        let repeats = self.repeats;
+        *self = Iter {
+            nodes: rest,
+            repeats,
+        };
+        Some(Value::from_nodes(first, repeats))
     }
 }

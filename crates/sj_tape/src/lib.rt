@@ -3,10 +3,13 @@
 #![tactic(auto)]
 
 pub mod array;
+mod compare;
+pub mod laws;
 mod node;
 pub mod object;
 mod preorder;
 mod reader;
+mod search;
 mod step;
 mod tape;
 #[cfg(test)]

@@ -10,31 +10,41 @@ ghost use Rattle.sj_tape.specs.Marks.{marks};
 use crate::node::Node;
 use crate::step::split_tree;
 use crate::value::Value;
+use sj_text_core::Repeats;
 
 /// The members of an object of a tape, in order and repeats too.
 #[derive(Clone, Copy, Debug)]
 pub struct Object<'t, 'i> {
     len: usize,
     nodes: &'t [Node<'i>],
+    repeats: Repeats,
     ghost whole: { AreMembers (marks nodes.now) } by { Coded-set (coded_list mark_code) _ _ },
     ghost counted: { len ≡ members_len (members_in (marks nodes.now)) },
 }
 
 impl<'t, 'i> Object<'t, 'i> {
-    ghost use Rattle.std.specs.Prelude.{◌≡◌, ◌↔◌, ℕ, List, IsTrue, map, option_map};
+    ghost use Rattle.std.specs.Prelude.{◌≡◌, ◌↔◌, ℕ, List, IsTrue, IfSome, map, drop, option_map};
+    ghost use Rattle.sj_text_core.specs.Agree.{is_before, texts};
     ghost use Rattle.sj_text_core.specs.Find.{find_member};
+    ghost use Rattle.sj_text_core.specs.Keep.{is_seen};
+    ghost use Rattle.sj_text_core.specs.Repeats.{find_member_by};
     ghost use Rattle.sj_text_core.specs.Tree.{Tree, no_members};
-    ghost use Rattle.sj_tape.specs.Members.{members, members_ahead, keys_ahead, values_ahead};
+    ghost use Rattle.sj_tape.specs.Members.{members, members_ahead, keys_ahead, values_ahead, object_choice, parts_ahead, value_parts_ahead, chosen};
     ghost use Rattle.sj_tape.specs.Parts.{paired};
-    ghost use Rattle.sj_tape.specs.Value.{tree};
+    ghost use Rattle.sj_tape.specs.Value.{tree, choice};
 
     /// The object with so many members, whose nodes are these.
-    pub(crate) fn from_nodes(len: usize, nodes: &'t [Node<'i>]) -> Self
+    pub(crate) fn from_nodes(len: usize, nodes: &'t [Node<'i>], repeats: Repeats) -> Self
         requires whole { AreMembers (marks nodes.now) }
         requires counted { len ≡ members_len (members_in (marks nodes.now)) }
-        ensures { members result ≡ members_in (marks nodes.now) }
+        ensures members { members result ≡ members_in (marks nodes.now) }
+        ensures choice { object_choice result ≡ repeats }
     {
-        Object { len, nodes }
+        Object {
+            len,
+            nodes,
+            repeats,
+        }
     }
 
     /// How many members it has, repeats counted.
@@ -53,9 +63,13 @@ impl<'t, 'i> Object<'t, 'i> {
 
     /// The members in order, repeats too.
     pub fn iter(&self) -> Iter<'t, 'i>
-        ensures { members_ahead result ≡ paired (members self.now) }
+        ensures members { members_ahead result ≡ paired (members self.now) }
+        ensures parts { parts_ahead result ≡ chosen (object_choice self.now) (paired (members self.now)) }
     {
-        Iter { nodes: self.nodes }
+        Iter {
+            nodes: self.nodes,
+            repeats: self.repeats,
+        }
     }
 
     /// The keys in order, repeats too.
@@ -69,15 +83,31 @@ impl<'t, 'i> Object<'t, 'i> {
 
     /// The values in order.
     pub fn values(&self) -> Values<'t, 'i>
-        ensures { values_ahead result ≡ map (λ (p : List ℕ × Tree). p.1) (paired (members self.now)) }
+        ensures values { values_ahead result ≡ map (λ (p : List ℕ × Tree). p.1) (paired (members self.now)) }
+        ensures parts { value_parts_ahead result ≡ map (λ p. p.1) (chosen (object_choice self.now) (paired (members self.now))) }
     {
         Values {
             members: self.iter(),
         }
     }
 
-    /// The value of the first member with that key; None where there is none.
+    /// Which member of several with one key counts.
+    pub(crate) fn repeats(&self) -> Repeats
+        ensures { result ≡ object_choice self.now }
+    {
+        self.repeats
+    }
+
+    /// The value of the member with that key that counts; None where there is none.
     pub fn get(&self, key: &str) -> Option<Value<'t, 'i>>
+        ensures value { option_map tree result ≡ find_member_by (object_choice self.now) key.now (members self.now) }
+        ensures choice { IfSome result (λ v. choice v ≡ object_choice self.now) }
+    {
+        self.find(key)
+    }
+
+    /// The value of the first member with that key, whichever counts; None where there is none.
+    pub(crate) fn first(&self, key: &str) -> Option<Value<'t, 'i>>
         ensures { option_map tree result ≡ find_member key.now (members self.now) }
     {
         for (name, value) in self.iter() {
@@ -87,12 +117,45 @@ impl<'t, 'i> Object<'t, 'i> {
         }
         None
     }
+
+    /// Whether one of the first `place` members has that key.
+    pub fn has_before(&self, place: usize, key: &str) -> bool
+        ensures { result ≡ is_before place key.now (paired (members self.now)) }
+    {
+        let mut at = 0;
+        for name in self.keys() {
+            if at >= place {
+                return false;
+            }
+            if key == name {
+                return true;
+            }
+            at += 1;
+        }
+        false
+    }
+
+    /// Whether a member behind the first `place` has that key.
+    pub fn has_behind(&self, place: usize, key: &str) -> bool
+        ensures { result ≡ is_seen key.now (drop place (texts (paired (members self.now)))) }
+    {
+        let mut known = place;
+        for name in self.keys() {
+            if known > 0 {
+                known -= 1;
+            } else if key == name {
+                return true;
+            }
+        }
+        false
+    }
 }
 
 /// The members of an object in order, as keys and parts of the tape.
 #[derive(Debug, Drop)]
 pub struct Iter<'t, 'i> {
     nodes: &'t [Node<'i>],
+    repeats: Repeats,
     ghost whole: { AreMembers (marks nodes.now) } by { Coded-set (coded_list mark_code) _ _ },
 }
 
@@ -100,12 +163,12 @@ impl<'t, 'i> Iterator for Iter<'t, 'i> {
     type Item = (&'i str, Value<'t, 'i>);
 
     ghost use Rattle.std.specs.Iterator.{YieldsFirstBy, item_count};
-    ghost use Rattle.sj_tape.specs.Members.{members_ahead};
-    ghost use Rattle.sj_tape.specs.Value.{tree};
+    ghost use Rattle.sj_tape.specs.Members.{parts_ahead};
+    ghost use Rattle.sj_tape.specs.Value.{part};
 
-    ghost next_gives = { YieldsFirstBy (λ p. (p.0.now, tree p.1)) members_ahead };
+    ghost next_gives = { YieldsFirstBy (λ p. (p.0.now, part p.1)) parts_ahead };
 
-    ghost remaining = { item_count members_ahead };
+    ghost remaining = { item_count parts_ahead };
 
     fn next(&mut self) -> Option<(&'i str, Value<'t, 'i>)> {
         let nodes: &'t [Node<'i>] = self.nodes;
@@ -114,8 +177,12 @@ impl<'t, 'i> Iterator for Iter<'t, 'i> {
             unreachable!()
         };
         let (value, rest) = split_tree(values);
-        *self = Iter { nodes: rest };
-        Some((name, Value::from_nodes(value)))
+        let repeats = self.repeats;
+        *self = Iter {
+            nodes: rest,
+            repeats,
+        };
+        Some((name, Value::from_nodes(value, repeats)))
     }
 }
 
@@ -151,12 +218,12 @@ impl<'t, 'i> Iterator for Values<'t, 'i> {
     type Item = Value<'t, 'i>;
 
     ghost use Rattle.std.specs.Iterator.{YieldsFirstBy, item_count};
-    ghost use Rattle.sj_tape.specs.Members.{values_ahead};
-    ghost use Rattle.sj_tape.specs.Value.{tree};
+    ghost use Rattle.sj_tape.specs.Members.{value_parts_ahead};
+    ghost use Rattle.sj_tape.specs.Value.{part};
 
-    ghost next_gives = { YieldsFirstBy tree values_ahead };
+    ghost next_gives = { YieldsFirstBy part value_parts_ahead };
 
-    ghost remaining = { item_count values_ahead };
+    ghost remaining = { item_count value_parts_ahead };
 
     fn next(&mut self) -> Option<Value<'t, 'i>> {
         let (_, value) = self.members.next()?;

@@ -3,7 +3,7 @@
 use crate::node::Node;
 use crate::preorder::is_preorder;
 use crate::value::Value;
-use sj_text_core::{BadTape, Refused};
+use sj_text_core::{BadTape, Refused, Repeats};
 use std::marker::Model;
 
 /// The nodes of one tree in preorder.
@@ -31,7 +31,7 @@ impl<'i> Tape<'i> {
     ghost use Rattle.std.specs.Prelude.{◌≡◌, ◌↔◌, IsOk, IfOk, IfErr};
     ghost use Rattle.sj_text_core.specs.Nodes.{flat, tree_of, IsPreorder};
     ghost use Rattle.sj_tape.specs.Marks.{marks};
-    ghost use Rattle.sj_tape.specs.Value.{tree};
+    ghost use Rattle.sj_tape.specs.Value.{tree, choice};
 
     /// The tape of the nodes, where they are the preorder of one tree, of any depth.
     ///
@@ -62,8 +62,17 @@ impl<'i> Tape<'i> {
 
     /// The whole tape.
     pub fn as_value(&self) -> Value<'_, 'i>
-        ensures { tree result ≡ self.now }
+        ensures tree { tree result ≡ self.now }
+        ensures choice { choice result ≡ Repeats.First }
     {
-        Value::from_nodes(self.nodes.as_slice())
+        self.as_value_repeats(Repeats::First)
+    }
+
+    /// The whole tape, where that member of several with one key counts.
+    pub fn as_value_repeats(&self, repeats: Repeats) -> Value<'_, 'i>
+        ensures tree { tree result ≡ self.now }
+        ensures choice { choice result ≡ repeats }
+    {
+        Value::from_nodes(self.nodes.as_slice(), repeats)
     }
 }

@@ -1,2 +1,3 @@
+mod comparisons;
 mod reader;
 mod values;

@@ -7,3 +7,9 @@ pub mod Escapes
 pub mod Lanes
 pub mod Runs
 pub mod Utf8
+pub mod Last
+pub mod Equality
+pub mod Finds
+pub mod Comparing
+pub mod Equal
+pub mod Printed

@@ -31,12 +31,12 @@ escape_below (suc n) e x h =
 all_ascii : escapes_below 128 ≡ true
 all_ascii = refl
 
-escaped-append : (xs ys : List ℕ) → flat_map escaped (xs ++ ys) ≡ flat_map escaped xs ++ flat_map escaped ys
+pub escaped-append : (xs ys : List ℕ) → flat_map escaped (xs ++ ys) ≡ flat_map escaped xs ++ flat_map escaped ys
 escaped-append [] ys = refl
 escaped-append (x ∷ xs) ys = ap (λ l. escaped x ++ l) (escaped-append xs ys) ∙ sym (append_assoc (escaped x) _ _)
 
 -- bytes past 127 stand for themselves
-escaped_high : (xs : List ℕ) → ((k : ℕ) → k < length xs → 128 ≤ get_or xs k 0) → flat_map escaped xs ≡ xs
+pub escaped_high : (xs : List ℕ) → ((k : ℕ) → k < length xs → 128 ≤ get_or xs k 0) → flat_map escaped xs ≡ xs
 escaped_high [] h = refl
 escaped_high (x ∷ xs) h =
     let high : 128 ≤ x = h 0 (omega arith) in

@@ -6,3 +6,4 @@ pub mod Sameness
 pub mod Spelling
 pub mod Limits
 pub mod Misspelled
+pub mod Repeats

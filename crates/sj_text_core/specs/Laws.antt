@@ -1,8 +1,11 @@
 -- What holds of the definitions themselves.
-use Rattle.std.specs.Prelude.{◌≡◌, ℕ, List, IsUtf8}
-use Rattle.sj_text_core.specs.Tree.{Tree, IsProper}
+use Rattle.std.specs.Prelude.{◌≡◌, ◌⊎◌, ℕ, List, IsUtf8, option_map}
+use Rattle.sj_text_core.specs.Tree.{Tree, IsProper, IsWithin}
 use Rattle.sj_text_core.specs.Grammar.{Spells}
 use Rattle.sj_text_core.specs.Keep.{keep}
+use Rattle.sj_text_core.specs.Paths.{Step, tree_at}
+use Rattle.sj_text_core.specs.Print.{compact, pretty, recarry}
+use Rattle.sj_text_core.specs.Same.{Same}
 use Rattle.sj_text_core.specs.Nodes.{flat, tree_of}
 
 -- what is kept is kept
@@ -24,3 +27,48 @@ SpellsProper = (b : List ℕ) (t : Tree) → Spells b t → IsProper t
 -- what spells a tree is UTF-8
 abbrev pub SpellsUtf8 : Type 0
 SpellsUtf8 = (b : List ℕ) (t : Tree) → Spells b t → IsUtf8 b
+
+-- a tree is the same as itself, also where its objects repeat keys
+abbrev pub SameAsItself : Type 0
+SameAsItself = (t : Tree) → Same t t
+
+-- sameness goes both ways
+abbrev pub SameBothWays : Type 0
+SameBothWays = (t u : Tree) → Same t u → Same u t
+
+-- what is the same as a same tree is the same
+abbrev pub SameOnwards : Type 0
+SameOnwards = (t u v : Tree) → Same t u → Same u v → Same t v
+
+-- a tree is the same as its kept tree
+abbrev pub SameKept : Type 0
+SameKept = (t : Tree) → Same t (keep t)
+
+-- a tree is the same with the carriers of its prints
+abbrev pub SameRecarried : Type 0
+SameRecarried = (t : Tree) → Same t (recarry t)
+
+-- a tree within the limit is within it with the carriers of its prints
+abbrev pub WithinRecarried : Type 0
+WithinRecarried = (t : Tree) → IsWithin t → IsWithin (recarry t)
+
+-- what stands at a path in a kept tree is what stands there, kept; or nothing does in both
+abbrev pub FindsKept : Type 0
+FindsKept = (p : List Step) (t : Tree) → tree_at p (keep t) ≡ option_map keep (tree_at p t)
+
+-- the compact text of a proper tree spells it, with the carriers of the print
+abbrev pub CompactSpells : Type 0
+CompactSpells = (t : Tree) → IsProper t → Spells (compact t) (recarry t)
+
+-- the pretty text too, at each level
+abbrev pub PrettySpells : Type 0
+PrettySpells = (t : Tree) (level : ℕ) → IsProper t → Spells (pretty level t) (recarry t)
+
+-- carriers are not printed
+abbrev pub PrintedAlike : Type 0
+PrintedAlike = (t u : Tree) → recarry t ≡ recarry u → compact t ≡ compact u
+
+-- both texts of a proper tree within the limit are read back to a tree that is the same, kept or not (section 9)
+abbrev pub ReadsBack : Type 0
+ReadsBack = (t : Tree) (b : List ℕ) → IsProper t → IsWithin t → (b ≡ compact t) ⊎ (b ≡ pretty 0 t)
+    → Spells b (recarry t) × IsWithin (recarry t) × Same t (recarry t) × Same t (keep (recarry t))

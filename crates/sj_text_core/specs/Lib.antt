@@ -17,3 +17,6 @@ pub mod ScalarValues
 pub mod Nulls
 pub mod Generators
 pub mod Runs
+pub mod Repeats
+pub mod Agree
+pub mod Equal

@@ -17,6 +17,9 @@ mod writer;
 
 use crate::static_node::StaticNode;
 pub use dump::DumpGenerator;
+pub use escape::hex_digit;
+pub use line::append_line;
+pub use plain::plain_end;
 pub use pretty::PrettyGenerator;
 pub use pretty_writer::PrettyWriterGenerator;
 use std::alloc::AllocError;

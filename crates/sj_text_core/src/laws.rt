@@ -1,6 +1,8 @@
 //! What holds of the definitions: each function's contract is a law, and its body is empty.
 
 ghost use Rattle.sj_text_core.specs.Laws.{KeepsOnce, IsPreorderOfOne, TreeIsListed, SpellsProper, SpellsUtf8};
+ghost use Rattle.sj_text_core.specs.Laws.{SameAsItself, SameBothWays, SameOnwards, SameKept, SameRecarried, WithinRecarried, FindsKept};
+ghost use Rattle.sj_text_core.specs.Laws.{CompactSpells, PrettySpells, PrintedAlike, ReadsBack};
 
 /// Keeping the first member of each key twice is keeping it once.
 pub fn keeps_once()
@@ -25,4 +27,59 @@ pub fn spells_proper()
 /// A text that spells a tree is UTF-8 (RFC 8259, section 8.1).
 pub fn spells_utf8()
     ensures { SpellsUtf8 }
+{}
+
+/// Sameness is reflexive, also on trees whose objects repeat keys.
+pub fn same_as_itself()
+    ensures { SameAsItself }
+{}
+
+/// Sameness is symmetric.
+pub fn same_both_ways()
+    ensures { SameBothWays }
+{}
+
+/// Sameness is transitive.
+pub fn same_onwards()
+    ensures { SameOnwards }
+{}
+
+/// A tree is the same as its kept tree.
+pub fn same_kept()
+    ensures { SameKept }
+{}
+
+/// A tree is the same as the tree that has the carriers of its prints.
+pub fn same_recarried()
+    ensures { SameRecarried }
+{}
+
+/// The carriers of prints keep a tree within the limit.
+pub fn within_recarried()
+    ensures { WithinRecarried }
+{}
+
+/// A path leads in a kept tree to what it leads to, kept.
+pub fn finds_kept()
+    ensures { FindsKept }
+{}
+
+/// The compact text of a proper tree spells it, with the carriers of the print.
+pub fn compact_spells()
+    ensures { CompactSpells }
+{}
+
+/// The pretty text of a proper tree spells it, with the carriers of the print.
+pub fn pretty_spells()
+    ensures { PrettySpells }
+{}
+
+/// Trees that differ in carriers alone have one text.
+pub fn printed_alike()
+    ensures { PrintedAlike }
+{}
+
+/// Both texts of a proper tree within the limit read back as a tree that is the same.
+pub fn reads_back()
+    ensures { ReadsBack }
 {}

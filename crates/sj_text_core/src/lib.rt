@@ -6,6 +6,7 @@ mod generator;
 pub mod laws;
 mod meaning;
 mod refused;
+mod repeats;
 mod same_as;
 mod static_node;
 mod steps;
@@ -18,9 +19,11 @@ mod writable;
 pub use error::{AccessError, BadTape, ErrorKind, WriteError};
 pub use generator::{
     BaseGenerator, DumpGenerator, PrettyGenerator, PrettyWriterGenerator, WriterGenerator,
+    append_line, hex_digit, plain_end,
 };
 pub use meaning::Meaning;
 pub use refused::Refused;
+pub use repeats::Repeats;
 pub use same_as::SameAs;
 pub use static_node::StaticNode;
 pub use steps::Steps;

@@ -1,6 +1,6 @@
 //! What reads a member by its key, and what lends its value for writing.
 
-ghost use Rattle.std.specs.Prelude.{◌≡◌, ◌+◌, None, is_some};
+ghost use Rattle.std.specs.Prelude.{◌≡◌, ◌+◌, ℕ, None, Some, IsSome, is_some};
 ghost use Rattle.std.specs.Borrow.{sem};
 ghost use Rattle.std.specs.Option.{option_copied, option_copied_mut};
 
@@ -13,17 +13,36 @@ use std::sync::ledger::Ledger;
 
 impl<K: KeyText, V, S: KeyHasher> HashMap<K, V, S> {
     ghost use Rattle.sj_object.specs.Edits.{lookup};
-    ghost use Rattle.sj_object.specs.Steps.{visited};
+    ghost use Rattle.sj_object.specs.Steps.{visited, walk};
     ghost use Rattle.sj_object.specs.Lends.{LendsValue};
+
+    /// The hash of a text, where there are buckets.
+    pub(super) fn hash_in(&self, key: &str) -> u64
+        ensures { IsSome self.now.buckets → result ≡ S.hash_of self.now.hasher key.now }
+    {
+        if self.index.is_plain() {
+            0
+        } else {
+            self.hasher.hash_text(key)
+        }
+    }
+
+    /// The value of the key. Its hash is read only where there are buckets.
+    pub(crate) fn find(&self, hash: u64, key: &str) -> Option<&V>
+        requires { IsSome self.now.buckets → hash ≡ S.hash_of self.now.hasher key.now }
+        ensures { option_copied result ≡ lookup key.now self.now.entries }
+    {
+        match position_of(&self.pairs, &self.index, &self.hasher, hash, key) {
+            Some(i) => Some(&self.pairs[i].1),
+            None => None,
+        }
+    }
 
     /// The value of the key.
     pub fn get(&self, key: &str) -> Option<&V>
         ensures { option_copied result ≡ lookup key.now self.now.entries }
     {
-        match position_of(&self.pairs, key) {
-            Some(i) => Some(&self.pairs[i].1),
-            None => None,
-        }
+        self.find(self.hash_in(key), key)
     }
 
     /// The value of the key, which hashes to `hash`.
@@ -31,16 +50,21 @@ impl<K: KeyText, V, S: KeyHasher> HashMap<K, V, S> {
         requires { hash ≡ S.hash_of self.now.hasher key.now }
         ensures { option_copied result ≡ lookup key.now self.now.entries }
     {
-        self.get(key)
+        self.find(hash, key)
     }
 
     /// The value of the key, with a step for each key that is compared: in a plain list one for
-    /// each member up to the one found, and for every member where none is found.
+    /// each member up to the one found, and for every member where none is found; where there are
+    /// buckets one for each member of the key's bucket from the last down to the one found, and
+    /// for every member of the bucket where none is found.
     pub fn get_steps<L: Ledger>(&self, key: &str, steps: &mut Steps<L>) -> Option<&V>
         ensures value { option_copied result ≡ lookup key.now self.now.entries }
         ensures exact { self.now.buckets ≡ None → steps.new ≡ steps.old + visited key.now self.now.entries }
+        ensures chained { (n : ℕ) → self.now.buckets ≡ Some n → steps.new ≡ steps.old + walk (S.hash_of self.now.hasher) n key.now self.now.entries }
     {
-        match position_counted(&self.pairs, key.as_bytes(), steps) {
+        let hash = self.hash_in(key);
+        let text = key.as_bytes();
+        match position_counted(&self.pairs, &self.index, &self.hasher, hash, text, steps) {
             Some(i) => Some(&self.pairs[i].1),
             None => None,
         }
@@ -53,13 +77,13 @@ impl<K: KeyText, V, S: KeyHasher> HashMap<K, V, S> {
         self.get(key).is_some()
     }
 
-    /// The value of the key, to write. The map is then as it was, with what the reference last
-    /// held in the place of that value.
-    pub fn get_mut(&mut self, key: &str) -> Option<&mut V>
+    /// The value of the key, to write. Its hash is read only where there are buckets.
+    fn find_mut(&mut self, hash: u64, key: &str) -> Option<&mut V>
+        requires { IsSome self.old.buckets → hash ≡ S.hash_of self.old.hasher key.now }
         ensures* writes_back { sem 𝓛 (LendsValue K.row V.row S.row K.KeyText S.KeyHasher self.entry key.now result) }
         ensures value { option_copied_mut result ≡ lookup key.now self.old.entries }
     {
-        match position_of(&self.pairs, key) {
+        match position_of(&self.pairs, &self.index, &self.hasher, hash, key) {
             Some(i) => {
                 let pair = &mut self.pairs[i];
                 Some(&mut pair.1)
@@ -68,12 +92,22 @@ impl<K: KeyText, V, S: KeyHasher> HashMap<K, V, S> {
         }
     }
 
+    /// The value of the key, to write. The map is then as it was, with what the reference last
+    /// held in the place of that value.
+    pub fn get_mut(&mut self, key: &str) -> Option<&mut V>
+        ensures* writes_back { sem 𝓛 (LendsValue K.row V.row S.row K.KeyText S.KeyHasher self.entry key.now result) }
+        ensures value { option_copied_mut result ≡ lookup key.now self.old.entries }
+    {
+        let hash = self.hash_in(key);
+        self.find_mut(hash, key)
+    }
+
     /// The same as `get_mut`, where the key hashes to `hash`.
     pub fn get_hashed_mut(&mut self, hash: u64, key: &str) -> Option<&mut V>
         requires { hash ≡ S.hash_of self.old.hasher key.now }
         ensures* writes_back { sem 𝓛 (LendsValue K.row V.row S.row K.KeyText S.KeyHasher self.entry key.now result) }
         ensures value { option_copied_mut result ≡ lookup key.now self.old.entries }
     {
-        self.get_mut(key)
+        self.find_mut(hash, key)
     }
 }

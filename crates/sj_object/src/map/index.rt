@@ -1,23 +1,34 @@
 //! The index of a map's members by their hashes.
 
-ghost use Rattle.std.specs.Prelude.{◌≡◌, []};
+ghost use Rattle.std.specs.Prelude.{◌≡◌, ◌↔◌, ◌+◌, ◌<◌, ◌∷◌, ◌++◌, [], length, map, Some, IsTrue, IfOk, OnOk, OnErr};
+ghost use Rattle.std.specs.List.{remove};
+ghost use Rattle.std.specs.Vec.{vec_len, vec_capacity};
+ghost use Rattle.sj_object.specs.Index.{buckets_of, buckets_for, IsTable, IsIndexOf};
 
-use std::alloc::Global;
+use super::chain::{link, renumber_all};
+use crate::hasher::KeyHasher;
+use crate::key::KeyText;
+use std::alloc::{AllocError, Global};
 
-/// Where the chains of members begin, one for each bucket. A plain list has none.
+/// The hash of each member, the link to the next one in its chain, and where the chains begin, one
+/// for each bucket. A plain list has none of these.
 #[derive(Drop)]
 pub struct Index {
-    heads: Vec<usize>,
+    pub(super) bits: u32,
+    pub(super) hashes: Vec<u64>,
+    pub(super) links: Vec<usize>,
+    pub(super) heads: Vec<usize>,
 }
 
 impl Index {
-    ghost use Rattle.sj_object.specs.Index.{buckets_of};
-
     /// The index of a plain list.
     pub fn new(alloc: Global) -> Self
         ensures { result.heads.items ≡ [] }
     {
         Index {
+            bits: 0,
+            hashes: Vec::new(alloc),
+            links: Vec::new(alloc),
             heads: Vec::new(alloc),
         }
     }
@@ -32,4 +43,158 @@ impl Index {
             Some(self.heads.len())
         }
     }
+
+    /// Whether there are no buckets.
+    pub fn is_plain(&self) -> bool
+        ensures { IsTrue result ↔ (length self.now.heads.items ≡ 0) }
+    {
+        self.heads.is_empty()
+    }
+
+    /// The index of 33 members, with 64 buckets.
+    fn of_hashes(alloc: Global, hashes: Vec<u64>) -> Result<Self, AllocError>
+        requires { length hashes.items ≡ 33 }
+        ensures hashes { IfOk result (λ i. i.hashes.items ≡ hashes.items) }
+        ensures table { IfOk result IsTable }
+        ensures buckets { IfOk result (λ i. length i.heads.items ≡ 64) }
+    {
+        let mut links = vec![in alloc; 0; hashes.len()]?;
+        let mut heads = vec![in alloc; 0; 64]?;
+        link(6, &hashes, 0, &mut links, &mut heads);
+        Ok(Index {
+            bits: 6,
+            hashes,
+            links,
+            heads,
+        })
+    }
+
+    /// Puts one more hash last, where there are buckets: twice as many once each has a member.
+    fn push(&mut self, alloc: Global, hash: u64) -> Result<(), AllocError>
+        requires { IsTable self.old }
+        ensures hashes { OnOk result (self.new.hashes.items ≡ self.old.hashes.items ++ hash ∷ []) }
+        ensures buckets { OnOk result (Some (length self.new.heads.items) ≡ buckets_for (length self.new.hashes.items) (Some (length self.old.heads.items))) }
+        ensures table { IsTable self.new }
+        ensures refused { OnErr result (self.new.hashes.items ≡ self.old.hashes.items) }
+        ensures refused_buckets { OnErr result (self.new.heads.items ≡ self.old.heads.items) }
+    {
+        if self.hashes.len() == self.heads.len() {
+            return self.grow(alloc, hash);
+        }
+        self.hashes.reserve(1)?;
+        self.links.reserve(1)?;
+        let last = self.hashes.len();
+        self.hashes.push_reserved(hash);
+        self.links.push_reserved(0);
+        link(
+            self.bits,
+            &self.hashes,
+            last,
+            &mut self.links,
+            &mut self.heads,
+        );
+        Ok(())
+    }
+
+    /// Puts one more hash last, and doubles the buckets.
+    fn grow(&mut self, alloc: Global, hash: u64) -> Result<(), AllocError>
+        requires table { IsTable self.old }
+        requires full { length self.old.hashes.items ≡ length self.old.heads.items }
+        ensures hashes { OnOk result (self.new.hashes.items ≡ self.old.hashes.items ++ hash ∷ []) }
+        ensures buckets { OnOk result (length self.new.heads.items ≡ length self.old.heads.items + length self.old.heads.items) }
+        ensures table { IsTable self.new }
+        ensures refused { OnErr result (self.new.hashes.items ≡ self.old.hashes.items) }
+        ensures refused_buckets { OnErr result (self.new.heads.items ≡ self.old.heads.items) }
+    {
+        let Some(buckets) = self.heads.len().checked_mul(2) else {
+            return Err(AllocError);
+        };
+        let mut heads = vec![in alloc; 0; buckets]?;
+        self.hashes.reserve(1)?;
+        self.links.reserve(1)?;
+        self.hashes.push_reserved(hash);
+        self.links.push_reserved(0);
+        self.bits += 1;
+        link(self.bits, &self.hashes, 0, &mut self.links, &mut heads);
+        self.heads = heads;
+        Ok(())
+    }
+
+    /// Takes the hash at a position out, and closes the rest up.
+    pub fn remove(&mut self, position: usize)
+        requires within { 0 < length self.old.heads.items → position < length self.old.hashes.items }
+        requires table { 0 < length self.old.heads.items → IsTable self.old }
+        ensures hashes { 0 < length self.old.heads.items → self.new.hashes.items ≡ remove self.old.hashes.items position }
+        ensures buckets { length self.new.heads.items ≡ length self.old.heads.items }
+        ensures table { 0 < length self.old.heads.items → IsTable self.new }
+    {
+        if self.heads.is_empty() {
+            return;
+        }
+        self.hashes.remove(position);
+        let next = self.links.remove(position);
+        renumber_all(&mut self.links, position, next);
+        renumber_all(&mut self.heads, position, next);
+    }
+}
+
+/// The hashes of the keys in order, and one more.
+fn hashes_of<K: KeyText, V, S: KeyHasher>(
+    alloc: Global,
+    pairs: &[(K, V)],
+    hasher: &S,
+    last: u64,
+) -> Result<Vec<u64>, AllocError>
+    ensures { IfOk result (λ hs. hs.items ≡ map (λ p. S.hash_of hasher.now (K.text_of p.0)) pairs.now ++ last ∷ []) }
+{
+    let mut hashes = Vec::with_capacity(alloc, 64)?;
+    for pair in pairs {
+        hashes.push(hasher.hash_text(pair.0.text()))?;
+    }
+    hashes.push(last)?;
+    Ok(hashes)
+}
+
+/// Puts one more member's hash last: before it stand the pairs.
+fn add<K: KeyText, V, S: KeyHasher>(
+    alloc: Global,
+    index: &mut Index,
+    pairs: &[(K, V)],
+    hasher: &S,
+    hash: u64,
+) -> Result<(), AllocError>
+    requires { IsIndexOf (map (λ p. S.hash_of hasher.now (K.text_of p.0)) pairs.now) index.old }
+    ensures ok { OnOk result (IsIndexOf (map (λ p. S.hash_of hasher.now (K.text_of p.0)) pairs.now ++ hash ∷ []) index.new) }
+    ensures buckets { OnOk result (buckets_of index.new ≡ buckets_for (length pairs.now + 1) (buckets_of index.old)) }
+    ensures refused { OnErr result (IsIndexOf (map (λ p. S.hash_of hasher.now (K.text_of p.0)) pairs.now) index.new) }
+    ensures refused_buckets { OnErr result (buckets_of index.new ≡ buckets_of index.old) }
+{
+    if !index.is_plain() {
+        return index.push(alloc, hash);
+    }
+    if pairs.len() < 32 {
+        return Ok(());
+    }
+    let hashes = hashes_of(alloc, pairs, hasher, hash)?;
+    *index = Index::of_hashes(alloc, hashes)?;
+    Ok(())
+}
+
+/// Makes every growth for one more member, whose hash is then there: only the pair is missing.
+pub fn make_room<K: KeyText, V, S: KeyHasher>(
+    pairs: &mut Vec<(K, V)>,
+    index: &mut Index,
+    hasher: &S,
+    hash: u64,
+) -> Result<(), AllocError>
+    requires { IsIndexOf (map (λ p. S.hash_of hasher.now (K.text_of p.0)) pairs.old.items) index.old }
+    ensures pairs { pairs.new.items ≡ pairs.old.items }
+    ensures room { OnOk result (vec_len pairs.new < vec_capacity pairs.new) }
+    ensures ok { OnOk result (IsIndexOf (map (λ p. S.hash_of hasher.now (K.text_of p.0)) pairs.old.items ++ hash ∷ []) index.new) }
+    ensures buckets { OnOk result (buckets_of index.new ≡ buckets_for (length pairs.old.items + 1) (buckets_of index.old)) }
+    ensures refused { OnErr result (IsIndexOf (map (λ p. S.hash_of hasher.now (K.text_of p.0)) pairs.old.items) index.new) }
+    ensures refused_buckets { OnErr result (buckets_of index.new ≡ buckets_of index.old) }
+{
+    pairs.reserve(1)?;
+    add(*pairs.allocator(), index, pairs, hasher, hash)
 }

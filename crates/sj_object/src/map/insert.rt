@@ -5,6 +5,7 @@ ghost use Rattle.sj_text_core.specs.Keep.{is_seen};
 ghost use Rattle.sj_object.specs.Entries.{texts};
 
 use super::HashMap;
+use super::index::make_room;
 use super::search::position_of;
 use crate::hasher::KeyHasher;
 use crate::key::KeyText;
@@ -14,7 +15,7 @@ use std::mem;
 
 impl<K: KeyText, V, S: KeyHasher> HashMap<K, V, S> {
     ghost use Rattle.sj_object.specs.Edits.{lookup, put};
-    ghost use Rattle.sj_object.specs.Index.{buckets_for};
+    ghost use Rattle.sj_object.specs.Index.{buckets_for, NeedsHash};
 
     /// Sets the value of the key, and answers the one before. A key that is there keeps its place
     /// and its stored key, and is never refused; a new one goes last. It is refused only for want
@@ -30,13 +31,8 @@ impl<K: KeyText, V, S: KeyHasher> HashMap<K, V, S> {
         ensures returned { IfErr result (λ r. r.value ≡ (key, value)) }
         ensures succeeds { IsSome (lookup (K.text_of key) self.old.entries) → IsOk result }
     {
-        match position_of(&self.pairs, key.text()) {
-            Some(i) => Ok(Some(mem::replace(&mut self.pairs[i].1, value))),
-            None => {
-                self.append(key, value)?;
-                Ok(None)
-            }
-        }
+        let hash = self.hash_for(key.text());
+        self.put(hash, key, value)
     }
 
     /// The same as `insert`, where the key hashes to `hash`.
@@ -57,23 +53,65 @@ impl<K: KeyText, V, S: KeyHasher> HashMap<K, V, S> {
         ensures returned { IfErr result (λ r. r.value ≡ (key, value)) }
         ensures succeeds { IsSome (lookup (K.text_of key) self.old.entries) → IsOk result }
     {
-        self.insert(key, value)
+        self.put(hash, key, value)
+    }
+
+    /// The same, where the hash is read only with buckets, or where there will be some.
+    fn put(&mut self, hash: u64, key: K, value: V) -> Result<Option<V>, Refused<AllocError, (K, V)>>
+    where
+        K: Drop,
+        requires { NeedsHash (length self.old.entries) self.old.buckets → hash ≡ S.hash_of self.old.hasher (K.text_of key) }
+        ensures answer { IfOk result (λ before. before ≡ lookup (K.text_of key) self.old.entries) }
+        ensures entries { OnOk result (self.new.entries ≡ put (key, K.text_of key) value self.old.entries) }
+        ensures hasher { self.new.hasher ≡ self.old.hasher }
+        ensures buckets { OnOk result (self.new.buckets ≡ buckets_for (length self.new.entries) self.old.buckets) }
+        ensures refused { OnErr result (self.new ≡ self.old) }
+        ensures returned { IfErr result (λ r. r.value ≡ (key, value)) }
+        ensures succeeds { IsSome (lookup (K.text_of key) self.old.entries) → IsOk result }
+    {
+        match position_of(&self.pairs, &self.index, &self.hasher, hash, key.text()) {
+            Some(i) => Ok(Some(mem::replace(&mut self.pairs[i].1, value))),
+            None => {
+                self.append(hash, key, value)?;
+                Ok(None)
+            }
+        }
+    }
+
+    /// The hash of a text, where `append` reads it.
+    pub(crate) fn hash_for(&self, text: &str) -> u64
+        ensures { NeedsHash (length self.now.entries) self.now.buckets → result ≡ S.hash_of self.now.hasher text.now }
+    {
+        if self.index.is_plain() && self.pairs.len() < 32 {
+            0
+        } else {
+            self.hasher.hash_text(text)
+        }
     }
 
     /// Puts a member last, whose key is not there.
-    pub(crate) fn append(&mut self, key: K, value: V) -> Result<(), Refused<AllocError, (K, V)>>
-        requires { is_seen (K.text_of key) (texts self.old.entries) ≡ false }
+    pub(crate) fn append(
+        &mut self,
+        hash: u64,
+        key: K,
+        value: V,
+    ) -> Result<(), Refused<AllocError, (K, V)>>
+        requires absent { is_seen (K.text_of key) (texts self.old.entries) ≡ false }
+        requires hash { NeedsHash (length self.old.entries) self.old.buckets → hash ≡ S.hash_of self.old.hasher (K.text_of key) }
         ensures entries { OnOk result (self.new.entries ≡ self.old.entries ++ ((key, K.text_of key), value) ∷ []) }
         ensures hasher { self.new.hasher ≡ self.old.hasher }
         ensures buckets { OnOk result (self.new.buckets ≡ buckets_for (length self.new.entries) self.old.buckets) }
         ensures refused { OnErr result (self.new ≡ self.old) }
         ensures returned { IfErr result (λ r. r.value ≡ (key, value)) }
     {
-        match self.pairs.push((key, value)) {
-            Ok(()) => Ok(()),
-            Err(failed) => Err(Refused {
-                why: AllocError,
-                value: failed.value,
+        match make_room(&mut self.pairs, &mut self.index, &self.hasher, hash) {
+            Ok(()) => {
+                self.pairs.push_reserved((key, value));
+                Ok(())
+            }
+            Err(why) => Err(Refused {
+                why,
+                value: (key, value),
             }),
         }
     }

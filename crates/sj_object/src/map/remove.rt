@@ -19,8 +19,10 @@ impl<K: KeyText, V, S: KeyHasher> HashMap<K, V, S> {
         ensures hasher { self.new.hasher ≡ self.old.hasher }
         ensures buckets { self.new.buckets ≡ self.old.buckets }
     {
-        let i = position_of(&self.pairs, key)?;
+        let hash = self.hash_in(key);
+        let i = position_of(&self.pairs, &self.index, &self.hasher, hash, key)?;
         let (_, value) = self.pairs.remove(i);
+        self.index.remove(i);
         Some(value)
     }
 }

@@ -1,26 +1,33 @@
 //! Where a key stands among the members.
 
-ghost use Rattle.std.specs.Prelude.{◌≡◌, ◌+◌, ◌<◌, bytes_eq};
+ghost use Rattle.std.specs.Prelude.{◌≡◌, ◌+◌, ◌<◌, ◌%◌, ◌^◌, ◌&&◌, ◌∷◌, [], true, map, length, bytes_eq};
 ghost use Rattle.std.specs.List.{position_from};
-ghost use Rattle.sj_object.specs.Entries.{entries_of};
-ghost use Rattle.sj_object.specs.Steps.{visited};
+ghost use Rattle.sj_object.specs.Entries.{entries_of, texts};
+ghost use Rattle.sj_object.specs.Texts.{no_repeats};
+ghost use Rattle.sj_object.specs.Steps.{visited, walk, compared};
+ghost use Rattle.sj_object.specs.Index.{IsIndexOf, buckets_of};
 
+use super::chain::bucket_of;
+use super::index::Index;
+use crate::hasher::KeyHasher;
 use crate::key::KeyText;
 use sj_text_core::Steps;
 use std::marker::Brand;
 use std::sync::ledger::{Blank, Ledger};
 
-/// Compares a key, which is one step. Nothing else compares keys.
-fn is_key<K: KeyText, L: Ledger>(key: &K, text: &[u8], steps: &mut Steps<L>) -> bool
-    ensures answer { result ≡ bytes_eq text.now (K.text_of key.now) }
+/// Compares a key, which is one step; where its hash is known to differ, by the hash alone.
+/// Nothing else compares keys.
+#[inline]
+fn is_key<K: KeyText, L: Ledger>(may_be: bool, key: &K, text: &[u8], steps: &mut Steps<L>) -> bool
+    ensures answer { result ≡ may_be && bytes_eq text.now (K.text_of key.now) }
     ensures step { steps.new ≡ steps.old + 1 }
 {
     steps.tick();
-    text == key.text().as_bytes()
+    may_be && text == key.text().as_bytes()
 }
 
 /// The position of the first pair whose key has the text.
-pub fn position_counted<K: KeyText, V, L: Ledger>(
+fn position_in_list<K: KeyText, V, L: Ledger>(
     pairs: &[(K, V)],
     text: &[u8],
     steps: &mut Steps<L>,
@@ -29,31 +36,94 @@ pub fn position_counted<K: KeyText, V, L: Ledger>(
     ensures exact { steps.new ≡ steps.old + visited text.now (entries_of K.text_of pairs.now) }
 {
     for (i, pair) in pairs.iter().enumerate() {
-        if is_key(&pair.0, text, steps) {
+        if is_key(true, &pair.0, text, steps) {
             return Some(i);
         }
     }
     None
 }
 
-/// The same, where nobody reads the steps.
-fn position_blank<K: KeyText, V, L: Ledger>(
+/// The same along the chain of the text's bucket.
+fn position_in_chain<K: KeyText, V, S: KeyHasher, L: Ledger>(
     pairs: &[(K, V)],
+    index: &Index,
+    _hasher: &S,
+    hash: u64,
+    text: &[u8],
+    steps: &mut Steps<L>,
+) -> Option<usize>
+    requires distinct { no_repeats (texts (entries_of K.text_of pairs.now)) ≡ true }
+    requires index { IsIndexOf (map (λ p. S.hash_of _hasher.now (K.text_of p.0)) pairs.now) index.now }
+    requires hashed { 0 < length index.now.heads.items }
+    requires hash { hash ≡ S.hash_of _hasher.now text.now }
+    ensures found { result ≡ position_from (λ p. bytes_eq text.now (K.text_of p.0)) 0 pairs.now }
+    ensures exact { steps.new ≡ steps.old + walk (S.hash_of _hasher.now) (length index.now.heads.items) text.now (entries_of K.text_of pairs.now) }
+{
+    let mut place = index.heads[bucket_of(hash, index.bits)];
+    while place > 0 {
+        let i = place - 1;
+        if is_key(index.hashes[i] == hash, &pairs[i].0, text, steps) {
+            return Some(i);
+        }
+        place = index.links[i];
+    }
+    None
+}
+
+/// The position of the pair whose key has the text, and, where there are buckets, the hash.
+pub fn position_counted<K: KeyText, V, S: KeyHasher, L: Ledger>(
+    pairs: &[(K, V)],
+    index: &Index,
+    hasher: &S,
+    hash: u64,
+    text: &[u8],
+    steps: &mut Steps<L>,
+) -> Option<usize>
+    requires distinct { no_repeats (texts (entries_of K.text_of pairs.now)) ≡ true }
+    requires index { IsIndexOf (map (λ p. S.hash_of hasher.now (K.text_of p.0)) pairs.now) index.now }
+    requires hash { 0 < length index.now.heads.items → hash ≡ S.hash_of hasher.now text.now }
+    ensures found { result ≡ position_from (λ p. bytes_eq text.now (K.text_of p.0)) 0 pairs.now }
+    ensures exact { steps.new ≡ steps.old + compared (S.hash_of hasher.now) (buckets_of index.now) text.now (entries_of K.text_of pairs.now) }
+{
+    if index.is_plain() {
+        return position_in_list(pairs, text, steps);
+    }
+    position_in_chain(pairs, index, hasher, hash, text, steps)
+}
+
+/// The same, where nobody reads the steps.
+fn position_blank<K: KeyText, V, S: KeyHasher, L: Ledger>(
+    pairs: &[(K, V)],
+    index: &Index,
+    hasher: &S,
+    hash: u64,
     text: &[u8],
     blank: Blank,
 ) -> Option<usize>
     requires name { blank.name ≡ L.name }
     requires parts { blank.parts ≡ L.parts }
     requires some { 0 < L.parts }
+    requires distinct { no_repeats (texts (entries_of K.text_of pairs.now)) ≡ true }
+    requires index { IsIndexOf (map (λ p. S.hash_of hasher.now (K.text_of p.0)) pairs.now) index.now }
+    requires hash { 0 < length index.now.heads.items → hash ≡ S.hash_of hasher.now text.now }
     ensures { result ≡ position_from (λ p. bytes_eq text.now (K.text_of p.0)) 0 pairs.now }
 {
     let mut steps = Steps::<L>::new(blank);
-    position_counted(pairs, text, &mut steps)
+    position_counted(pairs, index, hasher, hash, text, &mut steps)
 }
 
-/// The position of the first pair whose key has the text.
-pub fn position_of<K: KeyText, V>(pairs: &[(K, V)], text: &str) -> Option<usize>
+/// The position of the pair whose key has the text, and, where there are buckets, the hash.
+pub fn position_of<K: KeyText, V, S: KeyHasher>(
+    pairs: &[(K, V)],
+    index: &Index,
+    hasher: &S,
+    hash: u64,
+    text: &str,
+) -> Option<usize>
+    requires distinct { no_repeats (texts (entries_of K.text_of pairs.now)) ≡ true }
+    requires index { IsIndexOf (map (λ p. S.hash_of hasher.now (K.text_of p.0)) pairs.now) index.now }
+    requires hash { 0 < length index.now.heads.items → hash ≡ S.hash_of hasher.now text.now }
     ensures { result ≡ position_from (λ p. bytes_eq text.now (K.text_of p.0)) 0 pairs.now }
 {
-    position_blank::<K, V, Brand>(pairs, text.as_bytes(), Blank::new(1))
+    position_blank::<K, V, S, Brand>(pairs, index, hasher, hash, text.as_bytes(), Blank::new(1))
 }

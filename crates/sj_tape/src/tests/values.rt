@@ -1,8 +1,12 @@
 //! Tapes made of lists of nodes, and reads of their parts.
 
+ghost use Rattle.std.specs.Prelude.{◌≡◌, ◌<◌};
+
 use crate::{Node, Tape, Value};
-use sj_text_core::{StaticNode, TypedValue, ValueAsScalar, ValueType};
+use sj_text_core::{Repeats, StaticNode, Steps, TypedValue, ValueAsScalar, ValueType};
 use std::alloc::Global;
+use std::marker::Brand;
+use std::sync::ledger::{Blank, Ledger};
 use std::test::Fail;
 
 const NULL: Node<'static> = Node::Static(StaticNode::Null);
@@ -186,5 +190,64 @@ fn texts(rt: HostRuntime) -> Result<(), Fail> {
         tape.as_value().into_string()
     };
     assert_eq!(rt; text, Some("k"));
+    Ok(())
+}
+
+/// What counted lookups find.
+fn counted<L: Ledger>(tape: &Tape<'_>, blank: Blank) -> [Option<u128>; 3]
+    requires name { blank.name ≡ L.name }
+    requires parts { blank.parts ≡ L.parts }
+    requires some { 0 < L.parts }
+{
+    let mut steps = Steps::<L>::new(blank);
+    let whole = tape.as_value();
+    let first = whole.get_steps("k", &mut steps).and_then(|v| v.as_u128());
+    let second = whole.get_steps("y", &mut steps).and_then(|v| v.as_u128());
+    let third = Value::null()
+        .get_steps("k", &mut steps)
+        .and_then(|v| v.as_u128());
+    [first, second, third]
+}
+
+#[test]
+fn counted_lookups(rt: HostRuntime) -> Result<(), Fail> {
+    let nodes = [object(2, 4), Node::String("x"), number(1), KEY, number(2)];
+    let tape = tape(rt.alloc(), &nodes)?;
+    assert_eq!(rt;
+        counted::<Brand>(&tape, Blank::new(1)),
+        [Some(2), None, None]
+    );
+    Ok(())
+}
+
+#[test]
+fn last_members(rt: HostRuntime) -> Result<(), Fail> {
+    // {"k":1,"x":{"k":4,"k":5},"k":3}
+    let x = Node::String("x");
+    let inner = object(2, 4);
+    let nodes = [
+        object(3, 10),
+        KEY,
+        number(1),
+        x,
+        inner,
+        KEY,
+        number(4),
+        KEY,
+        number(5),
+        KEY,
+        number(3),
+    ];
+    let tape = tape(rt.alloc(), &nodes)?;
+    for (choice, outer, nested) in [(Repeats::First, 1, 4), (Repeats::Last, 3, 5)] {
+        let whole = tape.as_value_repeats(choice);
+        assert_eq!(rt; whole.repeats(), choice);
+        assert_eq!(rt; whole.get("k").and_then(|v| v.as_u128()), Some(outer));
+        let part = whole.get("x").ok_or("x")?;
+        assert_eq!(rt; part.repeats(), choice);
+        assert_eq!(rt; part.get("k").and_then(|v| v.as_u128()), Some(nested));
+        assert_eq!(rt; whole.as_object().ok_or("an object")?.len(), 3);
+    }
+    assert_eq!(rt; tape.as_value().repeats(), Repeats::First);
     Ok(())
 }

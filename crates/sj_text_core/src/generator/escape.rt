@@ -7,7 +7,8 @@ ghost use Rattle.sj_text_core.specs.Runs.{is_stop};
 use super::plain::plain_end;
 use std::alloc::AllocError;
 
-fn hex_digit(n: u8) -> u8
+/// The digit, in lower case.
+pub fn hex_digit(n: u8) -> u8
     requires { n < 16 }
     ensures { result ≡ hex_digit n }
 {

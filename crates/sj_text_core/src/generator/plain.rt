@@ -31,7 +31,7 @@ fn plain_end_slowly(text: &[u8], from: usize) -> usize
 }
 
 /// The place of the first quote, backslash or control byte from `from` on, or the length.
-pub(super) fn plain_end(text: &[u8], from: usize) -> usize
+pub fn plain_end(text: &[u8], from: usize) -> usize
     requires { from ≤ length text.now }
     ensures value { result ≡ from + prefix_len is_plain (drop from text.now) }
     ensures bound { result ≤ length text.now }

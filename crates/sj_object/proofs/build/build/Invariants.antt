@@ -7,7 +7,7 @@ use Rattle.sj_object.proofs.build.build.Given as goal
 abbrev pub invariant-loop-at : goal.invariant-loop-at
 invariant-loop-at g l = record {
   within : l.at ≤ length l.nodes;
-  read : pile g.V.Made.tree l.parts.items ≡ ahead (marks (drop l.at l.nodes));
+  read : pile g.V.Made.tree l.parts.items ≡ ahead l.repeats (marks (drop l.at l.nodes));
   made : All (part_built g.V.Made.built) l.parts.items;
 }
 

@@ -1,6 +1,6 @@
 use Rattle.std.proofs.Common.{◌≡◌, ◌+◌, ◌-◌, suc, List, ◌∷◌, length, arith, refl, sym, ap, ◌∙◌}
-use Rattle.sj_object.specs.Piles.{Seen, word, part_seen, pile, pairs_seen, kept, shown}
-use Rattle.sj_object.proofs.Piles.{word_of, member_off, popped, built_popped, pile_len}
+use Rattle.sj_object.specs.Piles.{Seen, word, part_seen, pile, pairs_seen, tree_seen, kept_by, shown}
+use Rattle.sj_object.proofs.Piles.{word_of, member_off, popped, built_popped, pile_len, kept_more}
 use Rattle.sj_object.proofs.build.take_members.Goals as goal
 
 pub take_text-text-requires : goal.take_text-text-requires
@@ -16,6 +16,7 @@ take_part-part-requires g c κs =
 pub loop-i-preserved : goal.loop-i-preserved
 loop-i-preserved g c =
     let tree = g.V.Made.tree in
+    let r = c.args.repeats in
     let inv = c.loop-i.invariant in
     let m = c.args.len - (c.loop-i.i + 1) in
     let e : c.args.len - c.loop-i.i ≡ suc (c.args.len - (c.loop-i.i + 1)) = omega arith in
@@ -27,7 +28,8 @@ loop-i-preserved g c =
     let off = member_off (c.args.len - c.loop-i.i) m e ps qs k (part_seen tree p) is in
     record {
       left = off.2 inv.left;
-      told = ap (λ d. kept d (pairs_seen m qs)) c.in_ok-put_member.ensures.means ∙ sym (ap (kept (shown tree (g.V.Map.MapOf.entries c.loop-i.members))) off.0) ∙ inv.told;
+      told = ap (λ d. kept_by r d (pairs_seen m qs)) c.in_ok-put_member.ensures.means ∙ kept_more r (shown tree (g.V.Map.MapOf.entries c.loop-i.members)) (k, tree_seen (part_seen tree p)) (pairs_seen m qs)
+          ∙ sym (ap (kept_by r (shown tree (g.V.Map.MapOf.entries c.loop-i.members))) off.0) ∙ inv.told;
       rest = sym off.1 ∙ inv.rest;
       made = λ h.
           let a = inv.made h in

@@ -1,21 +1,36 @@
-use Rattle.std.proofs.Common.{ap, ◌∙◌}
+use Rattle.std.proofs.Common.{◌≡◌, ◌+◌, ◌++◌, ◌∷◌, [], true, length, sym, ap, ◌∙◌, subst}
 use Rattle.sj_text_core.specs.Keep.{is_seen}
 use Rattle.sj_object.specs.Entries.{texts, entries_of}
 use Rattle.sj_object.specs.HashMap.{same_contents}
-use Rattle.sj_object.specs.Index.{buckets_of}
+use Rattle.sj_object.specs.Index.{IsIndexOf, NeedsHash, buckets_of, buckets_for}
 use Rattle.sj_object.proofs.Repeats.{no_repeats-push}
+use Rattle.sj_object.proofs.Hashed.{hashes, hashes-last, hashes-length, entries-length, IsIndexOf-last}
 use Rattle.sj_object.proofs.map.HashMap.append.Goals as goal
-use Rattle.sj_object.proofs.map.HashMap.append.Goals.{in-Ok, in-Err}
 
 pub invariant_of-self-inside : goal.invariant_of-self-inside
 invariant_of-self-inside g c =
     let t = g.K.KeyText.text_of in
-    (no_repeats-push t c.self.inside.pairs.items c.push.new.self.items _ c.args.key c.args.value c.self.inside.distinct (ap (λ m. is_seen (t c.args.key) (texts m.entries)) c.self.view_is ∙ c.requires) c.push.ensures.items, tt)
+    let e = c.push_reserved.ensures.items ∙ ap (λ l. l ++ (c.args.key, c.args.value) ∷ []) c.in-Ok.ensures.pairs in
+    (no_repeats-push t c.self.inside.pairs.items c.push_reserved.new.self.items true c.args.key c.args.value c.self.inside.distinct (ap (λ m. is_seen (t c.args.key) (texts m.entries)) c.self.view_is ∙ c.requires.absent) e, tt)
 
-pub returns-clause-refused : goal.returns-clause-refused
-returns-clause-refused g c =
+pub invariant_of-self : goal.invariant_of-self
+invariant_of-self g c =
+    let t = g.K.KeyText.text_of in
+    let s = c.self.inside.hasher in
+    let H = g.S.KeyHasher.hash_of c.self.inside.hasher in
+    let ps = c.self.inside.pairs.items in
+    let i = c.self.inside.index in
+    let b = c.make_room.new.index in
+    let n = hashes-length t H ps in
+    let k = c.in-Ok.ensures.buckets ∙ ap (λ m. buckets_for (m + 1) (buckets_of i)) (sym n) in
+    let known : NeedsHash (length (hashes t H ps)) (buckets_of i) → c.args.hash ≡ H (t c.args.key) = λ z.
+    c.requires.hash (subst (λ m. NeedsHash (length m.entries) m.buckets) c.self.view_is (subst (λ m. NeedsHash m (buckets_of i)) (n ∙ sym (entries-length t ps)) z))
+    ∙ ap (λ m. g.S.KeyHasher.hash_of m.hasher (t c.args.key)) (sym c.self.view_is) in
+    let r = IsIndexOf-last (hashes t H ps) c.args.hash (H (t c.args.key)) (buckets_of i) b c.in-Ok.ensures.ok k known in
+    let e = ap (hashes t H) (c.push_reserved.ensures.items ∙ ap (λ l. l ++ (c.args.key, c.args.value) ∷ []) c.in-Ok.ensures.pairs) ∙ hashes-last t H ps (c.args.key, c.args.value) in
+    subst (λ hs. IsIndexOf hs b) (sym e) r
+
+pub returns-in-Err-clause-refused : goal.returns-in-Err-clause-refused
+returns-in-Err-clause-refused g c =
     let m = c.self.inside in
-    elim c.match-push.branch [
-      | in-Ok w ↦ rw w.result-is tt
-      | in-Err w ↦ rw w.result-is (same_contents _ _ (λ i. (entries_of g.K.KeyText.text_of (w.in-Err.ensures.items i), (m.hasher, buckets_of m.index))) ∙ c.self.view_is)
-    ]
+    same_contents _ _ (λ i. (entries_of g.K.KeyText.text_of (c.in-Err.ensures.pairs i), (m.hasher, c.in-Err.ensures.refused_buckets i))) ∙ c.self.view_is

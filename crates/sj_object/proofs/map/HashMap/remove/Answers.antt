@@ -1,7 +1,10 @@
-use Rattle.std.proofs.Common.{◌≡◌, None, sym, ap, ◌∙◌, refl, arith, rules}
+use Rattle.std.proofs.Common.{◌≡◌, ◌<◌, None, sym, ap, ◌∙◌, refl, arith, rules, subst, length}
 use Rattle.sj_object.specs.Texts.{no_repeats}
 use Rattle.sj_object.specs.Entries.{texts, entries_of}
 use Rattle.sj_object.specs.Edits.{lookup, cut}
+use Rattle.sj_object.specs.Index.{IsIndexOf}
+use Rattle.sj_object.proofs.Hashed.{hashes, hashes-remove, IsIndexOf-remove, buckets_same, same_inside}
+use Rattle.std.proofs.lemmas.List.{length-map}
 use Rattle.sj_object.proofs.Repeats.{no_repeats-cut}
 use Rattle.sj_object.proofs.Position.{found, absent}
 use Rattle.sj_object.proofs.map.HashMap.remove.Goals as goal
@@ -11,8 +14,8 @@ remove-value-requires g c =
     let f = found g.K.KeyText.text_of c.args.key.now c.in_ok-i.was c.position_of.ensures refl c.deref.ensures.value in
     omega (arith, f.within, c.self.inside.pairs.ok.0)
 
-pub invariant_of-self-inside : goal.invariant_of-self-inside
-invariant_of-self-inside g c =
+pub invariant_of-self-inside-2 : goal.invariant_of-self-inside-2
+invariant_of-self-inside-2 g c =
     let t = g.K.KeyText.text_of in
     let k = c.args.key.now in
     let f = found t k c.in_ok-i.was c.position_of.ensures refl c.deref.ensures.value in
@@ -39,3 +42,23 @@ pub returns-in_err-i-clause-entries : goal.returns-in_err-i-clause-entries
 returns-in_err-i-clause-entries g c =
     let a = absent g.K.KeyText.text_of c.args.key.now c.in_err-i.was c.position_of.ensures refl c.deref.ensures.value in
     ap (λ m. m.entries) (sym c.self.view_is) ∙ sym a.cut_none ∙ ap (λ m. cut c.args.key.now m.entries) c.self.view_is
+
+pub position_of-requires-clause-index : goal.position_of-requires-clause-index
+position_of-requires-clause-index g c = subst (λ ps. IsIndexOf (hashes g.K.KeyText.text_of (g.S.KeyHasher.hash_of c.self.inside.hasher) ps) c.self.inside.index) (sym c.deref.ensures.value) c.self.invariant
+
+pub same-self : goal.same-self
+same-self g c = same_inside c.self.inside _
+
+pub invariant_of-self : goal.invariant_of-self
+invariant_of-self g c =
+    let t = g.K.KeyText.text_of in
+    let H = g.S.KeyHasher.hash_of c.self.inside.hasher in
+    let ps = c.self.inside.pairs.items in
+    let i = c.in_ok-i.i in
+    let f = found t c.args.key.now c.in_ok-i.was c.position_of.ensures refl c.deref.ensures.value in
+    let l : i < length (hashes t H ps) = omega (arith, f.within, length-map ps (λ (p : g.row.K.Denot × g.row.V.Denot). H (t p.0))) in
+    let r = IsIndexOf-remove (hashes t H ps) c.self.inside.index c.remove.new.self i l c.self.invariant c.remove.ensures.buckets c.remove.ensures.hashes c.remove.ensures.table in
+    subst (λ hs. IsIndexOf hs c.remove.new.self) (sym (ap (hashes t H) c.remove-value.ensures.items ∙ hashes-remove t H ps i)) r
+
+pub returns-clause-buckets : goal.returns-clause-buckets
+returns-clause-buckets g c = buckets_same c.remove.new.self.heads.items c.self.inside.index.heads.items c.remove.ensures.buckets ∙ ap (λ m. m.buckets) c.self.view_is

@@ -13,7 +13,7 @@ use Rattle.sj_run.proofs.command.line.command_of.Goals as goal
 pub returns-in-Ok : goal.returns-in-Ok
 returns-in-Ok c =
     IfOk-weaker c.of_value.result (λ (x : Command). command_meant x ≡ kept_command (first_in (tree c.as_value.result))) (λ (x : Command). ReadsCommand c.args.line.now x)
-    (λ x h. reads_tree c.args.line.now c.in-Ok.tape x c.in-Ok.ensures.spelled c.in-Ok.ensures.within (h ∙ ap (λ t. kept_command (first_in t)) c.as_value.ensures))
+    (λ x h. reads_tree c.args.line.now c.in-Ok.tape x c.in-Ok.ensures.spelled c.in-Ok.ensures.within (h ∙ ap (λ t. kept_command (first_in t)) c.as_value.ensures.tree))
     c.of_value.ensures
 
 pub returns-else-eq : goal.returns-else-eq

@@ -1,7 +1,9 @@
 use Rattle.std.proofs.Common.{◌≡◌, ◌∙◌, ◌∷◌, List, ℕ, length, ap, sym, rules}
-use Rattle.sj_text_core.specs.Tree.{Tree, member}
+use Rattle.sj_text_core.specs.Tree.{Tree}
+use Rattle.sj_text_core.specs.declared.repeats.Repeats.{Repeats}
 use Rattle.sj_text_core.specs.Nodes.{string, members_in}
 use Rattle.sj_tape.specs.Marks.{mark, marks}
+use Rattle.sj_tape.specs.Members.{chosen}
 use Rattle.sj_tape.specs.Parts.{paired}
 use Rattle.sj_tape.proofs.Splits.{next_member, BeginsTree-member, string_node}
 use Rattle.sj_tape.proofs.object.IterIterator.next.Goals as goal
@@ -26,9 +28,10 @@ returns-clause-steps c =
     let nodes : marks c.args.self.now.nodes.now ≡ string c.in-String.name.now ∷ marks c.in_ok-key.values.now =
     ap marks c.in_ok-key.ensures.cases.0 ∙ ap (λ n. mark n ∷ marks c.in_ok-key.values.now) c.in-String.is in
     let next = next_member _ _ _ _ _ c.args.self.now.whole nodes c.split_tree.ensures.whole c.split_tree.ensures.all in
-    ap paired next.members ∙ ap (λ t. paired (member c.in-String.name.now t (members_in (marks c.split_tree.result.1.now)))) (sym c.from_nodes.ensures)
+    let r = c.args.self.now.repeats in
+    ap (λ ms. chosen r (paired ms)) next.members ∙ ap (λ p. (c.in-String.name.now, p) ∷ chosen r (paired (members_in (marks c.split_tree.result.1.now)))) (sym c.from_nodes.ensures)
 
 pub returns-clause-goes : goal.returns-clause-goes
 returns-clause-goes c =
-    let left = ap (λ (l : List (List ℕ × Tree)). length l) (returns-clause-steps c) in
+    let left = ap (λ (l : List (List ℕ × (Repeats × Tree))). length l) (returns-clause-steps c) in
     search (rules, left)

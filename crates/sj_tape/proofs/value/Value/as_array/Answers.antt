@@ -10,7 +10,7 @@ pub from_nodes-requires-clause-counted : goal.from_nodes-requires-clause-counted
 from_nodes-requires-clause-counted c =
     (array_nodes c.args.self.now.nodes.now c.in-Array.len c.in-Array.count c.args.self.now.whole c.in-Array.is).counted
 
-pub returns-in-Array : goal.returns-in-Array
-returns-in-Array c =
-    ap (λ is. Some is) c.from_nodes.ensures
+pub returns-in-Array-clause-items : goal.returns-in-Array-clause-items
+returns-in-Array-clause-items c =
+    ap (λ is. Some is) c.from_nodes.ensures.items
     ∙ (array_nodes c.args.self.now.nodes.now c.in-Array.len c.in-Array.count c.args.self.now.whole c.in-Array.is).items

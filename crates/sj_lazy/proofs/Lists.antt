@@ -1,0 +1,43 @@
+-- Items and members as lists.
+use Rattle.std.proofs.Common.{◌≡◌, ℕ, List, [], ◌∷◌, map, length, refl, ap, suc, IsTrue, ◌↔◌, nat_eq, true≢false, sym, ◌∙◌}
+use Rattle.std.proofs.Math.Dec.{eqb-suc-zero}
+use Rattle.sj_text_core.specs.Tree.{Tree, Items, no_items, item, items_from, items_len, members_len, Members, no_members, member}
+use Rattle.sj_text_core.specs.declared.repeats.Repeats.{Repeats}
+use Rattle.sj_text_core.specs.declared.repeats.Repeats.TheVariants.{First}
+use Rattle.sj_tape.specs.Members.{chosen}
+use Rattle.sj_tape.specs.Parts.{listed, paired}
+use Rattle.sj_object.specs.Entries.{Entry, entries_of}
+use Rattle.sj_object.specs.Members.{entry_members}
+
+pub listed-from : (ts : List Tree) → listed (items_from ts) ≡ ts
+listed-from [] = refl
+listed-from (t ∷ ts) = ap (λ l. t ∷ l) (listed-from ts)
+
+pub length-items : {A : Type 0} (f : A → Tree) (vs : List A) → length vs ≡ items_len (items_from (map f vs))
+length-items f [] = refl
+length-items f (v ∷ vs) = ap suc (length-items f vs)
+
+pub length-members : {K V : Type 0} (f : V → Tree) (es : List (Entry K V)) → length es ≡ members_len (entry_members f es)
+length-members f [] = refl
+length-members f (e ∷ es) = ap suc (length-members f es)
+
+pub paired-members : {K V : Type 0} (t : K → List ℕ) (f : V → Tree) (ps : List (K × V)) → map (λ (p : K × V). (t p.0, f p.1)) ps ≡ paired (entry_members f (entries_of t ps))
+paired-members t f [] = refl
+paired-members t f (p ∷ ps) = ap (λ l. (t p.0, f p.1) ∷ l) (paired-members t f ps)
+
+pub no_items-empty : (is : Items) → IsTrue (nat_eq (items_len is) 0) ↔ (is ≡ no_items)
+no_items-empty no_items = (λ e. refl, λ e. refl)
+no_items-empty (item t is) = (λ e. absurd (true≢false (sym e ∙ eqb-suc-zero _)), λ e. cc)
+
+pub no_members-empty : (ms : Members) → IsTrue (nat_eq (members_len ms) 0) ↔ (ms ≡ no_members)
+no_members-empty no_members = (λ e. refl, λ e. refl)
+no_members-empty (member k t ms) = (λ e. absurd (true≢false (sym e ∙ eqb-suc-zero _)), λ e. cc)
+
+-- the same, each with the choice of a document
+pub parts-items : {A : Type 0} (f : A → Tree) (vs : List A) → map {B = Repeats × Tree} (λ v. (First, f v)) vs ≡ map (λ t. (First, t)) (listed (items_from (map f vs)))
+parts-items f [] = refl
+parts-items f (v ∷ vs) = ap (λ (l : List (Repeats × Tree)). (First, f v) ∷ l) (parts-items f vs)
+
+pub parts-members : {K V : Type 0} (t : K → List ℕ) (f : V → Tree) (ps : List (K × V)) → map {B = List ℕ × (Repeats × Tree)} (λ (p : K × V). (t p.0, (First, f p.1))) ps ≡ chosen First (paired (entry_members f (entries_of t ps)))
+parts-members t f [] = refl
+parts-members t f (p ∷ ps) = ap (λ (l : List (List ℕ × (Repeats × Tree))). (t p.0, (First, f p.1)) ∷ l) (parts-members t f ps)

@@ -1,0 +1,34 @@
+-- Steps of an upgrade.
+use Rattle.std.proofs.Common.{◌≡◌, Option, Some, None, refl, sym}
+use Rattle.std.specs.Option.{OnSome}
+use Rattle.sj_text_core.specs.Tree.{Tree, null, boolean, int, text, list, obj}
+use Rattle.sj_text_core.specs.Reads.{as_members}
+use Rattle.sj_text_core.specs.Keep.{keep}
+use Rattle.sj_object_uses.specs.Document.{object_of}
+use Rattle.sj_object_uses.specs.declared.value.Document.{Document}
+use Rattle.sj_object_uses.proofs.Kept.{tree_kept}
+use Rattle.std.specs.Borrow.{Bor}
+use Rattle.std.specs.Cow.{cow_str_bytes}
+use Rattle.sj_lazy.specs.Value.{Text, lent_tree, shared_tree}
+use Rattle.sj_lazy.specs.declared.value.Shared.{Shared}
+use Rattle.sj_lazy.specs.declared.value.Shared.TheVariants.{Borrowed, Owned}
+
+pub on_some : {X : Type 0} {A B : Type 0} (r : Option X) → (A → B) → OnSome r A → OnSome r B
+on_some None f h = h
+on_some (Some x) f h = f h
+
+pub some_is : {A : Type 0} (x u : A) → Some x ≡ Some u → x ≡ u
+some_is x u e = cc
+
+-- a document, lent or owned, is kept
+pub shared_kept : (c : Shared (Bor (Document Text)) Text) → shared_tree lent_tree cow_str_bytes c ≡ keep (shared_tree lent_tree cow_str_bytes c)
+shared_kept (Borrowed x) = sym (tree_kept cow_str_bytes x.now)
+shared_kept (Owned v) = sym (tree_kept cow_str_bytes v)
+
+pub members_of : (t : Tree) → object_of t ≡ as_members t
+members_of null = refl
+members_of (boolean b) = refl
+members_of (int n c) = refl
+members_of (text s) = refl
+members_of (list is) = refl
+members_of (obj ms) = refl

@@ -1,0 +1,32 @@
+-- What an array of a lazy document means.
+use Rattle.std.specs.Prelude.{List, map}
+use Rattle.std.specs.Cow.{cow_str_bytes}
+use Rattle.std.specs.Slice.Iter.{iter_rest}
+use Rattle.sj_text_core.specs.Tree.{Tree, Items, items_from}
+use Rattle.sj_text_core.specs.declared.repeats.Repeats.{Repeats}
+use Rattle.sj_text_core.specs.declared.repeats.Repeats.TheVariants.{First}
+use Rattle.sj_tape.specs.Items as tape
+use Rattle.sj_object_uses.specs.Document.{tree as document_tree}
+use Rattle.sj_lazy.specs.declared.array.Array.{Array}
+use Rattle.sj_lazy.specs.declared.array.Array.TheVariants as array
+use Rattle.sj_lazy.specs.declared.array.Iter.{Iter}
+use Rattle.sj_lazy.specs.declared.array.Iter.TheVariants as iter
+
+-- the items of an array
+abbrev pub items : Array → Items
+items (array.Tape a) = tape.items a
+items (array.Value v) = items_from (map (document_tree cow_str_bytes) v.now.items)
+
+-- the items that an iterator has left
+abbrev pub items_ahead : Iter → List Tree
+items_ahead (iter.Tape it) = tape.items_ahead it
+items_ahead (iter.Value it) = map (document_tree cow_str_bytes) (iter_rest it)
+
+abbrev pub array_choice : Array → Repeats
+array_choice (array.Tape a) = tape.array_choice a
+array_choice (array.Value v) = First
+
+-- the lazy values that an iterator has left
+abbrev pub parts_ahead : Iter → List (Repeats × Tree)
+parts_ahead (iter.Tape it) = tape.parts_ahead it
+parts_ahead (iter.Value it) = map (λ d. (First, document_tree cow_str_bytes d)) (iter_rest it)

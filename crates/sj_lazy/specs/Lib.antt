@@ -1,0 +1,5 @@
+pub mod Value
+pub mod Array
+pub mod Object
+pub mod Edits
+pub mod Rows

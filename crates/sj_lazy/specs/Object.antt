@@ -1,0 +1,32 @@
+-- What an object of a lazy document means.
+use Rattle.std.specs.Prelude.{ℕ, List, map}
+use Rattle.std.specs.Cow.{cow_str_bytes}
+use Rattle.sj_text_core.specs.Tree.{Tree, Members}
+use Rattle.sj_text_core.specs.declared.repeats.Repeats.{Repeats}
+use Rattle.sj_text_core.specs.declared.repeats.Repeats.TheVariants.{First}
+use Rattle.sj_tape.specs.Members as tape
+use Rattle.sj_object.specs.Members.{entry_members}
+use Rattle.sj_object_uses.specs.Document.{tree as document_tree}
+use Rattle.sj_lazy.specs.declared.object.Object.{Object}
+use Rattle.sj_lazy.specs.declared.object.Object.TheVariants as object
+use Rattle.sj_lazy.specs.declared.object.Iter.{Iter}
+use Rattle.sj_lazy.specs.declared.object.Iter.TheVariants as iter
+
+-- the members of an object, of a tape repeats too
+abbrev pub members : Object → Members
+members (object.Tape o) = tape.members o
+members (object.Value m) = entry_members (document_tree cow_str_bytes) m.now.entries
+
+-- the members that an iterator has left
+abbrev pub members_ahead : Iter → List (List ℕ × Tree)
+members_ahead (iter.Tape it) = tape.members_ahead it
+members_ahead (iter.Value it) = map (λ p. (cow_str_bytes p.0, document_tree cow_str_bytes p.1)) it
+
+abbrev pub object_choice : Object → Repeats
+object_choice (object.Tape o) = tape.object_choice o
+object_choice (object.Value m) = First
+
+-- the members that an iterator has left, their values as lazy values
+abbrev pub parts_ahead : Iter → List (List ℕ × (Repeats × Tree))
+parts_ahead (iter.Tape it) = tape.parts_ahead it
+parts_ahead (iter.Value it) = map (λ p. (cow_str_bytes p.0, (First, document_tree cow_str_bytes p.1))) it

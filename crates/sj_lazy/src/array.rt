@@ -1,0 +1,89 @@
+//! Arrays of a lazy document.
+
+ghost use Rattle.std.specs.Prelude.{◌≡◌, ◌↔◌, IsTrue, IfSome, option_map, map};
+ghost use Rattle.sj_text_core.specs.Find.{nth_item};
+ghost use Rattle.sj_text_core.specs.Tree.{items_len, no_items};
+ghost use Rattle.sj_tape.specs.Parts.{listed};
+
+use crate::value::{Lazy, Shared, Value, of_lent, of_tape};
+use sj_object_uses::BorrowedValue;
+use sj_tape::Array as TapeArray;
+use sj_tape::array::Iter as TapeIter;
+use std::slice;
+
+/// The items of an array.
+#[derive(Clone, Copy, Debug)]
+pub enum Array<'b, 't, 'i> {
+    Tape(TapeArray<'t, 'i>),
+    Value(&'b Vec<BorrowedValue<'i>>),
+}
+
+impl<'b, 't, 'i> Array<'b, 't, 'i> {
+    ghost use Rattle.sj_lazy.specs.Array.{items, items_ahead, parts_ahead, array_choice};
+    ghost use Rattle.sj_lazy.specs.Value.{tree, choice};
+
+    /// The item at that position, counted from 0; None past the last.
+    pub fn get(&self, index: usize) -> Option<Value<'b, 't, 'i>>
+        ensures value { option_map tree result ≡ nth_item index (items self.now) }
+        ensures choice { IfSome result (λ v. choice v ≡ array_choice self.now) }
+    {
+        match self {
+            Array::Tape(items) => of_tape(items.get(index)),
+            Array::Value(items) => of_lent(items.get(index)),
+        }
+    }
+
+    /// How many items it has.
+    pub fn len(&self) -> usize
+        ensures { result ≡ items_len (items self.now) }
+    {
+        match self {
+            Array::Tape(items) => items.len(),
+            Array::Value(items) => items.len(),
+        }
+    }
+
+    /// Whether it has no items.
+    pub fn is_empty(&self) -> bool
+        ensures { IsTrue result ↔ (items self.now ≡ no_items) }
+    {
+        self.len() == 0
+    }
+
+    /// The items in order.
+    pub fn iter(&self) -> Iter<'b, 't, 'i>
+        ensures items { items_ahead result ≡ listed (items self.now) }
+        ensures parts { parts_ahead result ≡ map (λ t. (array_choice self.now, t)) (listed (items self.now)) }
+    {
+        match self {
+            Array::Tape(items) => Iter::Tape(items.iter()),
+            Array::Value(items) => Iter::Value(items.iter()),
+        }
+    }
+}
+
+/// The items of an array in order, as lazy values.
+#[derive(Drop)]
+pub enum Iter<'b, 't, 'i> {
+    Tape(TapeIter<'t, 'i>),
+    Value(slice::Iter<'b, BorrowedValue<'i>>),
+}
+
+impl<'b, 't, 'i> Iterator for Iter<'b, 't, 'i> {
+    type Item = Value<'b, 't, 'i>;
+
+    ghost use Rattle.std.specs.Iterator.{YieldsFirstBy, item_count};
+    ghost use Rattle.sj_lazy.specs.Array.{parts_ahead};
+    ghost use Rattle.sj_lazy.specs.Value.{part};
+
+    ghost next_gives = { YieldsFirstBy part parts_ahead };
+
+    ghost remaining = { item_count parts_ahead };
+
+    fn next(&mut self) -> Option<Value<'b, 't, 'i>> {
+        match self {
+            Iter::Tape(items) => Some(Lazy::Tape(items.next()?)),
+            Iter::Value(items) => Some(Lazy::Value(Shared::Borrowed(items.next()?))),
+        }
+    }
+}

@@ -1,0 +1,205 @@
+-- The chains of members by their hashes: what one more member, or one less, does to them.
+use Rattle.std.proofs.Common.{◌≡◌, ◌≢◌, ℕ, zero, suc, ◌+◌, ◌<◌, ◌≤◌, ◌%◌, nat_le, Bool, true, false, List, [], ◌∷◌, ◌++◌, map, length, take, drop, get_or, set, refl, sym, ap, ◌∙◌, arith, add-one, get_or-set_same, get_or-set_other, below_more, subst}
+use Rattle.std.specs.Bool.{if◌then◌else◌}
+use Rattle.std.specs.List.{remove}
+use Rattle.std.proofs.lemmas.Bool.Decides.{nat_tests}
+use Rattle.std.proofs.lemmas.List.{length-set, length-replicate, length_push, get_or-replicate, get_or_append_left, length-map}
+use Rattle.std.proofs.Math.ListN.{replicate, get_or-map}
+use Rattle.std.proofs.Math.Seq.{take-append_seam}
+use Rattle.std.proofs.lemmas.List.Edits.{get_or-remove_below, get_or-remove_above, length-remove}
+use Rattle.sj_object.specs.Chains.{is_in, last_below, IsLinked, renumbered}
+
+module _ (n b : ℕ) where
+  pub last_le : (hs : List ℕ) (k : ℕ) → last_below n b hs k ≤ k
+  unfolding last_below
+  last_le hs zero = omega arith
+  last_le hs (suc k) = by_test (is_in n b (get_or hs k 0)) (last_le hs k) where
+    by_test : (c : Bool) → last_below n b hs k ≤ k → (if c then suc k else last_below n b hs k) ≤ suc k
+    by_test true h = omega arith
+    by_test false h = omega arith
+
+  pub last_in : (hs : List ℕ) (k : ℕ) → is_in n b (get_or hs k 0) ≡ true → last_below n b hs (suc k) ≡ suc k
+  unfolding last_below
+  last_in hs k e = λ i. if e i then suc k else last_below n b hs k
+
+  pub last_out : (hs : List ℕ) (k : ℕ) → is_in n b (get_or hs k 0) ≡ false → last_below n b hs (suc k) ≡ last_below n b hs k
+  unfolding last_below
+  last_out hs k e = λ i. if e i then suc k else last_below n b hs k
+
+  -- the place that ends a walk is the last below itself
+  pub last_again : (hs : List ℕ) (k : ℕ) → last_below n b hs (last_below n b hs k) ≡ last_below n b hs k
+  unfolding last_below
+  last_again hs zero = refl
+  last_again hs (suc k) = by_test (is_in n b (get_or hs k 0)) refl (last_again hs k) where
+    by_test : (c : Bool) → is_in n b (get_or hs k 0) ≡ c → last_below n b hs (last_below n b hs k) ≡ last_below n b hs k
+        → last_below n b hs (if c then suc k else last_below n b hs k) ≡ (if c then suc k else last_below n b hs k)
+    by_test true e h = last_in hs k e
+    by_test false e h = h
+
+  -- a place in the chain has its member in the bucket
+  pub place_in : (hs : List ℕ) (k : ℕ) → last_below n b hs (suc k) ≡ suc k → is_in n b (get_or hs k 0) ≡ true
+  place_in hs k h = by_test (is_in n b (get_or hs k 0)) refl where
+    by_test : (c : Bool) → is_in n b (get_or hs k 0) ≡ c → c ≡ true
+    by_test true e = refl
+    by_test false e = let o = last_out hs k e in let l = last_le hs k in absurd (omega arith)
+
+  -- it is a matter of the first k hashes
+  pub last_same : (hs gs : List ℕ) (k : ℕ) → ((j : ℕ) → j < k → get_or hs j 0 ≡ get_or gs j 0) → last_below n b hs k ≡ last_below n b gs k
+  unfolding last_below
+  last_same hs gs zero f = refl
+  last_same hs gs (suc k) f = λ i. if is_in n b (f k (omega arith) i) then suc k else last_same hs gs k (λ j l. f j (omega arith)) i
+
+-- one more member goes into its chain
+pub link_starts : (n : ℕ) (hs heads : List ℕ) (i : ℕ) → length heads ≡ n → get_or hs i 0 % n < n
+    → ((b : ℕ) → b < n → get_or heads b 0 ≡ last_below n b hs i)
+    → (b : ℕ) → b < n → get_or (set heads (get_or hs i 0 % n) (i + 1)) b 0 ≡ last_below n b hs (i + 1)
+link_starts n hs heads i s w f b l = by_test (is_in n b (get_or hs i 0)) refl where
+  by_test : (c : Bool) → is_in n b (get_or hs i 0) ≡ c → get_or (set heads (get_or hs i 0 % n) (i + 1)) b 0 ≡ last_below n b hs (i + 1)
+  by_test true e =
+      let q : get_or hs i 0 % n ≡ b = grind (arith, nat_tests) in
+      rw (add-one, last_in n b hs i e) (rw q (get_or-set_same heads b (suc i) 0 (omega arith)))
+  by_test false e =
+      let q : b ≢ get_or hs i 0 % n = grind (arith, nat_tests) in
+      rw (add-one, last_out n b hs i e) (get_or-set_other heads (get_or hs i 0 % n) b (suc i) 0 q ∙ f b l)
+
+pub link_nexts : (n : ℕ) (hs links : List ℕ) (i x : ℕ) → i < length links → x ≡ last_below n (get_or hs i 0 % n) hs i
+    → ((j : ℕ) → j < i → get_or links j 0 ≡ last_below n (get_or hs j 0 % n) hs j)
+    → (j : ℕ) → j < i + 1 → get_or (set links i x) j 0 ≡ last_below n (get_or hs j 0 % n) hs j
+link_nexts n hs links i x w e f = below_more _ i
+    (λ j l. let ne : j ≢ i = omega arith in get_or-set_other links i j x 0 ne ∙ f j l)
+    (get_or-set_same links i x 0 w ∙ e)
+
+pub IsLinked-more : (n : ℕ) (hs links heads : List ℕ) (i : ℕ) → 0 < n → i < length hs → IsLinked n hs links heads i
+    → IsLinked n hs (set links i (get_or heads (get_or hs i 0 % n) 0)) (set heads (get_or hs i 0 % n) (i + 1)) (i + 1)
+IsLinked-more n hs links heads i p l h =
+    let b = get_or hs i 0 % n in
+    let w : b < n = omega arith in
+    let s : i < length links = omega (arith, h.size) in
+    record {
+      count = length-set heads b (i + 1) ∙ h.count;
+      size = length-set links i (get_or heads b 0) ∙ h.size;
+      starts = link_starts n hs heads i h.count w h.starts;
+      nexts = link_nexts n hs links i (get_or heads b 0) s (h.starts b w) h.nexts;
+    }
+
+-- no member stands in a chain yet
+pub IsLinked-none : (n : ℕ) (hs links heads : List ℕ) → length links ≡ length hs → heads ≡ replicate n 0 → IsLinked n hs links heads 0
+unfolding last_below
+IsLinked-none n hs links heads s e = record {
+  count = ap length e ∙ length-replicate n 0;
+  size = s;
+  starts = λ b l. ap (λ xs. get_or xs b 0) e ∙ get_or-replicate n b 0 0 l;
+  nexts = λ i l. absurd (omega arith);
+}
+
+-- one more hash, whose member stands in no chain yet
+pub IsLinked-push : (n : ℕ) (hs links heads : List ℕ) (h x : ℕ) → IsLinked n hs links heads (length hs) → IsLinked n (hs ++ h ∷ []) (links ++ x ∷ []) heads (length hs)
+IsLinked-push n hs links heads h x k = record {
+  count = k.count;
+  size = length_push links x ∙ ap (λ m. m + 1) k.size ∙ sym (length_push hs h);
+  starts = λ b l. k.starts b l ∙ last_same n b hs (hs ++ h ∷ []) (length hs) (λ j m. sym (get_or_append_left hs (h ∷ []) 0 j m));
+  nexts = λ i l.
+      let within : i < length links = omega (arith, k.size) in
+      get_or_append_left links (x ∷ []) 0 i within ∙ k.nexts i l
+      ∙ (λ j. last_below n (sym (get_or_append_left hs (h ∷ []) 0 i l) j % n) hs i)
+      ∙ last_same n (get_or (hs ++ h ∷ []) i 0 % n) hs (hs ++ h ∷ []) i (λ j m. sym (get_or_append_left hs (h ∷ []) 0 j (omega arith)));
+}
+
+renumbered_low : (i next p : ℕ) → p ≤ i → renumbered i next p ≡ p
+renumbered_low i next p h = grind (arith, nat_tests)
+
+renumbered_at : (i next : ℕ) → renumbered i next (suc i) ≡ next
+renumbered_at i next = grind (arith, nat_tests)
+
+renumbered_high : (i next p : ℕ) → i < p → renumbered i next (suc p) ≡ p
+renumbered_high i next p h = grind (arith, nat_tests)
+
+get_or-renumbered : (i next : ℕ) (xs : List ℕ) (j : ℕ) → get_or (map (renumbered i next) xs) j 0 ≡ renumbered i next (get_or xs j 0)
+get_or-renumbered i next xs j = ap (λ d. get_or (map (renumbered i next) xs) j d) (sym (renumbered_low i next 0 (omega arith))) ∙ get_or-map (renumbered i next) xs j 0
+
+module _ (n b : ℕ) (hs : List ℕ) (i next : ℕ) (within : i < length hs) (link : is_in n b (get_or hs i 0) ≡ true → next ≡ last_below n b hs i) where
+  -- the places below are the same
+  pub last_before : (k : ℕ) → k ≤ i → last_below n b (remove hs i) k ≡ last_below n b hs k
+  last_before k l = last_same n b (remove hs i) hs k (λ j m. get_or-remove_below hs i 0 j (omega arith) within)
+
+  abbrev Moved : ℕ → Type 0
+  Moved k = renumbered i next (last_below n b hs (suc k)) ≡ last_below n b (remove hs i) k
+
+  moved_at : Moved i
+  moved_at = by_test (is_in n b (get_or hs i 0)) refl where
+    by_test : (c : Bool) → is_in n b (get_or hs i 0) ≡ c → Moved i
+    by_test true e = ap (renumbered i next) (last_in n b hs i e) ∙ renumbered_at i next ∙ link e ∙ sym (last_before i (omega arith))
+    by_test false e = ap (renumbered i next) (last_out n b hs i e) ∙ renumbered_low i next (last_below n b hs i) (last_le n b hs i) ∙ sym (last_before i (omega arith))
+
+  moved_more : (k : ℕ) → i ≤ k → Moved k → Moved (suc k)
+  moved_more k l h = by_test (is_in n b (get_or hs (suc k) 0)) refl where
+    same : get_or (remove hs i) k 0 ≡ get_or hs (suc k) 0
+    same = get_or-remove_above hs i 0 k l within ∙ ap (λ m. get_or hs m 0) (add-one k)
+
+    by_test : (c : Bool) → is_in n b (get_or hs (suc k) 0) ≡ c → Moved (suc k)
+    by_test true e = ap (renumbered i next) (last_in n b hs (suc k) e) ∙ renumbered_high i next (suc k) (omega arith) ∙ sym (last_in n b (remove hs i) k (ap (is_in n b) same ∙ e))
+    by_test false e = ap (renumbered i next) (last_out n b hs (suc k) e) ∙ h ∙ sym (last_out n b (remove hs i) k (ap (is_in n b) same ∙ e))
+
+  -- the places from there on are renumbered
+  pub last_after : (k : ℕ) → i ≤ k → Moved k
+  last_after zero l = let e : i ≡ zero = omega arith in subst Moved e moved_at
+  last_after (suc k) l = by_test (nat_le i k) refl (last_after k) where
+    by_test : (c : Bool) → nat_le i k ≡ c → (i ≤ k → Moved k) → Moved (suc k)
+    by_test true e more = let h : i ≤ k = grind (arith, nat_tests) in moved_more k h (more h)
+    by_test false e more = let q : i ≡ suc k = grind (arith, nat_tests) in subst Moved q moved_at
+
+-- one member less
+pub IsLinked-remove : (n : ℕ) (hs links heads : List ℕ) (i : ℕ) → i < length hs → IsLinked n hs links heads (length hs)
+    → (m : ℕ) → m ≡ length (remove hs i)
+    → IsLinked n (remove hs i) (map (renumbered i (get_or links i 0)) (remove links i)) (map (renumbered i (get_or links i 0)) heads) m
+IsLinked-remove n hs links heads i w h m q = record {
+  count = length-map heads f ∙ h.count;
+  size = length-map (remove links i) f ∙ removed;
+  starts = λ b l. get_or-renumbered i (get_or links i 0) heads b ∙ ap f (h.starts b l) ∙ at_end b;
+  nexts = λ j l. get_or-renumbered i (get_or links i 0) (remove links i) j ∙ by_test j (nat_le i j) refl (omega arith);
+} where
+  next : ℕ
+  next = get_or links i 0
+
+  f : ℕ → ℕ
+  f = renumbered i (get_or links i 0)
+
+  within : i < length links
+  within = omega (arith, h.size)
+
+  len : length (remove hs i) + 1 ≡ length hs
+  len = length-remove hs i w
+
+  removed : length (remove links i) ≡ length (remove hs i)
+  removed = omega (arith, length-remove links i within, h.size, len)
+
+  linked : (b : ℕ) → is_in n b (get_or hs i 0) ≡ true → get_or links i 0 ≡ last_below n b hs i
+  linked b e = let p : get_or hs i 0 % n ≡ b = grind (arith, nat_tests) in h.nexts i w ∙ ap (λ x. last_below n x hs i) p
+
+  at_end : (b : ℕ) → f (last_below n b hs (length hs)) ≡ last_below n b (remove hs i) m
+  at_end b = let e : length hs ≡ suc m = omega (arith, len) in ap (λ k. f (last_below n b hs k)) e ∙ last_after n b hs i (get_or links i 0) w (linked b) m (omega (arith, len))
+
+  by_test : (j : ℕ) (c : Bool) → nat_le i j ≡ c → j < length (remove hs i) → f (get_or (remove links i) j 0) ≡ last_below n (get_or (remove hs i) j 0 % n) (remove hs i) j
+  by_test j true e l =
+      let g : i ≤ j = grind (arith, nat_tests) in
+      let v : suc j < length hs = omega (arith, len) in
+      let b : ℕ = get_or hs (suc j) 0 % n in
+      let a : get_or (remove links i) j 0 ≡ get_or links (suc j) 0 = get_or-remove_above links i 0 j g within ∙ ap (λ k. get_or links k 0) (add-one j) in
+      let d : get_or (remove hs i) j 0 ≡ get_or hs (suc j) 0 = get_or-remove_above hs i 0 j g w ∙ ap (λ k. get_or hs k 0) (add-one j) in
+      ap f (a ∙ h.nexts (suc j) v) ∙ last_after n b hs i (get_or links i 0) w (linked b) j g ∙ ap (λ x. last_below n (x % n) (remove hs i) j) (sym d)
+  by_test j false e l =
+      let g : j < i = grind (arith, nat_tests) in
+      let v : j < length hs = omega arith in
+      let b : ℕ = get_or hs j 0 % n in
+      let a : get_or (remove links i) j 0 ≡ get_or links j 0 = get_or-remove_below links i 0 j g within in
+      let d : get_or (remove hs i) j 0 ≡ get_or hs j 0 = get_or-remove_below hs i 0 j g w in
+      let u : last_below n b hs j ≤ i = omega (arith, last_le n b hs j) in
+      ap f (a ∙ h.nexts j v) ∙ renumbered_low i (get_or links i 0) (last_below n b hs j) u ∙ sym (last_before n b hs i (get_or links i 0) w (linked b) j (omega arith)) ∙ ap (λ x. last_below n (x % n) (remove hs i) j) (sym d)
+
+-- what a vector has after its slice was lent and written
+refilled : (a : ℕ) (ws xs : List ℕ) → a ≡ length ws → take a (ws ++ drop (length ws) xs) ≡ ws
+refilled a ws xs e = ap (λ n. take n (ws ++ drop (length ws) xs)) e ∙ take-append_seam ws (drop (length ws) xs)
+
+pub IsLinked-lent : (n : ℕ) (hs gs ws us xs ys : List ℕ) (a b : ℕ) → a ≡ length ws → b ≡ length us → hs ≡ gs → IsLinked n hs ws us (length hs)
+    → IsLinked n gs (take a (ws ++ drop (length ws) xs)) (take b (us ++ drop (length us) ys)) (length gs)
+IsLinked-lent n hs gs ws us xs ys a b e f d h = subst (λ (p : List ℕ × (List ℕ × List ℕ)). IsLinked n p.0 p.1.0 p.1.1 (length p.0)) (λ i. (d i, (sym (refilled a ws xs e) i, sym (refilled b us ys f) i))) h

@@ -1,0 +1,162 @@
+-- The hashes of a map's members, and the members that a lookup compares.
+use Rattle.std.proofs.Common.{◌≡◌, ℕ, zero, suc, ◌+◌, ◌*◌, ◌<◌, ◌%◌, ◌==◌, nat_eq, Bool, true, false, ◌&&◌, List, [], ◌∷◌, ◌++◌, map, length, get_or, slice_set, take, drop, bytes_eq, Option, Some, None, IsSome, nat_le, ◌≤◌, subst, refl, sym, ap, ◌∙◌, arith, true≢false, count_by}
+use Rattle.std.specs.Bool.{if◌then◌else◌}
+use Rattle.std.proofs.lemmas.List.{length-map, length_push, map-append}
+use Rattle.std.proofs.lemmas.List.Edits.{length-remove}
+use Rattle.std.proofs.lemmas.List.Sums.{sum_by-cons}
+use Rattle.std.specs.List.{sum_by, take-map, drop-map, remove}
+use Rattle.std.proofs.lemmas.Bool.Decides.{nat_tests}
+use Rattle.std.proofs.lemmas.Slice.Eq.{bytes_eq-Decides}
+use Rattle.sj_text_core.specs.Keep.{is_seen}
+use base.Stored.{coded_bool, Coded-set}
+use Rattle.std.specs.declared.cmp.PartialEq as eq
+use Rattle.sj_object.specs.declared.key.KeyText as text
+use Rattle.sj_object.specs.declared.hasher.KeyHasher as hasher
+use Rattle.sj_object.specs.declared.map.HashMap.TheInside.{Inside}
+use Rattle.sj_object.specs.Texts.{no_repeats}
+use Rattle.sj_object.specs.Entries.{Entry, texts, entries_of}
+use Rattle.sj_object.specs.Chains.{is_in}
+use Rattle.sj_object.specs.declared.map.index.Index.{Index}
+use Rattle.sj_object.specs.Index.{IsIndexOf, IsTable, NeedsHash, HasRoom, buckets_in, buckets_of, buckets_for}
+use Rattle.sj_object.specs.Steps.{chain, walk, found_on}
+use Rattle.sj_object.proofs.Walked.{Agrees, count}
+use Rattle.sj_object.proofs.Position.{IsFound}
+
+pub text_at : {K V : Type 0} (t : K → List ℕ) (ps : List (K × V)) (i : ℕ) (q : K × V) → i < length ps → q ≡ get_or ps i q → get_or (texts (entries_of t ps)) i [] ≡ t q.0
+text_at t [] i q l e = absurd (omega arith)
+text_at t (p ∷ ps) zero q l e = ap (λ r. t r.0) (sym e)
+text_at t (p ∷ ps) (suc i) q l e = text_at t ps i q (omega arith) e
+
+pub text_there : {K V : Type 0} (t : K → List ℕ) (ps : List (K × V)) (i : ℕ) (q : K × V) → i < length ps → q ≡ get_or ps i q → get_or (texts (entries_of t ps)) i [] ≡ t (get_or ps i q).0
+text_there t ps i q l e = text_at t ps i q l e ∙ ap (λ r. t r.0) e
+
+sum_by-map : {X Y : Type 0} (F : Y → ℕ) (f : X → Y) (xs : List X) → sum_by F (map f xs) ≡ sum_by (λ x. F (f x)) xs
+sum_by-map F f [] = refl
+sum_by-map F f (x ∷ xs) = sum_by-cons F (f x) (map f xs) ∙ ap (λ m. F (f x) + m) (sum_by-map F f xs) ∙ sym (sum_by-cons (λ y. F (f y)) x xs)
+
+pub texts-length : {K V : Type 0} (t : K → List ℕ) (ps : List (K × V)) → length (texts (entries_of t ps)) ≡ length ps
+texts-length {K} {V} t ps = length-map (entries_of t ps) (λ (f : Entry K V). f.0.1) ∙ length-map ps (λ (p : K × V). ((p.0, t p.0), p.1))
+
+-- where a key is compared by its hash first
+pub compared_true : (b c : Bool) → b && c ≡ true → c ≡ true
+compared_true true c e = e
+compared_true false c e = cc
+
+pub compared_false : (h x : ℕ) (c : Bool) → nat_eq h x && c ≡ false → (c ≡ true → h ≡ x) → c ≡ false
+compared_false h x false e f = refl
+compared_false h x true e f = let q : h ≡ x = f refl in grind (arith, nat_tests)
+
+abbrev pub hashes : {K V : Type 0} → (K → List ℕ) → (List ℕ → ℕ) → List (K × V) → List ℕ
+hashes {K} {V} t H ps = map (λ (p : K × V). H (t p.0)) ps
+
+pub hashes-length : {K V : Type 0} (t : K → List ℕ) (H : List ℕ → ℕ) (ps : List (K × V)) → length (hashes t H ps) ≡ length ps
+hashes-length {K} {V} t H ps = length-map ps (λ (p : K × V). H (t p.0))
+
+pub entries-length : {K V : Type 0} (t : K → List ℕ) (ps : List (K × V)) → length (entries_of t ps) ≡ length ps
+entries-length {K} {V} t ps = length-map ps (λ (p : K × V). ((p.0, t p.0), p.1))
+
+module _ {K V : Type 0} (t : K → List ℕ) (H : List ℕ → ℕ) (k : List ℕ) where
+  same_at : (ps : List (K × V)) (i : ℕ) → i < length (texts (entries_of t ps)) → bytes_eq k (get_or (texts (entries_of t ps)) i []) ≡ true → get_or (hashes t H ps) i 0 ≡ H k
+  same_at [] i l e = absurd (omega arith)
+  same_at (p ∷ ps) zero l e = ap H (sym ((bytes_eq-Decides k (t p.0)).0 e))
+  same_at (p ∷ ps) (suc i) l e = same_at ps i (omega arith) e
+
+  pub agrees : (ps : List (K × V)) (hs : List ℕ) (x : ℕ) → hs ≡ hashes t H ps → x ≡ H k → Agrees x k hs (texts (entries_of t ps))
+  agrees ps hs x e q = record {
+    size = ap length e ∙ length-map ps (λ (p : K × V). H (t p.0)) ∙ sym (texts-length t ps);
+    same = λ i l b. ap (λ gs. get_or gs i 0) e ∙ same_at ps i l b ∙ sym q;
+  }
+
+  chained : (n i : ℕ) (ps : List (K × V)) → chain H n k (drop i (entries_of t ps)) ≡ count n (H k % n) (hashes t H ps) i
+  chained n i ps =
+      ap (chain H n k) (drop-map (λ (p : K × V). ((p.0, t p.0), p.1)) i ps) ∙ sum_by-map (λ (e : Entry K V). if H e.0.1 % n == H k % n then 1 else 0) (λ (p : K × V). ((p.0, t p.0), p.1)) (drop i ps)
+      ∙ sym (ap (count_by (is_in n (H k % n))) (drop-map (λ (p : K × V). H (t p.0)) i ps) ∙ sum_by-map (λ h. if is_in n (H k % n) h then 1 else 0) (λ (p : K × V). H (t p.0)) (drop i ps))
+
+  pub walk_found : (n i x : ℕ) (ps : List (K × V)) (hs : List ℕ) → IsFound t k ps i → hs ≡ hashes t H ps → x ≡ H k → walk H n k (entries_of t ps) ≡ count n (x % n) hs i
+  walk_found n i x ps hs f e q =
+      (λ j. chain H n k (if f.seen j then f.onward j else entries_of t ps)) ∙ chained n i ps ∙ (λ j. count n (sym q j % n) (sym e j) i)
+
+  pub walk_absent : (n x : ℕ) (ps : List (K × V)) (hs : List ℕ) → is_seen k (texts (entries_of t ps)) ≡ false → hs ≡ hashes t H ps → x ≡ H k → walk H n k (entries_of t ps) ≡ count n (x % n) hs 0
+  walk_absent n x ps hs u e q =
+      (λ j. chain H n k (if u j then found_on k (entries_of t ps) else entries_of t ps)) ∙ chained n 0 ps ∙ (λ j. count n (sym q j % n) (sym e j) 0)
+
+module _ {K V : Type 0} (t : K → List ℕ) (H : List ℕ → ℕ) where
+  -- a value's change leaves the hashes
+  pub hashes-set : (ps : List (K × V)) (i : ℕ) (p : K × V) (w : V) → p ≡ get_or ps i p → hashes t H (slice_set ps i (p.0, w)) ≡ hashes t H ps
+  hashes-set [] i p w e = refl
+  hashes-set (q ∷ ps) zero p w e = ap (λ (r : K × V). H (t r.0) ∷ hashes t H ps) e
+  hashes-set (q ∷ ps) (suc i) p w e = ap (λ hs. H (t q.0) ∷ hs) (hashes-set ps i p w e)
+
+  pub hashes-remove : (ps : List (K × V)) (i : ℕ) → hashes t H (remove ps i) ≡ remove (hashes t H ps) i
+  hashes-remove ps i = map-append (λ (p : K × V). H (t p.0)) (take i ps) (drop (suc i) ps) ∙ (λ j. sym (take-map (λ (p : K × V). H (t p.0)) i ps) j ++ sym (drop-map (λ (p : K × V). H (t p.0)) (suc i) ps) j)
+
+  pub hashes-last : (ps : List (K × V)) (p : K × V) → hashes t H (ps ++ p ∷ []) ≡ hashes t H ps ++ H (t p.0) ∷ []
+  hashes-last ps p = map-append (λ (q : K × V). H (t q.0)) ps (p ∷ [])
+
+pub has_buckets : (hs : List ℕ) → 0 < length hs → IsSome (buckets_in hs)
+has_buckets [] l = absurd (omega arith)
+has_buckets (h ∷ hs) l = refl
+
+-- one hash less
+pub IsIndexOf-remove : (hs : List ℕ) (a b : Index) (i : ℕ) → i < length hs → IsIndexOf hs a → length b.heads.items ≡ length a.heads.items
+    → (0 < length a.heads.items → b.hashes.items ≡ remove a.hashes.items i) → (0 < length a.heads.items → IsTable b) → IsIndexOf (remove hs i) b
+IsIndexOf-remove hs a b i l h s e f = record {
+  plain = λ z. omega (arith, h.plain (omega arith), length-remove hs i l);
+  same = λ z. let p : 0 < length a.heads.items = omega arith in e p ∙ ap (λ gs. remove gs i) (h.same p);
+  table = λ z. f (omega arith);
+}
+
+-- one hash more, which is read only where there are buckets then
+pub IsIndexOf-last : (hs : List ℕ) (h x : ℕ) (o : Option ℕ) (b : Index) → IsIndexOf (hs ++ h ∷ []) b → buckets_of b ≡ buckets_for (length hs + 1) o → (NeedsHash (length hs) o → h ≡ x) → IsIndexOf (hs ++ x ∷ []) b
+IsIndexOf-last hs h x (Some n) b k e f = subst (λ y. IsIndexOf (hs ++ y ∷ []) b) (f tt) k
+IsIndexOf-last hs h x None b k e f = by_test (nat_le 32 (length hs)) refl where
+  by_test : (c : Bool) → nat_le 32 (length hs) ≡ c → IsIndexOf (hs ++ x ∷ []) b
+  by_test true q = let r : 32 ≤ length hs = grind (arith, nat_tests) in subst (λ y. IsIndexOf (hs ++ y ∷ []) b) (f r) k
+  by_test false q =
+      let l : length hs + 1 ≤ 32 = grind (arith, nat_tests) in
+      let z : length b.heads.items ≡ 0 = none_in b.heads.items (e ∙ small (length hs + 1) l) in
+      let n = length_push hs x in
+      record { plain = λ y. omega arith; same = λ y. absurd (omega arith); table = λ y. absurd (omega arith) } where
+        none_in : (gs : List ℕ) → buckets_in gs ≡ None → length gs ≡ 0
+        none_in [] y = refl
+        none_in (g ∷ gs) y = cc
+
+        small : (m : ℕ) → m ≤ 32 → buckets_for m None ≡ None
+        small m l = let y : nat_le m 32 ≡ true = grind (arith, nat_tests) in λ j. if y j then None else Some 64
+
+pub buckets_same : (gs hs : List ℕ) → length gs ≡ length hs → buckets_in gs ≡ buckets_in hs
+buckets_same [] [] e = refl
+buckets_same [] (h ∷ hs) e = absurd (omega arith)
+buckets_same (g ∷ gs) [] e = absurd (omega arith)
+buckets_same (g ∷ gs) (h ∷ hs) e = ap (λ n. Some n) e
+
+pub no_buckets : (hs : List ℕ) → length hs ≡ 0 → buckets_in hs ≡ None
+no_buckets [] e = refl
+no_buckets (h ∷ hs) e = absurd (omega arith)
+
+-- fields that agree in what is data are the same
+pub same_inside : {K V S : Type 0} {G : text.Ghosts K} {E : eq.Ghosts K} {H : hasher.Ghosts S} (m : Inside K V S G E H) (d : no_repeats (texts (entries_of G.text_of m.pairs.items)) ≡ true)
+    → ◌≡◌ {A = Inside K V S G E H} (record { pairs = m.pairs; hasher = m.hasher; index = m.index; distinct = d }) m
+same_inside {K} {V} {S} {G} m d = λ i. record { pairs = m.pairs; hasher = m.hasher; index = m.index; distinct = Coded-set coded_bool (no_repeats (texts (entries_of G.text_of m.pairs.items))) true d m.distinct i }
+
+pub needs_hash : (m : ℕ) (hs : List ℕ) → 0 < length hs → NeedsHash m (buckets_in hs)
+needs_hash m [] l = absurd (omega arith)
+needs_hash m (h ∷ hs) l = tt
+
+pub needs_where_some : (m : ℕ) (o : Option ℕ) → IsSome o → NeedsHash m o
+needs_where_some m None s = absurd (true≢false (sym s))
+needs_where_some m (Some n) s = tt
+
+pub has_room : (hs : List ℕ) (i : Index) → IsIndexOf hs i → HasRoom (length hs) (buckets_of i)
+has_room hs i h = by_heads i.heads.items refl where
+  by_heads : (gs : List ℕ) → i.heads.items ≡ gs → HasRoom (length hs) (buckets_in gs)
+  by_heads [] e = h.plain (ap length e)
+  by_heads (g ∷ gs) e =
+      let n : length i.heads.items ≡ length (g ∷ gs) = ap length e in
+      let p : 0 < length i.heads.items = omega (arith, n) in
+      omega (arith, n, (h.table p).room, (h.table p).linked.count, ap length (h.same p))
+
+-- where there is room, the buckets stay
+pub buckets_kept : (n m : ℕ) (o : Option ℕ) → m ≡ n → HasRoom n o → o ≡ buckets_for m o
+buckets_kept n m None e h = let y : nat_le m 32 ≡ true = grind (arith, nat_tests) in λ j. if sym y j then None else Some 64
+buckets_kept n m (Some k) e h = let y : nat_le m k ≡ true = grind (arith, nat_tests) in λ j. if sym y j then Some k else Some (2 * k)

@@ -1,0 +1,14 @@
+use Rattle.std.proofs.Common.{◌≡◌, ◌+◌, ◌%◌, ◌^◌}
+use Rattle.sj_object.specs.Entries.{texts, entries_of}
+use Rattle.sj_object.proofs.Walked.{IsAt, count}
+use Rattle.sj_object.proofs.map.search.position_in_chain.Given as goal
+
+-- no member behind has the text, and those of the bucket behind were counted
+abbrev pub invariant-loop-place : goal.invariant-loop-place
+invariant-loop-place g l = record {
+  stands : IsAt (2 ^ l.index.bits) (l.hash % 2 ^ l.index.bits) l.text l.index.hashes.items (texts (entries_of g.K.KeyText.text_of l.pairs)) l.place;
+  counted : l.steps ≡ l.fn.steps + count (2 ^ l.index.bits) (l.hash % 2 ^ l.index.bits) l.index.hashes.items l.place;
+}
+
+abbrev pub decreases-loop-place : goal.decreases-loop-place
+decreases-loop-place g l = l.place

@@ -1,0 +1,56 @@
+//! The value of a key, which is made where the key is absent.
+
+ghost use Rattle.std.specs.Prelude.{◌≡◌, ◌<◌, length, Some, None, IsSome, IfSome, IfOk, IsOk};
+ghost use Rattle.std.specs.Borrow.{sem};
+
+use super::HashMap;
+use super::index::make_room;
+use super::search::position_of;
+use crate::hasher::KeyHasher;
+use crate::key::KeyText;
+use std::alloc::AllocError;
+
+impl<K: KeyText, V, S: KeyHasher> HashMap<K, V, S> {
+    ghost use Rattle.sj_object.specs.Edits.{lookup, value_at};
+    ghost use Rattle.sj_object.specs.Lends.{LendsAt, LendsEntry};
+
+    /// The value at a position, to write.
+    fn lend(&mut self, position: usize) -> &mut V
+        requires { position < length self.old.entries }
+        ensures* writes_back { sem 𝓛 (LendsAt K.row V.row S.row K.KeyText S.KeyHasher self.entry position result) }
+        ensures value { value_at position self.old.entries ≡ Some result.now }
+    {
+        let pair = &mut self.pairs[position];
+        &mut pair.1
+    }
+
+    /// The value of the key, which hashes to `hash`, to write; where the key is absent, `with` is
+    /// called once and its answer goes last. It is refused only for want of memory, and for no key
+    /// that is there: then `with` is not called, the key is given up, and the map is as it was.
+    pub fn get_or_insert_hashed_with<F: FnOnce() -> V + Drop>(
+        &mut self,
+        hash: u64,
+        key: K,
+        with: F,
+    ) -> Result<&mut V, AllocError>
+    where
+        K: Drop,
+        requires hash { hash ≡ S.hash_of self.old.hasher (K.text_of key) }
+        requires with { lookup (K.text_of key) self.old.entries ≡ None → F.pre with }
+        ensures* writes_back { sem 𝓛 (LendsEntry K.row V.row S.row K.KeyText S.KeyHasher self.entry (key, K.text_of key) result) }
+        ensures found { IfSome (lookup (K.text_of key) self.old.entries) (λ before. IfOk result (λ v. v.now ≡ before)) }
+        ensures made { lookup (K.text_of key) self.old.entries ≡ None → IfOk result (λ v. F.post with v.now) }
+        ensures succeeds { IsSome (lookup (K.text_of key) self.old.entries) → IsOk result }
+    {
+        if let Some(i) = position_of(&self.pairs, &self.index, &self.hasher, hash, key.text()) {
+            return Ok(self.lend(i));
+        }
+        if let Err(why) = make_room(&mut self.pairs, &mut self.index, &self.hasher, hash) {
+            return Err(why);
+        }
+        let value = with();
+        self.pairs.push_reserved((key, value));
+        let last = self.pairs.len() - 1;
+        Ok(self.lend(last))
+    }
+}

@@ -1,0 +1,95 @@
+-- A part of a tape and a document, compared.
+use Rattle.std.proofs.Common.{◌≡◌, ℕ, suc, zero, ◌+◌, ◌-◌, ◌<◌, Bool, true, false, ◌||◌, List, [], ◌∷◌, length, map, take, drop, get_or, drop-cons, Some, None, option_map, refl, sym, ap, ◌∙◌, subst, arith, true≢false, bytes_eq}
+use Rattle.std.proofs.lemmas.Slice.Eq.{bytes_eq-Decides}
+use Rattle.sj_text_core.specs.Tree.{Tree, null, boolean, int, text, list, obj, Items, no_items, item, items_len, items_from, Members}
+use Rattle.sj_text_core.specs.Find.{find_member}
+use Rattle.sj_text_core.specs.Keep.{is_seen}
+use Rattle.sj_text_core.specs.Reads.{as_members}
+use Rattle.sj_text_core.specs.Same.{Same, SameItems}
+use Rattle.sj_text_core.specs.Agree.{texts, is_before}
+use Rattle.sj_tape.specs.Parts.{paired}
+use Rattle.sj_object.specs.Texts.{no_repeats, not_and, or_of_false}
+use Rattle.sj_object.specs.Entries.{Entry, texts as entry_texts}
+use Rattle.sj_object.specs.Edits.{lookup}
+use Rattle.sj_object.specs.Members.{entry_members}
+use Rattle.sj_object.proofs.Shown.{lookup-entry_members}
+
+pub members_is : (t : Tree) (ms : Members) → Some ms ≡ as_members t → t ≡ obj ms
+members_is null ms e = cc
+members_is (boolean b) ms e = cc
+members_is (int n c) ms e = cc
+members_is (text s) ms e = cc
+members_is (list is) ms e = cc
+members_is (obj ns) ms e = cc
+
+count_same : (is js : Items) → SameItems is js → items_len is ≡ items_len js
+count_same no_items js h = ap items_len (sym h)
+count_same (item t is) no_items h = absurd h
+count_same (item t is) (item u js) h = ap (λ n. suc n) (count_same is js h.1)
+
+module _ {B : Type 0} (g : B → Tree) where
+  counted : (ys : List B) → items_len (items_from (map g ys)) ≡ length ys
+  counted [] = refl
+  counted (y ∷ ys) = ap (λ n. suc n) (counted ys)
+
+  pub lens_mixed : (is : Items) (ys : List B) → SameItems is (items_from (map g ys)) → items_len is ≡ length ys
+  lens_mixed is ys h = count_same is _ h ∙ counted ys
+
+  module _ (ahead next : List Tree) (x : Tree) (steps : ahead ≡ x ∷ next) (i : ℕ) (ys : List B) (y : B) (hy : i < length ys) (ey : y ≡ get_or ys i y) where
+    abbrev Both : List Tree → List B → Type 0
+    Both as' bs = SameItems (items_from as') (items_from (map g bs))
+
+    front : drop i ys ≡ y ∷ drop (i + 1) ys
+    front = let more : suc i ≡ i + 1 = omega arith in drop-cons ys i y hy ∙ ap (λ a. a ∷ drop (suc i) ys) (sym ey) ∙ ap (λ n. y ∷ drop n ys) more
+
+    pub taken_mixed : Both ahead (drop i ys) → Same x (g y) × Both next (drop (i + 1) ys)
+    taken_mixed h = subst (λ bs. Both (x ∷ next) bs) front (subst (λ as'. Both as' (drop i ys)) steps h)
+
+    pub joined_mixed : Same x (g y) × Both next (drop (i + 1) ys) → Both ahead (drop i ys)
+    joined_mixed h = subst (λ as'. Both as' (drop i ys)) (sym steps) (subst (λ bs. Both (x ∷ next) bs) (sym front) h)
+
+    pub lens_next : length ahead ≡ length (drop i ys) → length next ≡ length (drop (i + 1) ys)
+    lens_next e = omega (arith, e, ap (λ (l : List Tree). length l) steps, ap (λ (l : List B). length l) front)
+
+pub texts_paired : {K V : Type 0} (f : V → Tree) (es : List (Entry K V)) → texts (paired (entry_members f es)) ≡ entry_texts es
+texts_paired f [] = refl
+texts_paired f (e ∷ es) = ap (λ l. e.0.1 ∷ l) (texts_paired f es)
+
+pub found_at : {K V : Type 0} (f : V → Tree) (k : List ℕ) (es : List (Entry K V)) (v : V) → Some v ≡ lookup k es → find_member k (entry_members f es) ≡ Some (f v)
+found_at f k es v e = sym (lookup-entry_members f k es) ∙ ap (option_map f) (sym e)
+
+pub absent_at : {K V : Type 0} (f : V → Tree) (k : List ℕ) (es : List (Entry K V)) → None ≡ lookup k es → find_member k (entry_members f es) ≡ None
+absent_at f k es e = sym (lookup-entry_members f k es) ∙ ap (option_map f) (sym e)
+
+pub drop_less : {A : Type 0} (n : ℕ) (xs : List A) (x : A) (rest : List A) → xs ≡ x ∷ rest → 0 < n → drop n xs ≡ drop (n - 1) rest
+drop_less zero xs x rest e h = absurd (omega arith)
+drop_less (suc n) xs x rest e h = let less : n ≡ suc n - 1 = omega arith in ap (drop (suc n)) e ∙ ap (λ m. drop m rest) less
+
+at_place : (n : ℕ) (k : List ℕ) (u : Tree) (qs more : List (List ℕ × Tree)) → drop n qs ≡ (k, u) ∷ more → is_seen k (texts qs) ≡ true
+at_place zero k u [] more e = cc
+at_place zero k u (q ∷ qs) more e = (λ j. (bytes_eq-Decides k q.0).1 same j || is_seen k (texts qs)) where
+  same : k ≡ q.0
+  same = ap (λ (p : List ℕ × Tree). p.0) (sym (let f : q ≡ (k, u) = cc in f))
+at_place (suc n) k u [] more e = cc
+at_place (suc n) k u (q ∷ qs) more e = or_right (bytes_eq k q.0) (is_seen k (texts qs)) (at_place n k u qs more e) where
+  or_right : (b c : Bool) → c ≡ true → (b || c) ≡ true
+  or_right true c e = refl
+  or_right false c e = e
+
+other_text : (k l : List ℕ) (ks : List (List ℕ)) (b : Bool) → bytes_eq k l ≡ b → is_seen k ks ≡ true → is_seen l ks ≡ false → b ≡ false
+other_text k l ks true e h n = absurd (true≢false (sym h ∙ ap (λ x. is_seen x ks) ((bytes_eq-Decides k l).0 e) ∙ n))
+other_text k l ks false e h n = refl
+
+-- without repeats a text does not stand before its place
+alone : (n : ℕ) (k : List ℕ) (u : Tree) (qs more : List (List ℕ × Tree)) → no_repeats (texts qs) ≡ true → drop n qs ≡ (k, u) ∷ more → is_seen k (texts (take n qs)) ≡ false
+alone zero k u qs more d e = refl
+alone (suc n) k u [] more d e = refl
+alone (suc n) k u (q ∷ qs) more d e =
+    let r = not_and (is_seen q.0 (texts qs)) (no_repeats (texts qs)) d in
+    or_of_false (bytes_eq k q.0) _ (other_text k q.0 (texts qs) (bytes_eq k q.0) refl (at_place n k u qs more e) r.0) (alone n k u qs more r.1 e)
+
+-- nor in what is in step
+pub first_here : (n : ℕ) (k l : List ℕ) (u : Tree) (ps qs others more : List (List ℕ × Tree)) (b : Bool) → drop n qs ≡ others → others ≡ (l, u) ∷ more → b ≡ bytes_eq k l → b ≡ true
+    → texts (take n ps) ≡ texts (take n qs) → no_repeats (texts qs) ≡ true → is_before n k ps ≡ false
+first_here n k l u ps qs others more b also shows asked holds w d =
+    ap (is_seen k) w ∙ ap (λ x. is_seen x (texts (take n qs))) ((bytes_eq-Decides k l).0 (sym asked ∙ holds)) ∙ alone n l u qs more d (also ∙ shows)

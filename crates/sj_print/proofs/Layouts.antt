@@ -1,0 +1,44 @@
+-- What a layout has between tokens, and in which order.
+use Rattle.std.proofs.Common.{◌≡◌, ℕ, ◌+◌, ◌-◌, ◌*◌, ◌^◌, min, List, [], ◌∷◌, ◌++◌, Option, Some, None, codes, replicate, refl, ap, ◌∙◌, append_assoc}
+use Rattle.sj_text_core.specs.Tree.{Tree, list, obj, Items, item, Members, member}
+use Rattle.sj_text_core.specs.Print.{quoted, compact, compact_items, compact_members, pretty, pretty_items, pretty_members, new_line}
+use Rattle.sj_text_core.proofs.Utf8.{IsUtf8-line}
+use Rattle.sj_print.specs.Layouts.{laid, laid_items, laid_members, deeper, gap, colon}
+use Rattle.sj_print.specs.Outputs.{Appends, Lays}
+use Rattle.sj_print.specs.declared.layout.Layout.TheVariants.{Pretty}
+use Rattle.sj_print.proofs.Puts.{appends_text}
+
+-- what follows an item of an array, and so for members
+abbrev pub items_end : Option ℕ → Items → List ℕ
+items_end s is = laid_items (deeper s) is ++ (gap s ++ 93 ∷ [])
+
+abbrev pub members_end : Option ℕ → Members → List ℕ
+members_end s ms = laid_members (deeper s) ms ++ (gap s ++ 125 ∷ [])
+
+five : (a b c d e : List ℕ) → (((a ++ b) ++ c) ++ d) ++ e ≡ a ++ (b ++ (c ++ (d ++ e)))
+five a b c d e = append_assoc ((a ++ b) ++ c) d e ∙ append_assoc (a ++ b) c (d ++ e) ∙ append_assoc a b (c ++ (d ++ e))
+
+pub laid-list : (s : Option ℕ) (t : Tree) (is : Items) → laid s (list (item t is)) ≡ (91 ∷ gap (deeper s)) ++ (laid (deeper s) t ++ items_end s is)
+laid-list None t is = ap (λ l. 91 ∷ l) (append_assoc (compact t) (compact_items is) (93 ∷ []))
+laid-list (Some n) t is = ap (λ l. 91 ∷ l) (five (new_line (n + 1)) (pretty (n + 1) t) (pretty_items (n + 1) is) (new_line n) (93 ∷ []))
+
+pub laid-item : (s : Option ℕ) (t : Tree) (is : Items) → laid_items s (item t is) ≡ (44 ∷ gap s) ++ (laid s t ++ laid_items s is)
+laid-item None t is = refl
+laid-item (Some n) t is = ap (λ l. 44 ∷ l) (append_assoc (new_line n) (pretty n t) (pretty_items n is))
+
+pub laid-obj : (s : Option ℕ) (k : List ℕ) (t : Tree) (ms : Members) → laid s (obj (member k t ms)) ≡ (123 ∷ gap (deeper s)) ++ (quoted k ++ (colon (deeper s) ++ (laid (deeper s) t ++ members_end s ms)))
+laid-obj None k t ms = ap (λ l. 123 ∷ (quoted k ++ 58 ∷ l)) (append_assoc (compact t) (compact_members ms) (125 ∷ []))
+laid-obj (Some n) k t ms =
+    let a = new_line (n + 1) ++ quoted k in
+    let c = codes ": " in
+    ap (λ l. 123 ∷ l) (five (a ++ c) (pretty (n + 1) t) (pretty_members (n + 1) ms) (new_line n) (125 ∷ [])
+    ∙ append_assoc a c (pretty (n + 1) t ++ (pretty_members (n + 1) ms ++ (new_line n ++ 125 ∷ [])))
+    ∙ append_assoc (new_line (n + 1)) (quoted k) (c ++ (pretty (n + 1) t ++ (pretty_members (n + 1) ms ++ (new_line n ++ 125 ∷ [])))))
+
+pub laid-member : (s : Option ℕ) (k : List ℕ) (t : Tree) (ms : Members) → laid_members s (member k t ms) ≡ (44 ∷ gap s) ++ (quoted k ++ (colon s ++ (laid s t ++ laid_members s ms)))
+laid-member None k t ms = refl
+laid-member (Some n) k t ms = ap (λ l. 44 ∷ l) (five (new_line n) (quoted k) (codes ": ") (pretty n t) (pretty_members n ms))
+
+pub lays_gap : {O : Type 0} (holds : ℕ → List ℕ → O → List ℕ → Type 0) (a b : O) (spaces : ℕ) → ((k : ℕ) → spaces ≡ min k (2 ^ 64 - 1) → Appends holds a b (10 ∷ replicate k 32)) → Lays holds a b (Pretty spaces) gap
+lays_gap holds a b spaces f None l = absurd l
+lays_gap holds a b spaces f (Some n) l = appends_text holds a b (new_line n) (f (2 * n) l) (IsUtf8-line (2 * n))

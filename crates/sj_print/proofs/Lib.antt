@@ -1,0 +1,4 @@
+pub mod Puts
+pub mod Layouts
+pub mod Walks
+pub mod Ends

@@ -1,0 +1,33 @@
+-- What one call after another appends.
+use Rattle.std.proofs.Common.{◌≡◌, ℕ, List, [], ◌++◌, IsUtf8, sym, ap, ◌∙◌, subst, append_assoc, append-nil}
+use Rattle.std.proofs.lemmas.Str.{IsUtf8-append}
+use Rattle.sj_print.specs.Outputs.{Appends, AppendsText}
+
+-- what was put, with the rest makes the whole
+pub record Towards {O : Type 0} (holds : ℕ → List ℕ → O → List ℕ → Type 0) (old new : O) (rest whole : List ℕ) : Type 0 where
+  pub done : List ℕ
+  pub put : Appends holds old new done
+  pub makes : done ++ rest ≡ whole
+
+module _ {O : Type 0} (holds : ℕ → List ℕ → O → List ℕ → Type 0) where
+  pub appends_nothing : (a : O) → Appends holds a a []
+  appends_nothing a n start b h = subst (holds n start a) (sym (append-nil b)) h
+
+  pub appends_both : (a b c : O) (p q : List ℕ) → Appends holds a b p → Appends holds b c q → Appends holds a c (p ++ q)
+  appends_both a b c p q f g n start x h = subst (holds n start c) (append_assoc x p q) (g n start (x ++ p) (f n start x h))
+
+  pub appends_text : (a b : O) (p : List ℕ) → Appends holds a b p → IsUtf8 p → AppendsText holds a b p
+  appends_text a b p f u n start x h = (IsUtf8-append x p h.0 u, f n start x h.1)
+
+  pub begin : (a b : O) (part rest whole : List ℕ) → Appends holds a b part → part ++ rest ≡ whole → Towards holds a b rest whole
+  begin a b part rest whole f e = record { done = part; put = f; makes = e }
+
+  pub step : (a b c : O) (part left rest whole : List ℕ) → Towards holds a b left whole → Appends holds b c part → left ≡ part ++ rest → Towards holds a c rest whole
+  step a b c part left rest whole t f e = record {
+    done = t.done ++ part;
+    put = appends_both a b c t.done part t.put f;
+    makes = append_assoc t.done part rest ∙ ap (λ l. t.done ++ l) (sym e) ∙ t.makes;
+  }
+
+  pub end : (a b c : O) (part left whole : List ℕ) → Towards holds a b left whole → Appends holds b c part → left ≡ part → Appends holds a c whole
+  end a b c part left whole t f e = subst (Appends holds a c) (ap (λ l. t.done ++ l) (sym e) ∙ t.makes) (appends_both a b c t.done part t.put f)

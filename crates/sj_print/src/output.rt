@@ -1,0 +1,69 @@
+//! What prints go to.
+
+ghost use Rattle.std.specs.Prelude.{◌≡◌, ℕ, ◌+◌, ◌-◌, ◌^◌, ◌≤◌, min, List, ◌∷◌, ◌++◌, length, replicate};
+ghost use Rattle.sj_text_core.specs.Print.{quoted, compact};
+ghost use Rattle.sj_text_core.specs.Scalars.{static_tree};
+ghost use Rattle.sj_print.specs.Layouts.{gap};
+ghost use Rattle.sj_print.specs.Outputs.{Appends, AppendsText, Lays};
+
+mod bytes;
+mod count;
+mod quote;
+
+use crate::layout::Layout;
+pub use count::Count;
+use quote::put_runs;
+use sj_text_core::StaticNode;
+
+/// What a print goes to: the bytes themselves, where there is room for them, or how many they are.
+pub trait Output {
+    /// The output holds these bytes behind a start, where the two are at most so many.
+    ghost holds: { ℕ → List ℕ → Self → List ℕ → Type 0 };
+
+    /// Appends the bytes.
+    fn put_bytes(&mut self, bytes: &[u8])
+        ensures { Appends holds self.old self.new bytes.now };
+
+    /// Appends a line feed and spaces, where `usize::MAX` stands for every number from it on.
+    fn put_line(&mut self, spaces: usize)
+        ensures { (k : ℕ) → spaces ≡ min k (2 ^ 64 - 1) → Appends holds self.old self.new (10 ∷ replicate k 32) };
+
+    /// Appends the text as it is.
+    final fn put(&mut self, text: &str)
+        ensures { AppendsText holds self.old self.new text.now }
+    {
+        self.put_bytes(text.as_bytes());
+    }
+
+    /// Appends the text between quotes, with escapes where they are needed.
+    final fn put_quoted(&mut self, text: &str)
+        ensures { AppendsText holds self.old self.new (quoted text.now) }
+    {
+        put_runs(self, text.as_bytes());
+    }
+
+    /// Appends `null`, `true`, `false`, or the number in decimal.
+    final fn put_static(&mut self, node: StaticNode)
+        ensures { AppendsText holds self.old self.new (compact (static_tree node)) }
+    {
+        let mut digits = itoa::Buffer::new();
+        match node {
+            StaticNode::Null => self.put("null"),
+            StaticNode::Bool(true) => self.put("true"),
+            StaticNode::Bool(false) => self.put("false"),
+            StaticNode::I64(n) => self.put(digits.format(n)),
+            StaticNode::U64(n) => self.put(digits.format(n)),
+            StaticNode::I128(n) => self.put(digits.format(n)),
+            StaticNode::U128(n) => self.put(digits.format(n)),
+        }
+    }
+
+    /// Appends what the layout has between tokens.
+    final fn put_gap(&mut self, layout: Layout)
+        ensures { Lays holds self.old self.new layout gap }
+    {
+        if let Layout::Pretty { spaces } = layout {
+            self.put_line(spaces);
+        }
+    }
+}

@@ -1,0 +1,23 @@
+//! How many bytes a print has.
+
+ghost use Rattle.std.specs.Prelude.{◌≡◌, ◌+◌, ◌-◌, ◌^◌, min, length};
+
+use super::Output;
+
+/// How many bytes were put. From 2^64 on it is only known that they are as many.
+#[derive(Clone, Copy, Debug)]
+pub struct Count {
+    pub total: u128,
+}
+
+impl Output for Count {
+    ghost holds = { λ _ start c b. min c.total (2 ^ 64) ≡ min (length start + length b) (2 ^ 64) };
+
+    fn put_bytes(&mut self, bytes: &[u8]) {
+        self.total = self.total.saturating_add(bytes.len() as u128);
+    }
+
+    fn put_line(&mut self, spaces: usize) {
+        self.total = self.total.saturating_add(spaces as u128 + 1);
+    }
+}

@@ -1,0 +1,45 @@
+//! Texts between quotes.
+
+ghost use Rattle.std.specs.Prelude.{IsTrue};
+ghost use Rattle.sj_text_core.specs.Print.{escaped, quoted};
+ghost use Rattle.sj_text_core.specs.Runs.{is_stop};
+ghost use Rattle.sj_print.specs.Outputs.{Appends};
+
+use super::Output;
+use sj_text_core::{hex_digit, plain_end};
+
+/// Appends the escape of a quote, a backslash or a control byte.
+fn put_escape<O: Output>(out: &mut O, byte: u8)
+    requires { IsTrue (is_stop byte) }
+    ensures { Appends O.holds out.old out.new (escaped byte) }
+{
+    match byte {
+        b'"' => out.put_bytes(b"\\\""),
+        b'\\' => out.put_bytes(b"\\\\"),
+        8 => out.put_bytes(b"\\b"),
+        9 => out.put_bytes(b"\\t"),
+        10 => out.put_bytes(b"\\n"),
+        12 => out.put_bytes(b"\\f"),
+        13 => out.put_bytes(b"\\r"),
+        0..16 => out.put_bytes(&[b'\\', b'u', b'0', b'0', b'0', hex_digit(byte)]),
+        _ => out.put_bytes(&[b'\\', b'u', b'0', b'0', b'1', hex_digit(byte - 16)]),
+    }
+}
+
+/// Appends the text between quotes: runs of plain bytes at once, the others by their escapes.
+pub(super) fn put_runs<O: Output>(out: &mut O, text: &[u8])
+    ensures { Appends O.holds out.old out.new (quoted text.now) }
+{
+    out.put_bytes(b"\"");
+    let mut at = 0;
+    loop {
+        let stop = plain_end(text, at);
+        out.put_bytes(&text[at..stop]);
+        if stop == text.len() {
+            out.put_bytes(b"\"");
+            return;
+        }
+        put_escape(out, text[stop]);
+        at = stop + 1;
+    }
+}

@@ -1,0 +1,85 @@
+//! The walk over a value.
+
+ghost use Rattle.std.specs.Prelude.{◌++◌};
+ghost use Rattle.sj_text_core.specs.Print.{quoted};
+ghost use Rattle.sj_text_core.specs.Tree.{list, obj, items_from, members_from};
+ghost use Rattle.sj_print.specs.Layouts.{laid, gap, colon};
+ghost use Rattle.sj_print.specs.Outputs.{Lays};
+
+use crate::layout::Layout;
+use crate::output::Output;
+use crate::parts::{Level, Parts};
+
+/// Appends the text, and then what the layout has between tokens.
+#[inline(always)]
+fn put_then_gap<O: Output>(text: &str, layout: Layout, out: &mut O)
+    ensures { Lays O.holds out.old out.new layout (λ s. text.now ++ gap s) }
+{
+    out.put(text);
+    out.put_gap(layout);
+}
+
+/// Appends a key and a colon.
+#[inline(always)]
+fn put_key<O: Output>(key: &str, layout: Layout, out: &mut O)
+    ensures { Lays O.holds out.old out.new layout (λ s. quoted key.now ++ colon s) }
+{
+    out.put_quoted(key);
+    match layout {
+        Layout::Compact => out.put(":"),
+        Layout::Pretty { .. } => out.put(": "),
+    }
+}
+
+/// Appends the value's print.
+#[cycle(print)]
+pub(crate) fn print<P: Parts, O: Output>(value: &P, layout: Layout, out: &mut O)
+    ensures { Lays O.holds out.old out.new layout (λ s. laid s (P.tree_of value.now)) }
+{
+    match value.level() {
+        Level::Static(node) => out.put_static(node),
+        Level::String(text) => out.put_quoted(text),
+        Level::Array(items) => print_items::<P, O>(items, layout, out),
+        Level::Object(members) => print_members::<P, O>(members, layout, out),
+    }
+}
+
+#[cycle(print)]
+fn print_items<P: Parts, O: Output>(mut items: P::Items, layout: Layout, out: &mut O)
+    ensures { Lays O.holds out.old out.new layout (λ s. laid s (list (items_from (P.items_left items)))) }
+{
+    let Some(first) = P::next_item(&mut items) else {
+        out.put("[]");
+        return;
+    };
+    let inner = layout.deeper();
+    put_then_gap("[", inner, out);
+    print(&first, inner, out);
+    while let Some(item) = P::next_item(&mut items) {
+        put_then_gap(",", inner, out);
+        print(&item, inner, out);
+    }
+    out.put_gap(layout);
+    out.put("]");
+}
+
+#[cycle(print)]
+fn print_members<P: Parts, O: Output>(mut members: P::Members, layout: Layout, out: &mut O)
+    ensures { Lays O.holds out.old out.new layout (λ s. laid s (obj (members_from (P.members_left members)))) }
+{
+    let Some((key, first)) = P::next_member(&mut members) else {
+        out.put("{}");
+        return;
+    };
+    let inner = layout.deeper();
+    put_then_gap("{", inner, out);
+    put_key(P::key_text(&key), inner, out);
+    print(&first, inner, out);
+    while let Some((key, value)) = P::next_member(&mut members) {
+        put_then_gap(",", inner, out);
+        put_key(P::key_text(&key), inner, out);
+        print(&value, inner, out);
+    }
+    out.put_gap(layout);
+    out.put("}");
+}

@@ -1,0 +1,375 @@
+-- Parts compared where the last member of each text counts in the first.
+use Rattle.std.proofs.Common.{◌≡◌, ℕ, zero, suc, ◌≤◌, arith, Bool, true, false, ◌||◌, List, [], ◌∷◌, map, drop, Option, Some, None, option_map, if◌then◌else◌, bytes_eq, refl, sym, ap, ◌∙◌, subst, true≢false}
+use Rattle.std.specs.Option.{option_or}
+use Rattle.std.proofs.lemmas.Slice.Eq.{bytes_eq-Decides}
+use Rattle.sj_text_core.specs.Tree.{Tree, null, boolean, int, text, list, obj, Items, no_items, item, items_len, items_from, Members, no_members, member}
+use Rattle.sj_text_core.specs.Find.{find_member}
+use Rattle.sj_text_core.specs.Reads.{as_items, as_members}
+use Rattle.sj_text_core.specs.Keep.{is_seen}
+use Rattle.sj_text_core.specs.Same.{Same, SameItems}
+use Rattle.sj_text_core.specs.Agree.{SameFound, HasTexts, texts}
+use Rattle.sj_text_core.specs.Repeats.{SameBy, by_first, keep_last, keep_last_items, keep_last_values, put_all, find_last_member, find_member_by}
+use Rattle.sj_text_core.specs.declared.repeats.Repeats.{Repeats}
+use Rattle.sj_text_core.specs.declared.repeats.Repeats.TheVariants.{First, Last}
+use Rattle.sj_text_core.proofs.Equality.{found_from_at, at_from_found}
+use Rattle.sj_text_core.proofs.Last.{find-keep_last}
+use Rattle.sj_tape.proofs.Compared.{same_items_len}
+use Rattle.sj_tape.specs.Members.{chosen}
+use Rattle.sj_tape.specs.Parts.{listed, paired}
+
+-- one item of each, and those behind
+pub items_taken : (ts us rest more : List Tree) (t u : Tree) → ts ≡ t ∷ rest → us ≡ u ∷ more → SameItems (items_from ts) (items_from us) → Same t u × SameItems (items_from rest) (items_from more)
+items_taken ts us rest more t u e f h = subst (λ us. SameItems (items_from (t ∷ rest)) (items_from us)) f (subst (λ ts. SameItems (items_from ts) (items_from us)) e h)
+
+pub items_joined : (ts us rest more : List Tree) (t u : Tree) → ts ≡ t ∷ rest → us ≡ u ∷ more → Same t u × SameItems (items_from rest) (items_from more) → SameItems (items_from ts) (items_from us)
+items_joined ts us rest more t u e f h = subst (λ ts. SameItems (items_from ts) (items_from us)) (sym e) (subst (λ us. SameItems (items_from (t ∷ rest)) (items_from us)) (sym f) h)
+
+pub items_last : (is : Items) → keep_last_items is ≡ items_from (map keep_last (listed is))
+items_last no_items = refl
+items_last (item t is) = ap (item (keep_last t)) (items_last is)
+
+items_first : (is : Items) → is ≡ items_from (map (by_first First) (listed is))
+items_first no_items = refl
+items_first (item t is) = ap (item t) (items_first is)
+
+items_by : (d : Repeats) (is : Items) → by_first d (list is) ≡ list (items_from (map (by_first d) (listed is)))
+items_by First is = ap list (items_first is)
+items_by Last is = ap list (items_last is)
+
+-- arrays by what counts in each item
+pub into_items : (d : Repeats) (is js : Items) → SameBy Last d (list is) (list js) → SameItems (items_from (map keep_last (listed is))) (items_from (map (by_first d) (listed js)))
+into_items d is js h =
+    subst (λ v. Same (list (items_from (map keep_last (listed is)))) v) (items_by d js) (subst (λ l. Same (list l) (by_first d (list js))) (items_last is) h)
+
+pub from_items : (d : Repeats) (is js : Items) → SameItems (items_from (map keep_last (listed is))) (items_from (map (by_first d) (listed js))) → SameBy Last d (list is) (list js)
+from_items d is js h =
+    subst (λ l. Same (list l) (by_first d (list js))) (sym (items_last is)) (subst (λ v. Same (list (items_from (map keep_last (listed is)))) v) (sym (items_by d js)) h)
+
+-- the members whose first are those that count
+abbrev firsts : Repeats → Members → Members
+firsts First ms = ms
+firsts Last ms = put_all no_members (keep_last_values ms)
+
+by_firsts : (d : Repeats) (ms : Members) → by_first d (obj ms) ≡ obj (firsts d ms)
+by_firsts First ms = refl
+by_firsts Last ms = refl
+
+map_same : (o : Option Tree) → o ≡ option_map (by_first First) o
+map_same None = refl
+map_same (Some t) = refl
+
+find_firsts : (d : Repeats) (k : List ℕ) (ms : Members) → find_member k (firsts d ms) ≡ option_map (by_first d) (find_member_by d k ms)
+find_firsts First k ms = map_same (find_member k ms)
+find_firsts Last k ms = find-keep_last k (obj ms)
+
+-- what counts at a text is absent in both, or the same
+abbrev pub CountSame : Repeats → List ℕ → Members → Members → Type 0
+CountSame d k ms ns = SameFound (option_map keep_last (find_last_member k ms)) (option_map (by_first d) (find_member_by d k ns))
+
+pub each_counts : (d : Repeats) (ms ns : Members) → SameBy Last d (obj ms) (obj ns) → (k : List ℕ) → CountSame d k ms ns
+each_counts d ms ns h k =
+    let g : Same (obj (firsts Last ms)) (obj (firsts d ns)) = subst (λ v. Same (obj (firsts Last ms)) v) (by_firsts d ns) h in
+    subst (λ o. SameFound o (option_map (by_first d) (find_member_by d k ns))) (find_firsts Last k ms)
+    (subst (λ o. SameFound (find_member k (firsts Last ms)) o) (find_firsts d k ns) (found_from_at k (firsts Last ms) (find_member k (firsts d ns)) (g k)))
+
+pub from_each : (d : Repeats) (ms ns : Members) → ((k : List ℕ) → CountSame d k ms ns) → SameBy Last d (obj ms) (obj ns)
+from_each d ms ns h =
+    subst (λ v. Same (obj (firsts Last ms)) v) (sym (by_firsts d ns))
+    (λ k. at_from_found k (firsts Last ms) (find_member k (firsts d ns))
+    (subst (λ o. SameFound (find_member k (firsts Last ms)) o) (sym (find_firsts d k ns))
+    (subst (λ o. SameFound o (option_map (by_first d) (find_member_by d k ns))) (sym (find_firsts Last k ms)) (h k))))
+
+first_none : (b x : Bool) (t : Tree) (r : Option Tree) → (b || x) ≡ false → (x ≡ false → r ≡ None) → (if b then Some t else r) ≡ None
+first_none true x t r e h = cc
+first_none false x t r e h = h e
+
+last_none : (b x : Bool) (t : Tree) (r : Option Tree) → (b || x) ≡ false → (x ≡ false → r ≡ None) → option_or r (if b then Some t else None) ≡ None
+last_none true x t r e h = cc
+last_none false x t r e h = ap (λ r. option_or r None) (h e)
+
+-- a text that none has is absent
+pub absent_by : (d : Repeats) (k : List ℕ) (ms : Members) → is_seen k (texts (paired ms)) ≡ false → find_member_by d k ms ≡ None
+absent_by First k no_members e = refl
+absent_by First k (member l t ms) e = first_none (bytes_eq k l) (is_seen k (texts (paired ms))) t (find_member k ms) e (absent_by First k ms)
+absent_by Last k no_members e = refl
+absent_by Last k (member l t ms) e = last_none (bytes_eq k l) (is_seen k (texts (paired ms))) t (find_last_member k ms) e (absent_by Last k ms)
+
+none_first : (b x : Bool) (t : Tree) (r : Option Tree) → (if b then Some t else r) ≡ None → (r ≡ None → x ≡ false) → (b || x) ≡ false
+none_first true x t r e h = cc
+none_first false x t r e h = h e
+
+none_last : (b x : Bool) (t : Tree) (r : Option Tree) → option_or r (if b then Some t else None) ≡ None → (r ≡ None → x ≡ false) → (b || x) ≡ false
+none_last b x t (Some u) e h = cc
+none_last true x t None e h = cc
+none_last false x t None e h = h refl
+
+pub unseen_by : (d : Repeats) (k : List ℕ) (ms : Members) → find_member_by d k ms ≡ None → is_seen k (texts (paired ms)) ≡ false
+unseen_by First k no_members e = refl
+unseen_by First k (member l t ms) e = none_first (bytes_eq k l) (is_seen k (texts (paired ms))) t (find_member k ms) e (unseen_by First k ms)
+unseen_by Last k no_members e = refl
+unseen_by Last k (member l t ms) e = none_last (bytes_eq k l) (is_seen k (texts (paired ms))) t (find_last_member k ms) e (unseen_by Last k ms)
+
+head_same : (p q : List ℕ × Tree) (ps qs : List (List ℕ × Tree)) → p ∷ ps ≡ q ∷ qs → p ≡ q
+head_same p q ps qs e = cc
+
+tail_same : (p q : List ℕ × Tree) (ps qs : List (List ℕ × Tree)) → p ∷ ps ≡ q ∷ qs → ps ≡ qs
+tail_same p q ps qs e = cc
+
+here_last : (k l : List ℕ) (t u : Tree) (ms : Members) (rest : List (List ℕ × Tree)) → (l, u) ∷ paired ms ≡ (k, t) ∷ rest → is_seen k (texts rest) ≡ false → find_last_member k (member l u ms) ≡ Some t
+here_last k l t u ms rest e f =
+    let p = head_same (l, u) (k, t) (paired ms) rest e in
+    let q = tail_same (l, u) (k, t) (paired ms) rest e in
+    let own : bytes_eq k l ≡ true = (bytes_eq-Decides k l).1 (sym (ap (λ (p : List ℕ × Tree). p.0) p)) in
+    ap (λ o. option_or o (if bytes_eq k l then Some u else None)) (absent_by Last k ms (ap (λ ps. is_seen k (texts ps)) q ∙ f))
+    ∙ ap (λ b. if b then Some u else None) own ∙ ap (λ (p : List ℕ × Tree). Some p.1) p
+
+-- the last pair of a text is found
+pub found_last : (n : ℕ) (k : List ℕ) (t : Tree) (ms : Members) (rest : List (List ℕ × Tree)) → drop n (paired ms) ≡ (k, t) ∷ rest → is_seen k (texts rest) ≡ false → find_last_member k ms ≡ Some t
+found_last zero k t no_members rest e f = cc
+found_last zero k t (member l u ms) rest e f = here_last k l t u ms rest e f
+found_last (suc n) k t no_members rest e f = cc
+found_last (suc n) k t (member l u ms) rest e f = ap (λ o. option_or o (if bytes_eq k l then Some u else None)) (found_last n k t ms rest e f)
+
+-- the texts of which no member is ahead
+abbrev pub Counted : Repeats → Members → Members → List (List ℕ × Tree) → Type 0
+Counted d ms ns ahead = (k : List ℕ) → is_seen k (texts (paired ms)) ≡ true → is_seen k (texts ahead) ≡ false → CountSame d k ms ns
+
+pub counted_none : (d : Repeats) (ms ns : Members) (ahead : List (List ℕ × Tree)) → ahead ≡ paired ms → Counted d ms ns ahead
+counted_none d ms ns ahead e = λ k s n. absurd (true≢false (sym s ∙ ap (λ ps. is_seen k (texts ps)) (sym e) ∙ n))
+
+by_either : (b : Bool) (P : Type 0) → (b ≡ true → P) → (b ≡ false → P) → P
+by_either true P f g = f refl
+by_either false P f g = g refl
+
+neither : (b x : Bool) → b ≡ false → x ≡ false → (b || x) ≡ false
+neither true x e f = e
+neither false x e f = f
+
+module _ (d : Repeats) (ms ns : Members) (k : List ℕ) (t : Tree) (ahead rest : List (List ℕ × Tree)) (step : ahead ≡ (k, t) ∷ rest) where
+  -- a member behind which its text stands again
+  pub counted_again : is_seen k (texts rest) ≡ true → Counted d ms ns ahead → Counted d ms ns rest
+  counted_again b h = λ l s n. by_either (bytes_eq l k) _
+      (λ e. absurd (true≢false (sym b ∙ ap (λ k. is_seen k (texts rest)) (sym ((bytes_eq-Decides l k).0 e)) ∙ n)))
+      (λ e. h l s (ap (λ ps. is_seen l (texts ps)) step ∙ neither (bytes_eq l k) (is_seen l (texts rest)) e n))
+
+  both_some : (x : Tree) (f g : Option Tree) → f ≡ Some t → g ≡ Some x → Same (keep_last t) (by_first d x) → SameFound (option_map keep_last f) (option_map (by_first d) g)
+  both_some x f g e i s = subst (λ f. SameFound (option_map keep_last f) (option_map (by_first d) g)) (sym e) (subst (λ g. SameFound (Some (keep_last t)) (option_map (by_first d) g)) (sym i) s)
+
+  -- the last member of its text, and what the other has
+  module _ (n : ℕ) (at : drop n (paired ms) ≡ ahead) (b : is_seen k (texts rest) ≡ false) where
+    mine : find_last_member k ms ≡ Some t
+    mine = found_last n k t ms rest (at ∙ step) b
+
+    pub counted_same : (x : Tree) → find_member_by d k ns ≡ Some x → Same (keep_last t) (by_first d x) → Counted d ms ns ahead → Counted d ms ns rest
+    counted_same x f s h = λ l z n. by_either (bytes_eq l k) _
+        (λ e. subst (λ l. CountSame d l ms ns) (sym ((bytes_eq-Decides l k).0 e)) (both_some x _ _ mine f s))
+        (λ e. h l z (ap (λ ps. is_seen l (texts ps)) step ∙ neither (bytes_eq l k) (is_seen l (texts rest)) e n))
+
+    pub same_last : (x : Tree) → find_member_by d k ns ≡ Some x → SameBy Last d (obj ms) (obj ns) → Same (keep_last t) (by_first d x)
+    same_last x f h = subst (λ g. SameFound (Some (keep_last t)) (option_map (by_first d) g)) f (subst (λ f. SameFound (option_map keep_last f) (option_map (by_first d) (find_member_by d k ns))) mine (each_counts d ms ns h k))
+
+    pub not_same_last : find_member_by d k ns ≡ None → SameBy Last d (obj ms) (obj ns) → ⊥
+    not_same_last f h = subst (λ g. SameFound (Some (keep_last t)) (option_map (by_first d) g)) f (subst (λ f. SameFound (option_map keep_last f) (option_map (by_first d) (find_member_by d k ns))) mine (each_counts d ms ns h k))
+
+no_text : (f g : Option Tree) → f ≡ None → SameFound f g → g ≡ None
+no_text None g e h = h
+no_text (Some t) g e h = cc
+
+map_none : (f : Tree → Tree) (o : Option Tree) → option_map f o ≡ None → o ≡ None
+map_none f None e = refl
+map_none f (Some t) e = cc
+
+both_none : (d : Repeats) (f g : Option Tree) → f ≡ None → g ≡ None → SameFound (option_map keep_last f) (option_map (by_first d) g)
+both_none d f g e i = subst (λ f. SameFound (option_map keep_last f) (option_map (by_first d) g)) (sym e) (ap (λ g. option_map (by_first d) g) i)
+
+-- all are counted, and no text of the second is missing
+pub same_if_counted : (d : Repeats) (ms ns : Members) (ahead : List (List ℕ × Tree)) → ahead ≡ [] → Counted d ms ns ahead → HasTexts (paired ms) (paired ns) → SameBy Last d (obj ms) (obj ns)
+same_if_counted d ms ns ahead e h w = from_each d ms ns (λ k. by_either (is_seen k (texts (paired ms))) _
+    (λ b. h k b (ap (λ ps. is_seen k (texts ps)) e))
+    (λ b. both_none d _ _ (absent_by Last k ms b) (absent_by d k ns (by_either (is_seen k (texts (paired ns))) _ (λ c. absurd (true≢false (sym (w k c) ∙ b))) (λ c. c)))))
+
+pub has_if_counted : (d : Repeats) (ms ns : Members) → SameBy Last d (obj ms) (obj ns) → HasTexts (paired ms) (paired ns)
+has_if_counted d ms ns h = λ k s. by_either (is_seen k (texts (paired ms))) _ (λ b. b)
+    (λ b. absurd (true≢false (sym s ∙ unseen_by d k ns (map_none (by_first d) (find_member_by d k ns) (no_text (option_map keep_last (find_last_member k ms)) _ (ap (option_map keep_last) (absent_by Last k ms b)) (each_counts d ms ns h k))))))
+
+-- parts of one choice
+abbrev Part : Type 0
+Part = Repeats × Tree
+
+abbrev pub parts : Repeats → List Tree → List (Repeats × Tree)
+parts c ts = map {B = Repeats × Tree} (λ t. (c, t)) ts
+
+part_parts : (p q : Part) (ps qs : List Part) → p ∷ ps ≡ q ∷ qs → (p ≡ q) × (ps ≡ qs)
+part_parts p q ps qs e = (cc, cc)
+
+pair_parts : (p q : List ℕ × Part) (ps qs : List (List ℕ × Part)) → p ∷ ps ≡ q ∷ qs → (p ≡ q) × (ps ≡ qs)
+pair_parts p q ps qs e = (cc, cc)
+
+pub part_choice : (c : Repeats) (p : Part) (ps : List Part) (ts us : List Tree) → parts c ts ≡ p ∷ ps → ts ≡ p.1 ∷ us → (p.0 ≡ c) × (ps ≡ parts c us)
+part_choice c p ps ts us e f =
+    let g = part_parts p (c, p.1) ps (parts c us) (sym e ∙ ap (parts c) f) in
+    (ap (λ (p : Repeats × Tree). p.0) g.0, g.1)
+
+pub member_choice : (c : Repeats) (k : List ℕ) (p : Part) (qs : List (List ℕ × Part)) (ps us : List (List ℕ × Tree)) → chosen c ps ≡ (k, p) ∷ qs → ps ≡ (k, p.1) ∷ us → (p.0 ≡ c) × (qs ≡ chosen c us)
+member_choice c k p qs ps us e f =
+    let g = pair_parts (k, p) (k, (c, p.1)) qs (chosen c us) (sym e ∙ ap (chosen c) f) in
+    (ap (λ (q : List ℕ × (Repeats × Tree)). q.1.0) g.0, g.1)
+
+pub list_is : (t : Tree) (is : Items) → Some is ≡ as_items t → t ≡ list is
+list_is null is e = cc
+list_is (boolean b) is e = cc
+list_is (int n c) is e = cc
+list_is (text s) is e = cc
+list_is (list js) is e = ap list (cc)
+list_is (obj ms) is e = cc
+
+pub obj_is : (t : Tree) (ms : Members) → Some ms ≡ as_members t → t ≡ obj ms
+obj_is null ms e = cc
+obj_is (boolean b) ms e = cc
+obj_is (int n c) ms e = cc
+obj_is (text s) ms e = cc
+obj_is (list is) ms e = cc
+obj_is (obj ns) ms e = ap obj (cc)
+
+-- a leaf is what it is with either choice
+leaf_on : (t u : Tree) → as_items t ≡ None → as_members t ≡ None → Same t u → Same t (keep_last u)
+leaf_on null null z f h = h
+leaf_on null (boolean e) z f h = h
+leaf_on null (int m d) z f h = h
+leaf_on null (text r) z f h = h
+leaf_on null (list js) z f h = cc
+leaf_on null (obj ns) z f h = cc
+leaf_on (boolean b) null z f h = h
+leaf_on (boolean b) (boolean e) z f h = h
+leaf_on (boolean b) (int m d) z f h = h
+leaf_on (boolean b) (text r) z f h = h
+leaf_on (boolean b) (list js) z f h = cc
+leaf_on (boolean b) (obj ns) z f h = cc
+leaf_on (int n c) null z f h = h
+leaf_on (int n c) (boolean e) z f h = h
+leaf_on (int n c) (int m d) z f h = h
+leaf_on (int n c) (text r) z f h = h
+leaf_on (int n c) (list js) z f h = absurd h
+leaf_on (int n c) (obj ns) z f h = absurd h
+leaf_on (text s) null z f h = h
+leaf_on (text s) (boolean e) z f h = h
+leaf_on (text s) (int m d) z f h = h
+leaf_on (text s) (text r) z f h = h
+leaf_on (text s) (list js) z f h = cc
+leaf_on (text s) (obj ns) z f h = cc
+leaf_on (list is) u z f h = cc
+leaf_on (obj ms) u z f h = cc
+
+leaf_off : (t u : Tree) → as_items t ≡ None → as_members t ≡ None → Same t (keep_last u) → Same t u
+leaf_off null null z f h = h
+leaf_off null (boolean e) z f h = h
+leaf_off null (int m d) z f h = h
+leaf_off null (text r) z f h = h
+leaf_off null (list js) z f h = cc
+leaf_off null (obj ns) z f h = cc
+leaf_off (boolean b) null z f h = h
+leaf_off (boolean b) (boolean e) z f h = h
+leaf_off (boolean b) (int m d) z f h = h
+leaf_off (boolean b) (text r) z f h = h
+leaf_off (boolean b) (list js) z f h = cc
+leaf_off (boolean b) (obj ns) z f h = cc
+leaf_off (int n c) null z f h = h
+leaf_off (int n c) (boolean e) z f h = h
+leaf_off (int n c) (int m d) z f h = h
+leaf_off (int n c) (text r) z f h = h
+leaf_off (int n c) (list js) z f h = absurd h
+leaf_off (int n c) (obj ns) z f h = absurd h
+leaf_off (text s) null z f h = h
+leaf_off (text s) (boolean e) z f h = h
+leaf_off (text s) (int m d) z f h = h
+leaf_off (text s) (text r) z f h = h
+leaf_off (text s) (list js) z f h = cc
+leaf_off (text s) (obj ns) z f h = cc
+leaf_off (list is) u z f h = cc
+leaf_off (obj ms) u z f h = cc
+
+leaf_is : (t : Tree) → as_items t ≡ None → as_members t ≡ None → keep_last t ≡ t
+leaf_is null e f = refl
+leaf_is (boolean b) e f = refl
+leaf_is (int n c) e f = refl
+leaf_is (text s) e f = refl
+leaf_is (list is) e f = cc
+leaf_is (obj ms) e f = cc
+
+pub leaf_by : (d : Repeats) (t u : Tree) → as_items t ≡ None → as_members t ≡ None → Same t u → SameBy Last d t u
+leaf_by First t u e f h = subst (λ v. Same v u) (sym (leaf_is t e f)) h
+leaf_by Last t u e f h = subst (λ v. Same v (keep_last u)) (sym (leaf_is t e f)) (leaf_on t u e f h)
+
+pub by_leaf : (d : Repeats) (t u : Tree) → as_items t ≡ None → as_members t ≡ None → SameBy Last d t u → Same t u
+by_leaf First t u e f h = subst (λ v. Same v u) (leaf_is t e f) h
+by_leaf Last t u e f h = leaf_off t u e f (subst (λ v. Same v (keep_last u)) (leaf_is t e f) h)
+
+-- an array or an object, and what is none
+pub not_list : (d : Repeats) (is : Items) (u : Tree) → as_items u ≡ None → SameBy Last d (list is) u → ⊥
+not_list First is null z h = absurd h
+not_list First is (boolean e) z h = absurd h
+not_list First is (int m d) z h = absurd h
+not_list First is (text r) z h = absurd h
+not_list First is (list js) z h = cc
+not_list First is (obj ns) z h = absurd h
+not_list Last is null z h = absurd h
+not_list Last is (boolean e) z h = absurd h
+not_list Last is (int m d) z h = absurd h
+not_list Last is (text r) z h = absurd h
+not_list Last is (list js) z h = cc
+not_list Last is (obj ns) z h = absurd h
+
+pub not_obj : (d : Repeats) (ms : Members) (u : Tree) → as_members u ≡ None → SameBy Last d (obj ms) u → ⊥
+not_obj First ms null z h = absurd h
+not_obj First ms (boolean e) z h = absurd h
+not_obj First ms (int m d) z h = absurd h
+not_obj First ms (text r) z h = absurd h
+not_obj First ms (list js) z h = absurd h
+not_obj First ms (obj ns) z h = cc
+not_obj Last ms null z h = absurd h
+not_obj Last ms (boolean e) z h = absurd h
+not_obj Last ms (int m d) z h = absurd h
+not_obj Last ms (text r) z h = absurd h
+not_obj Last ms (list js) z h = absurd h
+not_obj Last ms (obj ns) z h = cc
+
+-- keys behind a place
+pub behind_found : (k l : List ℕ) (ks rest : List (List ℕ)) (n : ℕ) (all : Bool) → is_seen k (drop n ks) ≡ all → ks ≡ l ∷ rest → n ≤ 0 → bytes_eq k l ≡ true → true ≡ all
+behind_found k l ks rest zero all e f z h = sym (ap (λ b. b || is_seen k rest) h) ∙ sym (ap (is_seen k) f) ∙ e
+behind_found k l ks rest (suc n) all e f z h = absurd (omega (arith, z))
+
+pub behind_other : (k l : List ℕ) (ks rest : List (List ℕ)) (n : ℕ) (all : Bool) → is_seen k (drop n ks) ≡ all → ks ≡ l ∷ rest → n ≤ 0 → bytes_eq k l ≡ false → is_seen k (drop n rest) ≡ all
+behind_other k l ks rest zero all e f z h = sym (ap (λ b. b || is_seen k rest) h) ∙ sym (ap (is_seen k) f) ∙ e
+behind_other k l ks rest (suc n) all e f z h = absurd (omega (arith, z))
+
+pub behind_passed : (k l : List ℕ) (ks rest : List (List ℕ)) (n m : ℕ) (all : Bool) → is_seen k (drop n ks) ≡ all → ks ≡ l ∷ rest → n ≡ suc m → is_seen k (drop m rest) ≡ all
+behind_passed k l ks rest n m all e f g = ap (λ ks. is_seen k (drop (suc m) ks)) (sym f) ∙ ap (λ n. is_seen k (drop n ks)) (sym g) ∙ e
+
+drop_none : (n : ℕ) → drop {A = List ℕ} n [] ≡ []
+drop_none zero = refl
+drop_none (suc n) = refl
+
+pub behind_none : (k : List ℕ) (ks : List (List ℕ)) (n : ℕ) (all : Bool) → is_seen k (drop n ks) ≡ all → ks ≡ [] → false ≡ all
+behind_none k ks n all e f = sym (ap (is_seen k) (drop_none n)) ∙ sym (ap (λ ks. is_seen k (drop n ks)) f) ∙ e
+
+-- a text is absent by either choice where it is absent by the first
+pub first_absent : (d : Repeats) (k : List ℕ) (ms : Members) → find_member_by d k ms ≡ None → find_member k ms ≡ None
+first_absent d k ms e = absent_by First k ms (unseen_by d k ms e)
+
+pub absent_first : (d : Repeats) (k : List ℕ) (ms : Members) → find_member k ms ≡ None → find_member_by d k ms ≡ None
+absent_first d k ms e = absent_by d k ms (unseen_by First k ms e)
+
+pub len_last : (is : Items) → items_len (keep_last_items is) ≡ items_len is
+len_last no_items = refl
+len_last (item t is) = ap (λ n. suc n) (len_last is)
+
+-- arrays that are the same are equally long
+pub lens_by : (d : Repeats) (is js : Items) → SameBy Last d (list is) (list js) → items_len is ≡ items_len js
+lens_by First is js h = sym (len_last is) ∙ same_items_len (keep_last_items is) js h
+lens_by Last is js h = sym (len_last is) ∙ same_items_len (keep_last_items is) (keep_last_items js) h ∙ len_last js
+
+pub moved : (xs ys us vs : List Tree) → xs ≡ us → ys ≡ vs → SameItems (items_from xs) (items_from ys) → SameItems (items_from us) (items_from vs)
+moved xs ys us vs e f h = subst (λ xs. SameItems (items_from xs) (items_from vs)) e (subst (λ ys. SameItems (items_from xs) (items_from ys)) f h)
+
+pub by_choice : (c d : Repeats) (t u : Tree) → c ≡ d → SameBy Last c t u → SameBy Last d t u
+by_choice c d t u e h = subst (λ d. Same (keep_last t) (by_first d u)) e h

@@ -1,0 +1,80 @@
+-- Lookups among the members of an object with a choice.
+use Rattle.std.proofs.Common.{◌≡◌, ℕ, zero, suc, ◌+◌, Bool, true, false, List, [], ◌∷◌, map, length, slice_get, Option, Some, None, option_map, if◌then◌else◌, bytes_eq, refl, ap, ◌∙◌}
+use Rattle.std.specs.Option.{option_or}
+use Rattle.sj_text_core.specs.Tree.{Tree, Members, no_members, member, members_len}
+use Rattle.sj_text_core.specs.Find.{find_member}
+use Rattle.sj_text_core.specs.Repeats.{find_last_member, find_member_by, visited, visited_by}
+use Rattle.sj_text_core.specs.declared.repeats.Repeats.TheVariants.{First, Last}
+use Rattle.sj_text_core.specs.declared.repeats.Repeats.{Repeats}
+use Rattle.sj_tape.specs.Lookup.{first_value, last_value, compared}
+use Rattle.sj_tape.specs.Members.{chosen}
+use Rattle.sj_tape.specs.Parts.{paired}
+use Rattle.sj_tape.specs.Value.{tree, choice, part}
+use Rattle.sj_tape.specs.declared.value.Value.{Value}
+use Rattle.std.specs.Option.{IfSome, unwrap_or}
+
+module _ (c : Repeats) (k : List ℕ) where
+  abbrev with_choice : Option Tree → Option (Repeats × Tree)
+  with_choice o = option_map (λ t. (c, t)) o
+
+  first_by : (b : Bool) (t : Tree) (r : Option (Repeats × Tree)) (s : Option Tree) → r ≡ with_choice s → (if b then Some (c, t) else r) ≡ with_choice (if b then Some t else s)
+  first_by true t r s e = refl
+  first_by false t r s e = e
+
+  pub first_value-chosen : (ms : Members) → first_value k (chosen c (paired ms)) ≡ with_choice (find_member k ms)
+  first_value-chosen no_members = refl
+  first_value-chosen (member l t ms) = first_by (bytes_eq k l) t _ _ (first_value-chosen ms)
+
+  or_by : (o : Option Tree) (b : Bool) (t : Tree) → option_or (with_choice o) (if b then Some (c, t) else None) ≡ with_choice (option_or o (if b then Some t else None))
+  or_by None true t = refl
+  or_by None false t = refl
+  or_by (Some u) b t = refl
+
+  pub last_value-chosen : (ms : Members) → last_value k (chosen c (paired ms)) ≡ with_choice (find_last_member k ms)
+  last_value-chosen no_members = refl
+  last_value-chosen (member l t ms) = ap (λ o. option_or o (if bytes_eq k l then Some (c, t) else None)) (last_value-chosen ms) ∙ or_by (find_last_member k ms) (bytes_eq k l) t
+
+  pub compared-chosen : (ms : Members) → compared k (chosen c (paired ms)) ≡ visited k ms
+  compared-chosen no_members = refl
+  compared-chosen (member l t ms) = ap (λ (n : ℕ). if bytes_eq k l then 1 else suc n) (compared-chosen ms)
+
+  pub length-chosen : (ms : Members) → length (chosen c (paired ms)) ≡ members_len ms
+  length-chosen no_members = refl
+  length-chosen (member l t ms) = ap suc (length-chosen ms)
+
+pub slice_get-map : {A B : Type 0} (f : A → B) (xs : List A) (i : ℕ) → slice_get (map f xs) i ≡ option_map f (slice_get xs i)
+slice_get-map f [] i = refl
+slice_get-map f (x ∷ xs) zero = refl
+slice_get-map f (x ∷ xs) (suc i) = slice_get-map f xs i
+
+pub keys-chosen : (c : Repeats) (ps : List (List ℕ × Tree)) → map (λ (p : List ℕ × (Repeats × Tree)). p.0) (chosen c ps) ≡ map (λ (p : List ℕ × Tree). p.0) ps
+keys-chosen c [] = refl
+keys-chosen c (p ∷ ps) = ap (λ l. p.0 ∷ l) (keys-chosen c ps)
+
+-- what is found, and its choice
+pub record Found (c : Repeats) (r : Option Value) (o : Option Tree) : Type 0 where
+  pub value : option_map tree r ≡ o
+  pub choice_is : IfSome r (λ v. choice v ≡ c)
+
+pub found_by : (c : Repeats) (r : Option Value) (o : Option Tree) → option_map part r ≡ option_map (λ t. (c, t)) o → Found c r o
+found_by c None None e = record { value = refl; choice_is = tt }
+found_by c None (Some t) e = cc
+found_by c (Some v) None e = cc
+found_by c (Some v) (Some t) e =
+    let f : part v ≡ (c, t) = ap (λ o. unwrap_or o (part v)) e in
+    record { value = ap (λ (p : Repeats × Tree). Some p.1) f; choice_is = ap (λ (p : Repeats × Tree). p.0) f }
+
+module _ (c : Repeats) (k : List ℕ) (r : Option Value) (ps : List (List ℕ × (Repeats × Tree))) (ms : Members) (is : ps ≡ chosen c (paired ms)) where
+  pub first_found : First ≡ c → option_map part r ≡ first_value k ps → Found c r (find_member_by c k ms)
+  first_found first e =
+      found_by c r _ (e ∙ ap (first_value k) is ∙ first_value-chosen c k ms ∙ ap (λ d. option_map (λ t. (c, t)) (find_member_by d k ms)) first)
+
+  pub last_found : Last ≡ c → option_map part r ≡ last_value k ps → Found c r (find_member_by c k ms)
+  last_found last e =
+      found_by c r _ (e ∙ ap (last_value k) is ∙ last_value-chosen c k ms ∙ ap (λ d. option_map (λ t. (c, t)) (find_member_by d k ms)) last)
+
+  pub first_counts : First ≡ c → (m n : ℕ) → n ≡ m + compared k ps → n ≡ m + visited_by c k ms
+  first_counts first m n e = e ∙ ap (λ x. m + x) (ap (compared k) is ∙ compared-chosen c k ms ∙ ap (λ d. visited_by d k ms) first)
+
+  pub last_counts : Last ≡ c → (m n : ℕ) → n ≡ m + length ps → n ≡ m + visited_by c k ms
+  last_counts last m n e = e ∙ ap (λ x. m + x) (ap (λ (qs : List (List ℕ × (Repeats × Tree))). length qs) is ∙ length-chosen c k ms ∙ ap (λ d. visited_by d k ms) last)

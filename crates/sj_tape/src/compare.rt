@@ -1,0 +1,233 @@
+//! Whether two parts of tapes are the same document. Nothing is built, and no memory is taken.
+
+ghost use Rattle.std.specs.Prelude.{◌≡◌, ◌↔◌, IsTrue, None, take};
+ghost use Rattle.sj_text_core.specs.Agree.{Agree, HasTexts, texts};
+ghost use Rattle.sj_text_core.specs.Reads.{as_items, as_members};
+ghost use Rattle.sj_text_core.specs.Repeats.{SameBy};
+ghost use Rattle.sj_text_core.specs.Same.{Same};
+ghost use Rattle.sj_text_core.specs.Tree.{list, obj};
+ghost use Rattle.sj_tape.specs.Items.{items, array_choice};
+ghost use Rattle.sj_tape.specs.Members.{members, object_choice};
+ghost use Rattle.sj_tape.specs.Parts.{paired};
+ghost use Rattle.sj_tape.specs.Value.{tree, choice};
+
+use crate::array::Array;
+use crate::object::Object;
+use crate::value::Value;
+use sj_text_core::{Repeats, SameAs};
+
+/// Same as another part exactly where the two mean one document: numbers by value, arrays item by
+/// item, objects by the member of each key that counts in each.
+impl<'t, 'i, 'u, 'j> SameAs<Value<'u, 'j>> for Value<'t, 'i> {
+    ghost same = { λ v w. SameBy (choice v) (choice w) (tree v) (tree w) };
+
+    fn same_as(&self, other: &Value<'u, 'j>) -> bool {
+        same_parts(*self, *other)
+    }
+}
+
+fn same_parts(left: Value, right: Value) -> bool
+    ensures { IsTrue result ↔ SameBy (choice left.entry) (choice right.entry) (tree left.entry) (tree right.entry) }
+{
+    match left.repeats() {
+        Repeats::First => match right.repeats() {
+            Repeats::First => same_values(left, right),
+            Repeats::Last => last_values(right, left),
+        },
+        Repeats::Last => last_values(left, right),
+    }
+}
+
+/// Whether the two are the same by the first member of each key.
+#[cycle(same)]
+fn same_values(left: Value, right: Value) -> bool
+    ensures { IsTrue result ↔ Same (tree left.entry) (tree right.entry) }
+{
+    match left.as_array() {
+        Some(items) => match right.as_array() {
+            Some(others) => same_items(items, others),
+            None => false,
+        },
+        None => match left.as_object() {
+            Some(members) => match right.as_object() {
+                Some(others) => same_members(members, others),
+                None => false,
+            },
+            None => same_leaves(left, right),
+        },
+    }
+}
+
+/// Whether a scalar or a text is the same as the other part.
+fn same_leaves(left: Value, right: Value) -> bool
+    requires no_array { as_items (tree left) ≡ None }
+    requires no_object { as_members (tree left) ≡ None }
+    ensures { IsTrue result ↔ Same (tree left.entry) (tree right.entry) }
+{
+    match left.as_static() {
+        Some(scalar) => match right.as_static() {
+            Some(other) => scalar == other,
+            None => false,
+        },
+        None => match left.into_string() {
+            Some(text) => match right.into_string() {
+                Some(other) => text == other,
+                None => false,
+            },
+            None => unreachable!(),
+        },
+    }
+}
+
+#[cycle(same)]
+fn same_items(left: Array, right: Array) -> bool
+    ensures { IsTrue result ↔ Same (list (items left.entry)) (list (items right.entry)) }
+{
+    if left.len() != right.len() {
+        return false;
+    }
+    let mut others = right.iter();
+    for item in left.iter() {
+        match others.next() {
+            Some(other) => {
+                if !same_values(item, other) {
+                    return false;
+                }
+            }
+            None => return false,
+        }
+    }
+    true
+}
+
+/// Members with one key in one place are compared in step, as far as there are such; the others
+/// are looked up.
+#[cycle(same)]
+fn same_members(left: Object, right: Object) -> bool
+    ensures { IsTrue result ↔ Same (obj (members left.entry)) (obj (members right.entry)) }
+{
+    let mut others = right.iter();
+    let mut place = 0;
+    for (key, value) in left.iter() {
+        match others.next() {
+            Some((name, other)) if key == name => {
+                if !same_values(value, other) && !left.has_before(place, key) {
+                    return false;
+                }
+            }
+            _ => return same_rest(left, right, place),
+        }
+        place += 1;
+    }
+    match others.next() {
+        None => true,
+        Some(_) => same_rest(left, right, place),
+    }
+}
+
+/// The same, where the first `place` members have the same keys in both, and agree.
+#[cycle(same)]
+fn same_rest(left: Object, right: Object, place: usize) -> bool
+    requires in_step { texts (take place (paired (members left))) ≡ texts (take place (paired (members right))) }
+    requires agree { Agree place (paired (members left)) (paired (members right)) }
+    ensures { IsTrue result ↔ Same (obj (members left.entry)) (obj (members right.entry)) }
+{
+    let mut at = 0;
+    for (key, value) in left.iter() {
+        if at >= place && !left.has_before(at, key) {
+            match right.first(key) {
+                Some(other) => {
+                    if !same_values(value, other) {
+                        return false;
+                    }
+                }
+                None => return false,
+            }
+        }
+        at += 1;
+    }
+    has_keys(left, right, place)
+}
+
+/// Whether the first object has every key of the second, where it has those of the first `place`
+/// members.
+fn has_keys(left: Object, right: Object, place: usize) -> bool
+    requires { texts (take place (paired (members left))) ≡ texts (take place (paired (members right))) }
+    ensures { IsTrue result ↔ HasTexts (paired (members left.entry)) (paired (members right.entry)) }
+{
+    let mut known = place;
+    for key in right.keys() {
+        if known > 0 {
+            known -= 1;
+        } else if left.first(key).is_none() {
+            return false;
+        }
+    }
+    true
+}
+
+/// Whether the two are the same, where the last member of each key counts in the first.
+#[cycle(last)]
+fn last_values(left: Value, right: Value) -> bool
+    requires { choice left ≡ Repeats.Last }
+    ensures { IsTrue result ↔ SameBy Repeats.Last (choice right.entry) (tree left.entry) (tree right.entry) }
+{
+    match left.as_array() {
+        Some(items) => match right.as_array() {
+            Some(others) => last_items(items, others),
+            None => false,
+        },
+        None => match left.as_object() {
+            Some(members) => match right.as_object() {
+                Some(others) => last_members(members, others),
+                None => false,
+            },
+            None => same_leaves(left, right),
+        },
+    }
+}
+
+#[cycle(last)]
+fn last_items(left: Array, right: Array) -> bool
+    requires { array_choice left ≡ Repeats.Last }
+    ensures { IsTrue result ↔ SameBy Repeats.Last (array_choice right.entry) (list (items left.entry)) (list (items right.entry)) }
+{
+    if left.len() != right.len() {
+        return false;
+    }
+    let mut others = right.iter();
+    for item in left.iter() {
+        match others.next() {
+            Some(other) => {
+                if !last_values(item, other) {
+                    return false;
+                }
+            }
+            None => return false,
+        }
+    }
+    true
+}
+
+/// A member is passed over where a later one has its key; each other is looked up.
+#[cycle(last)]
+fn last_members(left: Object, right: Object) -> bool
+    requires { object_choice left ≡ Repeats.Last }
+    ensures { IsTrue result ↔ SameBy Repeats.Last (object_choice right.entry) (obj (members left.entry)) (obj (members right.entry)) }
+{
+    let mut seen = 0;
+    for (key, value) in left.iter() {
+        seen += 1;
+        if !left.has_behind(seen, key) {
+            match right.get(key) {
+                Some(other) => {
+                    if !last_values(value, other) {
+                        return false;
+                    }
+                }
+                None => return false,
+            }
+        }
+    }
+    has_keys(left, right, 0)
+}

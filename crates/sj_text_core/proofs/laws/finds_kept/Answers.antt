@@ -1,0 +1,5 @@
+use Rattle.sj_text_core.proofs.Finds.{tree_at-keep}
+use Rattle.sj_text_core.proofs.laws.finds_kept.Goals as goal
+
+pub returns : goal.returns
+returns c = λ p t. tree_at-keep p t
