@@ -11,8 +11,8 @@ use Rattle.sj_commands.specs.Steps.{step_meant}
 use Rattle.sj_commands.specs.declared.step.Step as meant
 use Rattle.std.proofs.Common.{drop, drop-cons, add-one, ◌+◌, Result, Ok, Err, ◌<◌, length, get_or, set, arith}
 use Rattle.sj_text_core.specs.Tree.{items_from}
-use Rattle.sj_object_uses.specs.Document.{tree}
-use Rattle.sj_object_uses.specs.declared.value.Document.{Document}
+use Rattle.sj_document.specs.Document.{tree}
+use Rattle.sj_document.specs.declared.value.Document.{Document}
 use Rattle.std.specs.declared.alloc.AllocError.{AllocError}
 use Rattle.sj_commands.specs.Answered.{Answered, reply_meant}
 use Rattle.sj_commands.specs.declared.change.Reply.{Reply}

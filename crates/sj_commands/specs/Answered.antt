@@ -7,7 +7,7 @@ use Rattle.sj_text_core.specs.Paths.{Step}
 use Rattle.sj_run.specs.Commands.{Write as PlainWrite, insert, remove, push, pop, put}
 use Rattle.sj_run.specs.Replies.{PlainReply, old, nothing, done, missing, not_an_object, not_an_array}
 use Rattle.sj_run.specs.Answers.{edit}
-use Rattle.sj_object_uses.specs.Document.{tree}
+use Rattle.sj_document.specs.Document.{tree}
 use Rattle.sj_commands.specs.declared.change.Write.{Write}
 use Rattle.sj_commands.specs.declared.change.Write.TheVariants as write
 use Rattle.sj_commands.specs.declared.change.Reply.{Reply}

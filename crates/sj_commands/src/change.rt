@@ -1,12 +1,12 @@
 //! Writes at a value.
 
 ghost use Rattle.std.specs.Prelude.{[]};
-ghost use Rattle.sj_object_uses.specs.Document.{tree};
+ghost use Rattle.sj_document.specs.Document.{tree};
 ghost use Rattle.sj_run.specs.Commands as command;
 ghost use Rattle.sj_commands.specs.Answered.{Answered, write_meant};
 
 use sj_object::KeyText;
-use sj_object_uses::Document;
+use sj_document::Document;
 use sj_text_core::AccessError;
 use std::alloc::AllocError;
 use std::mem;

@@ -4,14 +4,14 @@ ghost use Rattle.std.specs.Prelude.{map, ◌∷◌};
 ghost use Rattle.sj_text_core.specs.Paths.{by_key, by_place};
 ghost use Rattle.sj_text_core.specs.Tree.{list, obj, items_from};
 ghost use Rattle.sj_object.specs.Members.{entry_members};
-ghost use Rattle.sj_object_uses.specs.Document.{tree};
+ghost use Rattle.sj_document.specs.Document.{tree};
 ghost use Rattle.sj_commands.specs.Answered.{Answered, write_meant};
 ghost use Rattle.sj_commands.specs.Steps.{step_meant};
 
 use crate::change::{Reply, Write, change};
 use crate::step::Step;
 use sj_object::KeyText;
-use sj_object_uses::{Document, Object};
+use sj_document::{Document, Object};
 use std::alloc::AllocError;
 
 /// Changes the value at the path in its place; where nothing stands there, it changes nothing.

@@ -2,11 +2,11 @@
 
 ghost use Rattle.std.specs.Prelude.{◌≡◌, map, option_map};
 ghost use Rattle.sj_text_core.specs.Paths.{step_into, tree_at};
-ghost use Rattle.sj_object_uses.specs.Document.{tree};
+ghost use Rattle.sj_document.specs.Document.{tree};
 ghost use Rattle.sj_commands.specs.Steps.{step_meant};
 
 use sj_object::KeyText;
-use sj_object_uses::Document;
+use sj_document::Document;
 
 /// A step on the way to a value.
 #[derive(Drop)]

@@ -1,5 +1,5 @@
 use super::*;
-use sj_object_uses::{Document, OwnedValue, owned_from_tape};
+use sj_document::{Document, OwnedValue, owned_from_tape};
 use sj_tape::to_tape;
 use sj_text_core::{StaticNode, Writable};
 use std::alloc::Global;

@@ -4,9 +4,9 @@ use Rattle.std.specs.Option.{OnSome}
 use Rattle.sj_text_core.specs.Tree.{Tree, null, boolean, int, text, list, obj}
 use Rattle.sj_text_core.specs.Reads.{as_members}
 use Rattle.sj_text_core.specs.Keep.{keep}
-use Rattle.sj_object_uses.specs.Document.{object_of}
-use Rattle.sj_object_uses.specs.declared.value.Document.{Document}
-use Rattle.sj_object_uses.proofs.Kept.{tree_kept}
+use Rattle.sj_document.specs.Document.{object_of}
+use Rattle.sj_document.specs.declared.value.Document.{Document}
+use Rattle.sj_document.proofs.Kept.{tree_kept}
 use Rattle.std.specs.Borrow.{Bor}
 use Rattle.std.specs.Cow.{cow_str_bytes}
 use Rattle.sj_lazy.specs.Value.{Text, lent_tree, shared_tree}

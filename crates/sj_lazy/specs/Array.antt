@@ -6,7 +6,7 @@ use Rattle.sj_text_core.specs.Tree.{Tree, Items, items_from}
 use Rattle.sj_text_core.specs.declared.repeats.Repeats.{Repeats}
 use Rattle.sj_text_core.specs.declared.repeats.Repeats.TheVariants.{First}
 use Rattle.sj_tape.specs.Items as tape
-use Rattle.sj_object_uses.specs.Document.{tree as document_tree}
+use Rattle.sj_document.specs.Document.{tree as document_tree}
 use Rattle.sj_lazy.specs.declared.array.Array.{Array}
 use Rattle.sj_lazy.specs.declared.array.Array.TheVariants as array
 use Rattle.sj_lazy.specs.declared.array.Iter.{Iter}

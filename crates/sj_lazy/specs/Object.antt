@@ -6,7 +6,7 @@ use Rattle.sj_text_core.specs.declared.repeats.Repeats.{Repeats}
 use Rattle.sj_text_core.specs.declared.repeats.Repeats.TheVariants.{First}
 use Rattle.sj_tape.specs.Members as tape
 use Rattle.sj_object.specs.Members.{entry_members}
-use Rattle.sj_object_uses.specs.Document.{tree as document_tree}
+use Rattle.sj_document.specs.Document.{tree as document_tree}
 use Rattle.sj_lazy.specs.declared.object.Object.{Object}
 use Rattle.sj_lazy.specs.declared.object.Object.TheVariants as object
 use Rattle.sj_lazy.specs.declared.object.Iter.{Iter}

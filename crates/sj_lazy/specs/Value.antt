@@ -10,8 +10,8 @@ use Rattle.sj_text_core.specs.Repeats.{keep_by}
 use Rattle.sj_text_core.specs.declared.repeats.Repeats.{Repeats}
 use Rattle.sj_text_core.specs.declared.repeats.Repeats.TheVariants.{First}
 use Rattle.sj_tape.specs.Value.{tree as tape_tree, choice as tape_choice}
-use Rattle.sj_object_uses.specs.Document.{tree as document_tree}
-use Rattle.sj_object_uses.specs.declared.value.Document.{Document}
+use Rattle.sj_document.specs.Document.{tree as document_tree}
+use Rattle.sj_document.specs.declared.value.Document.{Document}
 use Rattle.sj_lazy.specs.declared.value.Shared.{Shared}
 use Rattle.sj_lazy.specs.declared.value.Shared.TheVariants.{Borrowed, Owned}
 use Rattle.sj_lazy.specs.declared.value.Lazy.{Lazy}

@@ -6,7 +6,7 @@ ghost use Rattle.sj_text_core.specs.Tree.{items_len, no_items};
 ghost use Rattle.sj_tape.specs.Parts.{listed};
 
 use crate::value::{Lazy, Shared, Value, of_lent, of_tape};
-use sj_object_uses::BorrowedValue;
+use sj_document::BorrowedValue;
 use sj_tape::Array as TapeArray;
 use sj_tape::array::Iter as TapeIter;
 use std::slice;

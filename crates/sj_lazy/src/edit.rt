@@ -3,12 +3,12 @@
 ghost use Rattle.std.specs.Prelude.{◌≡◌, ⊤, Some, None, option_map, OnOk, IfOk, IfErr, IsSome};
 ghost use Rattle.sj_text_core.specs.Find.{find};
 ghost use Rattle.sj_text_core.specs.Reads.{as_items, as_members};
-ghost use Rattle.sj_object_uses.specs.Document.{tree, why_of, with_member, without_member, with_item, without_last, last_item};
+ghost use Rattle.sj_document.specs.Document.{tree, why_of, with_member, without_member, with_item, without_last, last_item};
 
 use crate::upgrade::{Lent, Upgrade};
 use crate::value::Lazy;
 use sj_object::KeyText;
-use sj_object_uses::Document;
+use sj_document::Document;
 use sj_text_core::{AccessError, Refused};
 use std::alloc::{AllocError, Global};
 

@@ -8,7 +8,7 @@ ghost use Rattle.sj_tape.specs.Parts.{paired};
 
 use crate::value::{Lazy, Shared, Value, of_lent, of_tape};
 use sj_object::{Iter as MapIter, KeyText};
-use sj_object_uses::{BorrowedValue, Object as Map};
+use sj_document::{BorrowedValue, Object as Map};
 use sj_tape::Object as TapeObject;
 use sj_tape::object::Iter as TapeIter;
 use std::borrow::CowStr;

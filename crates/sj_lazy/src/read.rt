@@ -5,12 +5,12 @@ ghost use Rattle.std.specs.Cow.{cow_str_bytes};
 ghost use Rattle.sj_text_core.specs.Find.{nth};
 ghost use Rattle.sj_text_core.specs.Repeats.{find_by};
 ghost use Rattle.sj_text_core.specs.Reads.{as_items, as_members};
-ghost use Rattle.sj_object_uses.specs.Document.{tree as document_tree};
+ghost use Rattle.sj_document.specs.Document.{tree as document_tree};
 
 use crate::array::Array;
 use crate::object::Object;
 use crate::value::{Lazy, Shared, Value, ValueCow};
-use sj_object_uses::BorrowedValue;
+use sj_document::BorrowedValue;
 
 impl<'b, 'i> ValueCow<'b, 'i> {
     ghost use Rattle.sj_lazy.specs.Value.{shared_tree, lent_tree};

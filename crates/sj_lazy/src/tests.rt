@@ -1,5 +1,5 @@
 use super::*;
-use sj_object_uses::{BorrowedValue, Document};
+use sj_document::{BorrowedValue, Document};
 use sj_tape::{Node, Tape};
 use sj_text_core::{AccessError, Repeats, StaticNode, TypedValue, ValueAsScalar};
 use std::alloc::Global;

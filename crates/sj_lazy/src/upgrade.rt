@@ -5,7 +5,7 @@ ghost use Rattle.std.specs.Cow.{cow_str_bytes};
 ghost use Rattle.sj_text_core.specs.Tree.{Tree};
 ghost use Rattle.sj_tape.specs.Value.{tree as tape_tree};
 ghost use Rattle.sj_lazy.specs.Value.{part_kept as tape_kept};
-ghost use Rattle.sj_object_uses.specs.Document.{tree};
+ghost use Rattle.sj_document.specs.Document.{tree};
 ghost use Rattle.sj_text_core.specs.Reads.{as_items, as_members};
 ghost use Rattle.sj_text_core.specs.Tree.{list, obj, items_from};
 ghost use Rattle.std.specs.Prelude.{map};
@@ -13,7 +13,7 @@ ghost use Rattle.sj_object.specs.Members.{entry_members};
 
 use crate::value::{Lazy, Shared};
 use sj_object::KeyText;
-use sj_object_uses::{BorrowedValue, CopyText, Document, Object, borrowed_from_tape};
+use sj_document::{BorrowedValue, CopyText, Document, Object, borrowed_from_tape};
 use sj_tape::Value as TapeValue;
 use sj_text_core::AccessError;
 use std::alloc::{AllocError, Global};
@@ -63,7 +63,7 @@ impl<'b, T: CopyText + Drop> Lent<T> for &'b Document<T> {
 
 impl<B, T: KeyText> Shared<B, T> {
     ghost use Rattle.std.specs.Borrow.{LendsSo, sem};
-    ghost use Rattle.sj_object_uses.specs.Rows.{document_row};
+    ghost use Rattle.sj_document.specs.Rows.{document_row};
     ghost use Rattle.sj_lazy.specs.Value.{owned_of};
     ghost use Rattle.sj_lazy.specs.Rows.{shared_row};
 
@@ -82,7 +82,7 @@ impl<B, T: KeyText> Shared<B, T> {
 
 impl<P, B, T: KeyText> Lazy<P, B, T> {
     ghost use Rattle.std.specs.Borrow.{LendsSo, sem};
-    ghost use Rattle.sj_object_uses.specs.Rows.{document_row};
+    ghost use Rattle.sj_document.specs.Rows.{document_row};
     ghost use Rattle.sj_lazy.specs.Value.{owned};
     ghost use Rattle.sj_lazy.specs.Rows.{lazy_row};
 
@@ -101,7 +101,7 @@ impl<P, B, T: KeyText> Lazy<P, B, T> {
 
 impl<P: Upgrade<T> + Drop, B: Lent<T> + Drop, T: KeyText + Drop> Lazy<P, B, T> {
     ghost use Rattle.std.specs.Borrow.{LendsSoOk, sem};
-    ghost use Rattle.sj_object_uses.specs.Rows.{document_row, object_row, array_row};
+    ghost use Rattle.sj_document.specs.Rows.{document_row, object_row, array_row};
     ghost use Rattle.sj_lazy.specs.Value.{lazy_kept, owned};
     ghost use Rattle.sj_lazy.specs.Rows.{lazy_row};
     ghost use Rattle.sj_lazy.specs.Edits.{IsLeft};

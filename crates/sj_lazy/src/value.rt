@@ -4,14 +4,14 @@ ghost use Rattle.std.specs.Prelude.{◌≡◌, IfOk, not, true, false, option_ma
 ghost use Rattle.std.specs.Cow.{cow_str_bytes};
 ghost use Rattle.sj_text_core.specs.Reads.{as_text};
 ghost use Rattle.sj_text_core.specs.Tree.{null};
-ghost use Rattle.sj_object_uses.specs.Document.{tree as document_tree};
+ghost use Rattle.sj_document.specs.Document.{tree as document_tree};
 ghost use Rattle.sj_tape.specs.Value.{tree as tape_tree, choice as tape_choice};
 ghost use Rattle.sj_lazy.specs.Value.{tree, choice, kept, lent_tree};
 ghost use Rattle.sj_text_core.specs.Repeats.{keep_by};
 
 use crate::upgrade::{Lent, Upgrade};
 use sj_object::KeyText;
-use sj_object_uses::{BorrowedValue, CopyText, Document};
+use sj_document::{BorrowedValue, CopyText, Document};
 use sj_tape::Value as TapeValue;
 use sj_text_core::Repeats;
 use std::alloc::{AllocError, Global};

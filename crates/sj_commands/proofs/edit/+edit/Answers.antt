@@ -3,10 +3,10 @@ use Rattle.sj_text_core.specs.Tree.{list, obj, items_from}
 use Rattle.sj_text_core.specs.Paths.{by_key, by_place}
 use Rattle.sj_object.specs.Members.{entry_members}
 use Rattle.sj_object.proofs.Shown.{lookup-entry_members, entry_members-set_value}
-use Rattle.sj_object_uses.specs.Document.{tree}
-use Rattle.sj_object_uses.specs.declared.value.Document.{Document, Object, Array, the_lemmas}
-use Rattle.sj_object_uses.proofs.Trees.{Map, tree-Object, tree-Array}
-use Rattle.sj_object_uses.proofs.Arrays.{get_nth}
+use Rattle.sj_document.specs.Document.{tree}
+use Rattle.sj_document.specs.declared.value.Document.{Document, Object, Array, the_lemmas}
+use Rattle.sj_document.proofs.Trees.{Map, tree-Object, tree-Array}
+use Rattle.sj_document.proofs.Arrays.{get_nth}
 use Rattle.sj_commands.specs.Answered.{write_meant}
 use Rattle.sj_commands.specs.Steps.{step_meant}
 use Rattle.sj_commands.proofs.Edits.{answered_below, answered_as, edit_missing, item_at, item_set}

@@ -1,5 +1,5 @@
 use Rattle.std.proofs.Common.{Some, None, option_map, sym, ap, ◌∙◌}
-use Rattle.sj_object_uses.specs.Document.{tree}
+use Rattle.sj_document.specs.Document.{tree}
 use Rattle.sj_commands.proofs.Edits.{step_at}
 use Rattle.sj_commands.proofs.step.read_at.Goals as goal
 

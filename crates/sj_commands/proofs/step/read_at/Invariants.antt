@@ -1,6 +1,6 @@
 use Rattle.std.proofs.Common.{◌≡◌, map, drop}
 use Rattle.sj_text_core.specs.Paths.{tree_at}
-use Rattle.sj_object_uses.specs.Document.{tree}
+use Rattle.sj_document.specs.Document.{tree}
 use Rattle.sj_commands.specs.Steps.{step_meant}
 use Rattle.sj_commands.proofs.step.read_at.Given as goal
 

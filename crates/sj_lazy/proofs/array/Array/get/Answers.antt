@@ -1,7 +1,7 @@
 use Rattle.std.proofs.Common.{sym, ap, ◌∙◌}
 use Rattle.std.specs.Cow.{cow_str_bytes}
 use Rattle.sj_text_core.specs.Find.{nth_item}
-use Rattle.sj_object_uses.proofs.Arrays.{get_nth, items_seen}
+use Rattle.sj_document.proofs.Arrays.{get_nth, items_seen}
 use Rattle.sj_lazy.specs.Array.{items}
 use Rattle.sj_lazy.proofs.array.Array.get.Goals as goal
 

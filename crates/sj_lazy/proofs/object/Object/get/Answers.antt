@@ -2,8 +2,8 @@ use Rattle.std.proofs.Common.{option_map, sym, ap, ◌∙◌}
 use Rattle.std.specs.Cow.{cow_str_bytes}
 use Rattle.sj_text_core.specs.Repeats.{find_member_by}
 use Rattle.sj_object.proofs.Shown.{lookup-entry_members}
-use Rattle.sj_object_uses.specs.Document.{tree}
-use Rattle.sj_object_uses.proofs.Trees.{tree_of_ref}
+use Rattle.sj_document.specs.Document.{tree}
+use Rattle.sj_document.proofs.Trees.{tree_of_ref}
 use Rattle.sj_lazy.specs.Object.{members, object_choice}
 use Rattle.sj_lazy.proofs.object.Object.get.Goals as goal
 

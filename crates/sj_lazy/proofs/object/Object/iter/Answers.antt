@@ -4,7 +4,7 @@ use Rattle.sj_text_core.specs.declared.repeats.Repeats.TheVariants.{First}
 use Rattle.sj_tape.specs.Members.{chosen}
 use Rattle.sj_tape.specs.Parts.{paired}
 use Rattle.sj_object.specs.Members.{entry_members}
-use Rattle.sj_object_uses.specs.Document.{tree}
+use Rattle.sj_document.specs.Document.{tree}
 use Rattle.sj_lazy.specs.Object.{members}
 use Rattle.sj_lazy.proofs.Lists.{paired-members, parts-members}
 use Rattle.sj_lazy.proofs.object.Object.iter.Goals as goal

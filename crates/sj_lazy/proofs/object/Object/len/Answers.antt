@@ -1,7 +1,7 @@
 use Rattle.std.proofs.Common.{sym, ap, ◌∙◌}
 use Rattle.std.specs.Cow.{cow_str_bytes}
 use Rattle.sj_text_core.specs.Tree.{members_len}
-use Rattle.sj_object_uses.specs.Document.{tree}
+use Rattle.sj_document.specs.Document.{tree}
 use Rattle.sj_lazy.specs.Object.{members}
 use Rattle.sj_lazy.proofs.Lists.{length-members}
 use Rattle.sj_lazy.proofs.object.Object.len.Goals as goal

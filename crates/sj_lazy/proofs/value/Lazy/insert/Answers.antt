@@ -1,7 +1,7 @@
 use Rattle.std.proofs.Common.{refl, ap, ◌∙◌}
 use Rattle.sj_text_core.specs.Reads.{as_members}
 use Rattle.sj_text_core.specs.declared.error.AccessError.TheVariants.{NotAnObject}
-use Rattle.sj_object_uses.specs.Document.{why_of}
+use Rattle.sj_document.specs.Document.{why_of}
 use Rattle.sj_lazy.proofs.Lefts.{left_by}
 use Rattle.sj_lazy.proofs.value.Lazy.insert.Goals as goal
 

@@ -1,0 +1,36 @@
+-- A document, level by level, and the tree that it means.
+use Rattle.std.proofs.Common.{◌≡◌, ℕ, List, map, Option, Some, None, option_map, Box, Vec, Global, Bor, MutBor, refl, ap, ◌∙◌, rules}
+use Rattle.std.specs.Option.{option_copied, option_copied_mut}
+use Rattle.sj_text_core.specs.Tree.{Tree, null, boolean, int, text, list, obj, items_from, Members}
+use Rattle.sj_object.specs.declared.hasher.NotSoRandomState.{NotSoRandomState}
+use Rattle.sj_object.specs.HashMap.{Contents}
+use Rattle.sj_object.specs.Members.{entry_members}
+use Rattle.sj_object.proofs.Shown.{entry_members-map}
+use Rattle.sj_document.specs.Document.{tree, object_of}
+use Rattle.sj_document.specs.declared.value.Document.{Document, Array, Object, the_lemmas}
+
+abbrev pub Map : Type 0 → Type 0
+Map T = Contents T (Document T) NotSoRandomState
+
+module _ {T : Type 0} (t : T → List ℕ) where
+  pub tree-Object : (b : Box (Map T) Global) → tree t (Object b) ≡ obj (entry_members (tree t) b.value.entries)
+  tree-Object b = let e : tree t (Object b) ≡ obj (entry_members (λ u. u) (map (λ e. (e.0, tree t e.1)) b.value.entries)) = search (rules, the_lemmas) in e ∙ ap obj (entry_members-map (tree t) (λ u. u) b.value.entries)
+
+  pub tree-Array : (b : Box (Vec (Document T) Global) Global) → tree t (Array b) ≡ list (items_from (map (tree t) b.value.items))
+  tree-Array b = search (rules, the_lemmas)
+
+  pub tree_of_ref : (r : Option (Bor (Document T))) → option_map (λ v. tree t v.now) r ≡ option_map (tree t) (option_copied r)
+  tree_of_ref None = refl
+  tree_of_ref (Some v) = refl
+
+  pub tree_of_mut : (r : Option (MutBor (Document T))) → option_map (λ v. tree t v.now) r ≡ option_map (tree t) (option_copied_mut r)
+  tree_of_mut None = refl
+  tree_of_mut (Some v) = refl
+
+pub object_is : (t : Tree) (ms : Members) → Some ms ≡ object_of t → t ≡ obj ms
+object_is null ms e = cc
+object_is (boolean b) ms e = cc
+object_is (int n c) ms e = cc
+object_is (text s) ms e = cc
+object_is (list is) ms e = cc
+object_is (obj ns) ms e = cc

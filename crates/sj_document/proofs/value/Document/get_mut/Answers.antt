@@ -1,0 +1,16 @@
+use Rattle.std.proofs.Common.{option_map, sym, ap, ◌∙◌}
+use Rattle.sj_text_core.specs.Find.{find}
+use Rattle.sj_object.specs.Edits.{lookup}
+use Rattle.sj_object.proofs.Shown.{lookup-entry_members}
+use Rattle.sj_document.specs.Document.{tree}
+use Rattle.sj_document.proofs.Trees.{tree-Object, tree_of_mut}
+use Rattle.sj_document.proofs.value.Document.get_mut.Goals as goal
+
+pub returns-in-Object : goal.returns-in-Object
+returns-in-Object g c =
+    let t = g.T.KeyText.text_of in
+    let k = c.args.key.now in
+    record {
+      value = tree_of_mut t c.get_mut.result ∙ ap (option_map (tree t)) (c.get_mut.ensures.value ∙ ap (λ m. lookup k m.entries) (c.deref_mut.ensures.value ∙ ap (λ b. b.value) c.in-Object.members-is)) ∙ lookup-entry_members (tree t) k c.in-Object.members.value.entries
+          ∙ sym (ap (find k) (ap (tree t) c.in-Object.is ∙ tree-Object t c.in-Object.members));
+    }

@@ -1,0 +1,27 @@
+use Rattle.std.proofs.Common.{◌≡◌, option_map, sym, ap, ◌∙◌, rules, Box, Global}
+use Rattle.sj_text_core.specs.Tree.{obj}
+use Rattle.sj_text_core.specs.Find.{find}
+use Rattle.sj_object.specs.Edits.{lookup, put}
+use Rattle.sj_object.specs.Members.{entry_members}
+use Rattle.sj_object.proofs.Shown.{lookup-entry_members, entry_members-put}
+use Rattle.sj_document.specs.Document.{tree, with_member}
+use Rattle.sj_document.specs.declared.value.Document.{Object, the_lemmas}
+use Rattle.sj_document.proofs.Trees.{Map, tree-Object}
+use Rattle.sj_document.proofs.value.Document.insert.Goals as goal
+
+pub returns-in-Ok-clause-answer : goal.returns-in-Ok-clause-answer
+returns-in-Ok-clause-answer g c =
+    let t = g.T.KeyText.text_of in
+    let k = t c.args.key in
+    ap (option_map (tree t)) (c.in-Ok.ensures.answer ∙ ap (λ m. lookup k m.entries) (c.deref_mut.ensures.value ∙ ap (λ b. b.value) c.in-Object.members-is)) ∙ lookup-entry_members (tree t) k c.in-Object.members.value.entries
+    ∙ sym (ap (find k) (ap (tree t) c.in-Object.is ∙ tree-Object t c.in-Object.members))
+
+pub returns-in-Ok-clause-after : goal.returns-in-Ok-clause-after
+returns-in-Ok-clause-after g c =
+    let t = g.T.KeyText.text_of in
+    let k = t c.args.key in
+    let b : Box (Map g.row.T.Denot) Global = record c.in-Object.members { value = c.insert.new.self } in
+    ap (tree t) (let e : _ ≡ Object b = search (rules, the_lemmas) in e) ∙ tree-Object t b
+    ∙ ap (λ es. obj (entry_members (tree t) es)) (c.in-Ok.ensures.entries ∙ ap (λ m. put (c.args.key, k) c.args.value m.entries) (c.deref_mut.ensures.value ∙ ap (λ b. b.value) c.in-Object.members-is))
+    ∙ ap obj (entry_members-put (tree t) (c.args.key, k) c.args.value c.in-Object.members.value.entries)
+    ∙ sym (ap (with_member k (tree t c.args.value)) (ap (tree t) c.in-Object.is ∙ tree-Object t c.in-Object.members))

@@ -1,0 +1,69 @@
+-- The tree that a document means, where t gives the text of a key or a string.
+use Rattle.std.specs.Prelude.{ℕ, Bool, true, ◌&&◌, List, Option, Some, None}
+use Rattle.std.specs.List.{list_all}
+use Rattle.sj_text_core.specs.Tree.{Tree, text, list, obj, items_from, Members}
+use Rattle.sj_text_core.specs.Scalars.{static_tree}
+use Rattle.sj_text_core.specs.Edits.{put, cut, push, front, last}
+use Rattle.sj_object.specs.Members.{entry_members}
+use Rattle.sj_text_core.specs.declared.error.AccessError.{AccessError}
+use Rattle.sj_text_core.specs.declared.error.AccessError.TheVariants.{OutOfMemory}
+use Rattle.sj_document.specs.declared.value.Document.{Document, fold-Document}
+use Rattle.sj_document.specs.declared.value.Document.TheOpen.{Document-F}
+
+module _ {T : Type 0} (t : T → List ℕ) where
+  -- one level, whose parts are seen as their trees
+  abbrev pub level_tree : Document-F T Tree → Tree
+  level_tree (Document-F.Static s) = static_tree s
+  level_tree (Document-F.String s) = text (t s)
+  level_tree (Document-F.Array v) = list (items_from v.value.items)
+  level_tree (Document-F.Object m) = obj (entry_members (λ u. u) m.value.entries)
+
+  abbrev pub tree : Document T → Tree
+  tree = fold-Document T Tree level_tree
+
+module _ {T : Type 0} (is_made : T → Bool) where
+  -- one level, whose parts are seen as whether they pass
+  abbrev pub level_passes : Document-F T Bool → Bool
+  level_passes (Document-F.Static s) = true
+  level_passes (Document-F.String s) = is_made s
+  level_passes (Document-F.Array v) = list_all (λ b. b) v.value.items
+  level_passes (Document-F.Object m) = list_all (λ e. is_made e.0.0 && e.1) m.value.entries
+
+  -- whether every text and every key passes the test
+  abbrev pub all_texts : Document T → Bool
+  all_texts = fold-Document T Bool level_passes
+
+-- the members of an object
+abbrev pub object_of : Tree → Option Members
+object_of (obj ms) = Some ms
+object_of t = None
+
+-- an object with the value at the text; anything else stays
+abbrev pub with_member : List ℕ → Tree → Tree → Tree
+with_member k u (obj ms) = obj (put k u ms)
+with_member k u t = t
+
+-- an object without the member of the text; anything else stays
+abbrev pub without_member : List ℕ → Tree → Tree
+without_member k (obj ms) = obj (cut k ms)
+without_member k t = t
+
+-- an array with u behind its items; anything else stays
+abbrev pub with_item : Tree → Tree → Tree
+with_item u (list is) = list (push u is)
+with_item u t = t
+
+-- an array without its last item; anything else stays
+abbrev pub without_last : Tree → Tree
+without_last (list is) = list (front is)
+without_last t = t
+
+-- the last item of an array
+abbrev pub last_item : Tree → Option Tree
+last_item (list is) = last is
+last_item t = None
+
+-- why an edit is refused: the target is of another kind, else memory
+abbrev pub why_of : {A : Type 0} → AccessError → Option A → AccessError
+why_of wrong None = wrong
+why_of wrong (Some x) = OutOfMemory

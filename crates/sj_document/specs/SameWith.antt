@@ -1,0 +1,62 @@
+-- A document compared with what holds values of another type.
+use Rattle.std.specs.Prelude.{◌≡◌, ℕ, List, [], ◌∷◌, Option, Some, None, MatchOption, if◌then◌else◌, bytes_eq}
+use Rattle.sj_object.specs.Entries.{Entry}
+use Rattle.sj_object.specs.Edits.{lookup}
+use Rattle.sj_document.specs.declared.value.Document.{Document, out-Document}
+use Rattle.sj_document.specs.declared.value.Document.TheOpen.{Document-F}
+
+module _ {T : Type 0} where
+  abbrev pub items_in : Document-F T (Document T) → Option (List (Document T))
+  items_in (Document-F.Static s) = None
+  items_in (Document-F.String s) = None
+  items_in (Document-F.Array v) = Some v.value.items
+  items_in (Document-F.Object m) = None
+
+  -- the items of an array
+  abbrev pub items_of : Document T → Option (List (Document T))
+  items_of d = items_in (out-Document T d)
+
+  abbrev pub members_in : Document-F T (Document T) → Option (List (Entry T (Document T)))
+  members_in (Document-F.Static s) = None
+  members_in (Document-F.String s) = None
+  members_in (Document-F.Array v) = None
+  members_in (Document-F.Object m) = Some m.value.entries
+
+  -- the members of an object
+  abbrev pub members_of : Document T → Option (List (Entry T (Document T)))
+  members_of d = members_in (out-Document T d)
+
+-- the value of the first entry whose key has the text
+abbrev pub value_at : {L X : Type 0} → (L → List ℕ) → List ℕ → List (L × X) → Option X
+value_at text k [] = None
+value_at text k (p ∷ ps) = if bytes_eq k (text p.0) then Some p.1 else value_at text k ps
+
+module _ {D X : Type 0} (R : D → X → Type 0) where
+  -- as many, item by item
+  abbrev pub SameEach : List D → List X → Type 0
+  SameEach [] xs = xs ≡ []
+  SameEach (d ∷ ds) [] = ⊥
+  SameEach (d ∷ ds) (x ∷ xs) = R d x × SameEach ds xs
+
+  abbrev pub SameSlice : Option (List D) → List X → Type 0
+  SameSlice None xs = ⊥
+  SameSlice (Some ds) xs = SameEach ds xs
+
+  -- both absent, or both there and the same
+  abbrev pub SameIn : Option D → Option X → Type 0
+  SameIn None found = found ≡ None
+  SameIn (Some d) found = MatchOption found ⊥ (λ x. R d x)
+
+  module _ {K L : Type 0} (text : L → List ℕ) where
+    -- each key's text has a value that is the same
+    abbrev pub EachHas : List (Entry K D) → List (L × X) → Type 0
+    EachHas es [] = Unit {0}
+    EachHas es (p ∷ ps) = MatchOption (lookup (text p.0) es) ⊥ (λ d. R d p.1) × EachHas es ps
+
+    -- each text has the same in both
+    abbrev pub SameEntries : List (Entry K D) → List (L × X) → Type 0
+    SameEntries es ps = (k : List ℕ) → SameIn (lookup k es) (value_at text k ps)
+
+    abbrev pub SameMap : Option (List (Entry K D)) → List (L × X) → Type 0
+    SameMap None ps = ⊥
+    SameMap (Some es) ps = SameEntries es ps

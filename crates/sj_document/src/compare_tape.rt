@@ -1,0 +1,215 @@
+//! Whether a part of a tape and a document are the same. Nothing is built, and no memory is
+//! taken.
+
+ghost use Rattle.std.specs.Prelude.{◌≡◌, ◌↔◌, IsTrue, map, take};
+ghost use Rattle.sj_text_core.specs.Agree.{Agree, HasTexts, texts};
+ghost use Rattle.sj_text_core.specs.Repeats.{SameBy};
+ghost use Rattle.sj_text_core.specs.Same.{Same};
+ghost use Rattle.sj_text_core.specs.Tree.{list, obj, items_from};
+ghost use Rattle.sj_tape.specs.Items.{items, array_choice};
+ghost use Rattle.sj_tape.specs.Members.{members, object_choice};
+ghost use Rattle.sj_tape.specs.Parts.{paired};
+ghost use Rattle.sj_tape.specs.Value.{tree as tape_tree, choice};
+ghost use Rattle.sj_object.specs.Members.{entry_members};
+ghost use Rattle.sj_document.specs.Document.{tree};
+
+use crate::value::{Document, Object};
+use sj_object::KeyText;
+use sj_tape::{Array, Value, object};
+use sj_text_core::Repeats;
+
+/// Whether the part of a tape and the document are the same; of each key the member counts that
+/// the part says.
+pub(crate) fn same_as_tape<T: KeyText>(left: Value, right: &Document<T>) -> bool
+    ensures { IsTrue result ↔ SameBy (choice left.entry) Repeats.First (tape_tree left.entry) (tree T.text_of right.now) }
+{
+    match left.repeats() {
+        Repeats::First => first_as_tape(left, right),
+        Repeats::Last => last_as_tape(left, right),
+    }
+}
+
+/// Whether the two are the same by the first member of each key.
+#[cycle(same)]
+fn first_as_tape<T: KeyText>(left: Value, right: &Document<T>) -> bool
+    ensures { IsTrue result ↔ Same (tape_tree left.entry) (tree T.text_of right.now) }
+{
+    match right {
+        Document::Static(other) => match left.as_static() {
+            Some(scalar) => scalar == *other,
+            None => false,
+        },
+        Document::String(other) => match left.into_string() {
+            Some(text) => text == other.text(),
+            None => false,
+        },
+        Document::Array(others) => match left.as_array() {
+            Some(items) => same_items(items, others),
+            None => false,
+        },
+        Document::Object(others) => match left.as_object() {
+            Some(members) => same_members(members, others),
+            None => false,
+        },
+    }
+}
+
+#[cycle(same)]
+fn same_items<T: KeyText>(left: Array, right: &Vec<Document<T>>) -> bool
+    ensures { IsTrue result ↔ Same (list (items left.entry)) (list (items_from (map (tree T.text_of) right.now.items))) }
+{
+    let others = right.as_slice();
+    if left.len() != others.len() {
+        return false;
+    }
+    let mut items = left.iter();
+    for other in others {
+        match items.next() {
+            Some(item) => {
+                if !first_as_tape(item, other) {
+                    return false;
+                }
+            }
+            None => return false,
+        }
+    }
+    true
+}
+
+/// Members with one key in one place are compared in step, as far as there are such; the others
+/// are looked up.
+#[cycle(same)]
+fn same_members<T: KeyText>(left: object::Object, right: &Object<T>) -> bool
+    ensures { IsTrue result ↔ Same (obj (members left.entry)) (obj (entry_members (tree T.text_of) right.now.entries)) }
+{
+    let mut others = right.iter();
+    let mut place = 0;
+    for (key, value) in left.iter() {
+        match others.next() {
+            Some((name, other)) if key == name.text() => {
+                if !first_as_tape(value, other) {
+                    return false;
+                }
+            }
+            _ => return same_rest(left, right, place),
+        }
+        place += 1;
+    }
+    match others.next() {
+        None => true,
+        Some(_) => same_rest(left, right, place),
+    }
+}
+
+/// The same, where the first `place` members have the same keys in both, and agree.
+#[cycle(same)]
+fn same_rest<T: KeyText>(left: object::Object, right: &Object<T>, place: usize) -> bool
+    requires in_step { texts (take place (paired (members left))) ≡ texts (take place (paired (entry_members (tree T.text_of) right.now.entries))) }
+    requires agree { Agree place (paired (members left)) (paired (entry_members (tree T.text_of) right.now.entries)) }
+    ensures { IsTrue result ↔ Same (obj (members left.entry)) (obj (entry_members (tree T.text_of) right.now.entries)) }
+{
+    let mut at = 0;
+    for (key, value) in left.iter() {
+        if at >= place && !left.has_before(at, key) {
+            match right.get(key) {
+                Some(other) => {
+                    if !first_as_tape(value, other) {
+                        return false;
+                    }
+                }
+                None => return false,
+            }
+        }
+        at += 1;
+    }
+    has_keys(left, right, place)
+}
+
+/// Whether the object of a tape has every key of the map, where it has those of the first `place`
+/// members.
+fn has_keys<T: KeyText>(left: object::Object, right: &Object<T>, place: usize) -> bool
+    requires { texts (take place (paired (members left))) ≡ texts (take place (paired (entry_members (tree T.text_of) right.now.entries))) }
+    ensures { IsTrue result ↔ HasTexts (paired (members left.entry)) (paired (entry_members (tree T.text_of) right.now.entries)) }
+{
+    let mut known = place;
+    for (key, _) in right.iter() {
+        if known > 0 {
+            known -= 1;
+        } else if left.get(key.text()).is_none() {
+            return false;
+        }
+    }
+    true
+}
+
+/// Whether the two are the same, where the last member of each key counts in the part.
+#[cycle(last)]
+fn last_as_tape<T: KeyText>(left: Value, right: &Document<T>) -> bool
+    requires { choice left ≡ Repeats.Last }
+    ensures { IsTrue result ↔ SameBy Repeats.Last Repeats.First (tape_tree left.entry) (tree T.text_of right.now) }
+{
+    match right {
+        Document::Static(other) => match left.as_static() {
+            Some(scalar) => scalar == *other,
+            None => false,
+        },
+        Document::String(other) => match left.into_string() {
+            Some(text) => text == other.text(),
+            None => false,
+        },
+        Document::Array(others) => match left.as_array() {
+            Some(items) => last_items(items, others),
+            None => false,
+        },
+        Document::Object(others) => match left.as_object() {
+            Some(members) => last_members(members, others),
+            None => false,
+        },
+    }
+}
+
+#[cycle(last)]
+fn last_items<T: KeyText>(left: Array, right: &Vec<Document<T>>) -> bool
+    requires { array_choice left ≡ Repeats.Last }
+    ensures { IsTrue result ↔ SameBy Repeats.Last Repeats.First (list (items left.entry)) (list (items_from (map (tree T.text_of) right.now.items))) }
+{
+    let others = right.as_slice();
+    if left.len() != others.len() {
+        return false;
+    }
+    let mut items = left.iter();
+    for other in others {
+        match items.next() {
+            Some(item) => {
+                if !last_as_tape(item, other) {
+                    return false;
+                }
+            }
+            None => return false,
+        }
+    }
+    true
+}
+
+/// A member is passed over where a later one has its key; each other is looked up.
+#[cycle(last)]
+fn last_members<T: KeyText>(left: object::Object, right: &Object<T>) -> bool
+    requires { object_choice left ≡ Repeats.Last }
+    ensures { IsTrue result ↔ SameBy Repeats.Last Repeats.First (obj (members left.entry)) (obj (entry_members (tree T.text_of) right.now.entries)) }
+{
+    let mut seen = 0;
+    for (key, value) in left.iter() {
+        seen += 1;
+        if !left.has_behind(seen, key) {
+            match right.get(key) {
+                Some(other) => {
+                    if !last_as_tape(value, other) {
+                        return false;
+                    }
+                }
+                None => return false,
+            }
+        }
+    }
+    has_keys(left, right, 0)
+}

@@ -1,0 +1,92 @@
+//! What a document is compared with through a reference, as a slice and as a map of std.
+
+ghost use Rattle.std.specs.Prelude.{◌≡◌, ◌↔◌, IsTrue, option_map};
+ghost use Rattle.sj_document.specs.SameWith.{members_of};
+ghost use Rattle.sj_document.specs.SameWith.{items_of, SameEach, SameSlice, SameEntries, SameMap};
+
+use crate::value::{Document, Object};
+use sj_object::KeyText;
+use sj_text_core::{SameAs, SameWith};
+use std::collections::HashMap;
+use std::hash::{BuildHasher, Hash};
+
+/// Same exactly where the value behind the reference is the same.
+impl<'x, T: KeyText, X: SameWith<Document<T>>> SameAs<&'x X> for Document<T> {
+    ghost same = { λ d x. X.same_with d x.now };
+
+    fn same_as(&self, other: &&'x X) -> bool {
+        (*other).is_same_with(self)
+    }
+}
+
+/// Whether there are as many, item by item the same.
+fn same_each<D, X: SameWith<D>>(items: &[D], others: &[X]) -> bool
+    ensures { IsTrue result ↔ SameEach X.same_with items.now others.now }
+{
+    let mut rest = others.iter();
+    for item in items {
+        match rest.next() {
+            Some(other) => {
+                if !other.is_same_with(item) {
+                    return false;
+                }
+            }
+            None => return false,
+        }
+    }
+    match rest.next() {
+        Some(_) => false,
+        None => true,
+    }
+}
+
+/// Same exactly where the document is an array of that length, item by item the same.
+impl<'x, T: KeyText, X: SameWith<Document<T>>> SameAs<&'x [X]> for Document<T> {
+    ghost same = { λ d xs. SameSlice X.same_with (items_of d) xs.now };
+
+    fn same_as(&self, other: &&'x [X]) -> bool {
+        match self {
+            Document::Array(items) => same_each(items.as_slice(), *other),
+            _ => false,
+        }
+    }
+}
+
+/// Whether each text has the same in both: as many members as entries, and a same member for each
+/// entry.
+fn same_entries<T: KeyText, K: KeyText + Hash, X: SameWith<Document<T>>, S: BuildHasher>(
+    members: &Object<T>,
+    map: &HashMap<K, X, S>,
+) -> bool
+    ensures { IsTrue result ↔ SameEntries X.same_with K.text_of members.now.entries map.now.entries }
+{
+    if members.len() != map.len() {
+        return false;
+    }
+    for (key, value) in map.iter() {
+        match members.get(key.text()) {
+            Some(member) => {
+                if !value.is_same_with(member) {
+                    return false;
+                }
+            }
+            None => return false,
+        }
+    }
+    true
+}
+
+/// Same exactly where the document is an object with the same texts as the map's keys, member by
+/// member the same.
+impl<T: KeyText, K: KeyText + Hash, X: SameWith<Document<T>>, S: BuildHasher> SameAs<
+    HashMap<K, X, S>,
+> for Document<T> {
+    ghost same = { λ d m. SameMap X.same_with K.text_of (members_of d) m.entries };
+
+    fn same_as(&self, other: &HashMap<K, X, S>) -> bool {
+        match self {
+            Document::Object(members) => same_entries(members, other),
+            _ => false,
+        }
+    }
+}
