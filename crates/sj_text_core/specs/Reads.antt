@@ -81,3 +81,31 @@ as_members (obj ms) = Some ms
 abbrev pub read_as : {T : Type 0} → Option T → ValueType → ValueType → Result T TryTypeError
 read_as (Some x) expected got = Ok x
 read_as None expected got = Err (record { expected = expected; got = got })
+
+-- a typed read of a member: none where the key is absent, or its value is no such one
+abbrev pub member_as : {A : Type 0} → (Tree → Option A) → Option Tree → Option A
+member_as read None = None
+member_as read (Some u) = read u
+
+-- what was found in an object; of another target, that an object was expected and which kind is there
+abbrev pub found_in : {P A : Type 0} → Option P → ValueType → A → Result A TryTypeError
+found_in None got found = Err (record { expected = kind.Object; got = got })
+found_in (Some ms) got found = Ok found
+
+-- the value, which has to be there
+abbrev pub some_as : {A : Type 0} → Option A → ValueType → ValueType → Result (Option A) TryTypeError
+some_as (Some x) expected got = Ok (Some x)
+some_as None expected got = Err (record { expected = expected; got = got })
+
+-- a member that is there has to be such a value
+abbrev pub member_read_as : {A : Type 0} → (Tree → Option A) → ValueType → Option Tree → Result (Option A) TryTypeError
+member_read_as read expected None = Ok None
+member_read_as read expected (Some u) = some_as (read u) expected (kind_of u)
+
+abbrev pub member_read_in : {P A : Type 0} → (Tree → Option A) → ValueType → Option P → ValueType → Option Tree → Result (Option A) TryTypeError
+member_read_in read expected None got found = Err (record { expected = kind.Object; got = got })
+member_read_in read expected (Some ms) got found = member_read_as read expected found
+
+-- a typed read of a member, as found, by which it is asked for: none where the key is absent; a fault where its value is no such one, or the target is no object
+abbrev pub try_member_as : {A : Type 0} → (Tree → Option A) → ValueType → Tree → Option Tree → Result (Option A) TryTypeError
+try_member_as read expected t found = member_read_in read expected (as_members t) (kind_of t) found
