@@ -17,6 +17,7 @@ impl DumpGenerator {
     /// A generator that has written nothing.
     pub fn new(alloc: Global) -> DumpGenerator
         ensures written { ⟦<DumpGenerator as BaseGenerator>⟧.written result ≡ [] }
+        ensures style { ⟦<DumpGenerator as BaseGenerator>⟧.style result ≡ None }
         ensures level { ⟦<DumpGenerator as BaseGenerator>⟧.level result ≡ 0 }
     {
         DumpGenerator {

@@ -18,6 +18,7 @@ impl<'a> WriterGenerator<'a> {
     pub fn new(out: &'a mut Vec<u8>) -> WriterGenerator<'a>
         ensures sink { ⟦<WriterGenerator<'a> as BaseGenerator>⟧.sink result ≡ Some out.entry.ghost_name }
         ensures written { ⟦<WriterGenerator<'a> as BaseGenerator>⟧.written result ≡ out.old.items }
+        ensures style { ⟦<WriterGenerator<'a> as BaseGenerator>⟧.style result ≡ None }
         ensures level { ⟦<WriterGenerator<'a> as BaseGenerator>⟧.level result ≡ 0 }
     {
         WriterGenerator { out, level: 0 }
