@@ -1,5 +1,4 @@
 pub mod Marks
-pub mod Parse
 pub mod Pieces
 pub mod Room
 pub mod Sinks
@@ -10,4 +9,3 @@ pub mod Value
 pub mod Items
 pub mod Members
 pub mod Lookup
-pub mod Laws

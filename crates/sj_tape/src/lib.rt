@@ -4,7 +4,6 @@
 
 pub mod array;
 mod compare;
-pub mod laws;
 mod node;
 pub mod object;
 mod preorder;
