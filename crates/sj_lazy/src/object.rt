@@ -3,8 +3,7 @@
 ghost use Rattle.std.specs.Prelude.{◌≡◌, ◌↔◌, IsTrue, IfSome, option_map};
 ghost use Rattle.sj_text_core.specs.Repeats.{find_member_by};
 ghost use Rattle.sj_tape.specs.Members.{chosen};
-ghost use Rattle.sj_text_core.specs.Tree.{members_len, no_members};
-ghost use Rattle.sj_tape.specs.Parts.{paired};
+ghost use Rattle.sj_text_core.specs.Tree.{members_len, no_members, paired};
 
 use crate::value::{Lazy, Shared, Value, of_lent, of_tape};
 use sj_object::{Iter as MapIter, KeyText};
