@@ -3,6 +3,7 @@ pub mod Position
 pub mod Lent
 pub mod Chains
 pub mod Walked
+pub mod Words
 pub mod Hashed
 pub mod Added
 pub mod Shown

@@ -13,6 +13,7 @@ mod insert;
 mod iter;
 mod or_insert;
 mod remove;
+mod same;
 mod search;
 
 use crate::hasher::KeyHasher;
