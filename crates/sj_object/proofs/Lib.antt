@@ -10,3 +10,4 @@ pub mod Shown
 pub mod Kept
 pub mod Walks
 pub mod Piles
+pub mod rows
