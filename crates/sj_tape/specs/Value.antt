@@ -1,7 +1,8 @@
 -- What a part of a tape means.
-use Rattle.std.specs.Prelude.{Option, Some, None}
+use Rattle.std.specs.Prelude.{ℕ, List, Option, Some, None}
 use Rattle.sj_text_core.specs.Tree.{Tree, null, boolean, int, text, list, obj}
 use Rattle.sj_text_core.specs.Nodes.{tree_of}
+use Rattle.sj_text_core.specs.Repeats.{find_by}
 use Rattle.sj_text_core.specs.declared.repeats.Repeats.{Repeats}
 use Rattle.sj_tape.specs.Marks.{marks}
 use Rattle.sj_tape.specs.declared.value.Value.{Value}
@@ -17,6 +18,10 @@ choice v = v.repeats
 -- a part of a tape as contracts see it
 abbrev pub part : Value → Repeats × Tree
 part v = (choice v, tree v)
+
+-- the value of the member with the text that counts in the part
+abbrev pub found : Value → List ℕ → Option Tree
+found v k = find_by (choice v) k (tree v)
 
 -- the tree itself, where it is a null, a truth value or a whole number
 abbrev pub as_scalar : Tree → Option Tree

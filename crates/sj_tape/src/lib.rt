@@ -3,7 +3,6 @@
 #![tactic(auto)]
 
 pub mod array;
-mod compare;
 pub mod laws;
 mod node;
 pub mod object;
@@ -20,5 +19,11 @@ pub use array::Array;
 pub use node::Node;
 pub use object::Object;
 pub use reader::{Buffers, DEPTH_LIMIT, to_tape, to_tape_with_buffers};
+pub use sj_text_core::{
+    AccessError, BadTape, BaseGenerator, DumpGenerator, ErrorKind, ExtendedValueType, Meaning,
+    PrettyGenerator, PrettyWriterGenerator, Refused, Repeats, SameAs, SameWith, StaticNode,
+    TryMake, TryTypeError, TypedValue, ValueAsScalar, ValueType, Writable, WriteError,
+    WriterGenerator,
+};
 pub use tape::Tape;
 pub use value::Value;
