@@ -2,6 +2,7 @@
 use Rattle.std.specs.Prelude.{ℕ, List, Option, Some, None}
 use Rattle.sj_text_core.specs.Tree.{Tree, null, boolean, int, text, list, obj}
 use Rattle.sj_text_core.specs.Nodes.{tree_of}
+use Rattle.sj_text_core.specs.Print.{compact}
 use Rattle.sj_text_core.specs.Repeats.{find_by}
 use Rattle.sj_text_core.specs.declared.repeats.Repeats.{Repeats}
 use Rattle.sj_tape.specs.Marks.{marks}
@@ -31,3 +32,12 @@ as_scalar (int n c) = Some (int n c)
 as_scalar (text s) = None
 as_scalar (list is) = None
 as_scalar (obj ms) = None
+
+-- the bytes that a scalar or a text is displayed as; of containers none are promised
+abbrev pub displayed : Tree → Option (List ℕ)
+displayed null = Some (compact null)
+displayed (boolean b) = Some (compact (boolean b))
+displayed (int n c) = Some (compact (int n c))
+displayed (text s) = Some s
+displayed (list is) = None
+displayed (obj ms) = None
