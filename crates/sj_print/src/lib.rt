@@ -2,6 +2,7 @@
 //! of value that can be taken apart level by level, with its exact length asked for first.
 #![tactic(auto)]
 
+mod formatter;
 mod generator;
 mod layout;
 mod output;
@@ -9,6 +10,7 @@ mod parts;
 mod print;
 mod whole;
 
+pub use formatter::display;
 pub use generator::{
     BaseGenerator, DumpGenerator, PrettyGenerator, PrettyWriterGenerator, WriterGenerator,
 };

@@ -4,7 +4,7 @@ use Rattle.sj_text_core.specs.Repeats.{by_first}
 use Rattle.sj_text_core.specs.declared.repeats.Repeats.TheVariants.{Last}
 use Rattle.sj_text_core.proofs.Equality.{same-sym}
 use Rattle.sj_tape.specs.Value.{tree, choice}
-use Rattle.sj_tape.proofs.compare.same_parts.Goals as goal
+use Rattle.sj_tape.proofs.value.cmp.same_parts.Goals as goal
 
 pub returns-in-Last-repeats : goal.returns-in-Last-repeats
 returns-in-Last-repeats c =

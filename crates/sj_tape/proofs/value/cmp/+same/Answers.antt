@@ -8,8 +8,8 @@ use Rattle.sj_tape.specs.Value.{tree, part}
 use Rattle.sj_tape.proofs.Chosen.{item_step, items_end, member_step, members_end}
 use Rattle.sj_tape.proofs.Counted.{items_taken, items_joined}
 use Rattle.sj_tape.proofs.Compared.{same_items_len, items_from-listed, length-listed, none_left, place_within, length-paired, drop_next, pair_within, same_here, further_repeat, further_in_step, texts_further, same_at_end, same_found, differ_absent, further_found, same_if_has, has_if_same, allowed, denied, agree_less}
-use Rattle.sj_tape.proofs.compare.+same.Goals as goal
-use Rattle.sj_tape.proofs.compare.+same.Goals.{same_members-else-not-same_values-via-then-not-same_values+else-not-has_before, same_members-else-not-same_values-via-else-not-same_values, same_rest-then-at-place+then-not-has_before+in-Some-first+else-not-same_values, same_rest-else-at-place, same_rest-else-at-place-via-then-at-place+else-not-has_before, same_rest-else-at-place-via-else-at-place}
+use Rattle.sj_tape.proofs.value.cmp.+same.Goals as goal
+use Rattle.sj_tape.proofs.value.cmp.+same.Goals.{same_members-else-not-same_values-via-then-not-same_values+else-not-has_before, same_members-else-not-same_values-via-else-not-same_values, same_rest-then-at-place+then-not-has_before+in-Some-first+else-not-same_values, same_rest-else-at-place, same_rest-else-at-place-via-then-at-place+else-not-has_before, same_rest-else-at-place-via-else-at-place}
 
 pub same_items-returns-then-len : goal.same_items-returns-then-len
 same_items-returns-then-len t c = (λ f. absurd (cc), λ h. absurd (c.if-len.true (c.len.ensures ∙ same_items_len _ _ h ∙ sym c.len-2.ensures)))

@@ -6,7 +6,7 @@ use Rattle.sj_tape.specs.Items.{items, items_ahead}
 use Rattle.sj_tape.specs.Members.{members, members_ahead}
 use Rattle.sj_tape.specs.Parts.{paired}
 use Rattle.sj_tape.specs.Value.{tree}
-use Rattle.sj_tape.proofs.compare.+same.Given as goal
+use Rattle.sj_tape.proofs.value.cmp.+same.Given as goal
 
 abbrev pub invariant-same_items-loop-item : goal.invariant-same_items-loop-item
 invariant-same_items-loop-item l =

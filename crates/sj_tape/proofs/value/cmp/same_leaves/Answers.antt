@@ -1,6 +1,6 @@
 use Rattle.sj_tape.specs.Value.{tree}
 use Rattle.sj_tape.proofs.Compared.{scalar_is}
-use Rattle.sj_tape.proofs.compare.same_leaves.Goals as goal
+use Rattle.sj_tape.proofs.value.cmp.same_leaves.Goals as goal
 
 pub returns-in-Some-as_static : goal.returns-in-Some-as_static
 returns-in-Some-as_static c =

@@ -8,7 +8,7 @@ use Rattle.sj_tape.specs.Members.{members, members_ahead, object_choice, chosen,
 use Rattle.sj_tape.specs.Parts.{listed, paired}
 use Rattle.sj_tape.specs.Value.{tree}
 use Rattle.sj_tape.proofs.Counted.{Counted, parts}
-use Rattle.sj_tape.proofs.compare.+last.Given as goal
+use Rattle.sj_tape.proofs.value.cmp.+last.Given as goal
 
 abbrev pub invariant-last_items-loop-item : goal.invariant-last_items-loop-item
 invariant-last_items-loop-item l =

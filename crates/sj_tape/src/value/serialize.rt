@@ -2,9 +2,10 @@
 
 use super::Value;
 use crate::{array, object};
-use sj_print::{Level, Parts, encode, write};
+use sj_print::{Level, Parts, display, encode, write};
 use sj_text_core::{Writable, WriteError};
 use std::alloc::Global;
+use std::fmt;
 
 impl<'t, 'i> Parts for Value<'t, 'i> {
     type Items = array::Iter<'t, 'i>;
@@ -69,5 +70,22 @@ impl<'t, 'i> Writable for Value<'t, 'i> {
 
     fn write_pp(&self, out: &mut Vec<u8>) -> Result<(), WriteError> {
         write(self, true, out)
+    }
+}
+
+/// A scalar as it is printed, a text as it is, an array or an object as its compact print.
+impl<'t, 'i> fmt::Display for Value<'t, 'i> {
+    ghost use Rattle.sj_tape.specs.Value.{tree, displayed};
+
+    ghost output = { λ v. displayed (tree v) };
+
+    fn fmt<W: fmt::Write>(&self, f: &mut fmt::Formatter<W>) -> fmt::Result {
+        if let Some(scalar) = self.as_static() {
+            return write!(f, "{scalar}");
+        }
+        if let Some(text) = self.into_string() {
+            return write!(f, "{text}");
+        }
+        display(self, f)
     }
 }

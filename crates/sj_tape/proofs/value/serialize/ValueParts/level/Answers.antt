@@ -5,7 +5,7 @@ use Rattle.sj_tape.specs.Members.{members}
 use Rattle.sj_tape.specs.Value.{tree}
 use Rattle.sj_tape.proofs.Splits.{members_from-paired}
 use Rattle.sj_tape.proofs.Levels.{items_from-listed, list_is, obj_is}
-use Rattle.sj_tape.proofs.value.parts.ValueParts.level.Goals as goal
+use Rattle.sj_tape.proofs.value.serialize.ValueParts.level.Goals as goal
 
 pub returns-in-Some-as_array : goal.returns-in-Some-as_array
 returns-in-Some-as_array c =

@@ -12,7 +12,7 @@ use Rattle.sj_tape.specs.Value.{tree, choice, part}
 use Rattle.sj_tape.proofs.Chosen.{item_step, items_end, member_step, members_end}
 use Rattle.sj_tape.proofs.Compared.{items_from-listed, length-listed, none_left, place_within, length-paired, drop_next, pair_within, allowed, denied}
 use Rattle.sj_tape.proofs.Counted.{items_taken, items_joined, into_items, from_items, part_choice, member_choice, parts, lens_by, moved, by_choice, leaf_by, by_leaf, counted_again, counted_same, same_last, not_same_last, same_if_counted, has_if_counted}
-use Rattle.sj_tape.proofs.compare.+last.Goals as goal
+use Rattle.sj_tape.proofs.value.cmp.+last.Goals as goal
 
 pub last_values-returns-in-None-as_object : goal.last_values-returns-in-None-as_object
 last_values-returns-in-None-as_object t c =
