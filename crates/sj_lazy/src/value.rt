@@ -9,9 +9,14 @@ ghost use Rattle.sj_tape.specs.Value.{tree as tape_tree, choice as tape_choice};
 ghost use Rattle.sj_lazy.specs.Value.{tree, choice, kept, lent_tree};
 ghost use Rattle.sj_text_core.specs.Repeats.{keep_by};
 
+mod access;
+mod edit;
+mod scalar;
+mod typed;
+
 use crate::upgrade::{Lent, Upgrade};
-use sj_object::KeyText;
 use sj_document::{BorrowedValue, CopyText, Document};
+use sj_object::KeyText;
 use sj_tape::Value as TapeValue;
 use sj_text_core::Repeats;
 use std::alloc::{AllocError, Global};
