@@ -2,7 +2,7 @@
 
 ghost use Rattle.std.specs.Prelude.{◌≡◌, option_map, IfOk, IfSome};
 ghost use Rattle.std.specs.Result.{result_map_both};
-ghost use Rattle.sj_text_core.specs.Reads.{as_boolean, as_signed, as_unsigned, as_text, as_items, as_members, member_as, try_member_as};
+ghost use Rattle.sj_text_core.specs.Reads.{as_boolean, as_signed, as_unsigned, as_text, as_items, as_members, kind_of, some_as, member_as, try_member_as};
 ghost use Rattle.sj_lazy.specs.Array.{items, array_choice};
 ghost use Rattle.sj_lazy.specs.Object.{members, object_choice};
 ghost use Rattle.sj_lazy.specs.Value.{tree, choice, found};
@@ -17,6 +17,16 @@ use sj_text_core::{ExtendedValueType, TryTypeError, ValueAsScalar, ValueType};
 /// fault on a non-object (an object was expected) and where the value is no `T` (a `T` was
 /// expected), and `Ok(None)` where there is no such member.
 impl<'b, 't, 'i> Value<'b, 't, 'i> {
+    /// What was read of it as that kind, or which kind it is.
+    fn read_as<T>(&self, read: Option<T>, expected: ValueType) -> Result<Option<T>, TryTypeError>
+        ensures { result ≡ some_as read expected (kind_of (tree self.now)) }
+    {
+        match read {
+            Some(found) => Ok(Some(found)),
+            None => Err(self.fault(expected)),
+        }
+    }
+
     /// The truth value of the member with that key.
     pub fn get_bool(&self, key: &str) -> Option<bool>
         ensures { result ≡ member_as as_boolean (found self.now key.now) }
@@ -29,7 +39,7 @@ impl<'b, 't, 'i> Value<'b, 't, 'i> {
         ensures { result ≡ try_member_as as_boolean ValueType.Bool (tree self.now) (found self.now key.now) }
     {
         match self.try_get(key)? {
-            Some(value) => Ok(Some(value.try_as_bool()?)),
+            Some(value) => value.read_as(value.as_bool(), ValueType::Bool),
             None => Ok(None),
         }
     }
@@ -46,7 +56,7 @@ impl<'b, 't, 'i> Value<'b, 't, 'i> {
         ensures { result ≡ try_member_as (as_signed 8) (ValueType.Extended ExtendedValueType.I8) (tree self.now) (found self.now key.now) }
     {
         match self.try_get(key)? {
-            Some(value) => Ok(Some(value.try_as_i8()?)),
+            Some(value) => value.read_as(value.as_i8(), ValueType::Extended(ExtendedValueType::I8)),
             None => Ok(None),
         }
     }
@@ -63,7 +73,10 @@ impl<'b, 't, 'i> Value<'b, 't, 'i> {
         ensures { result ≡ try_member_as (as_signed 16) (ValueType.Extended ExtendedValueType.I16) (tree self.now) (found self.now key.now) }
     {
         match self.try_get(key)? {
-            Some(value) => Ok(Some(value.try_as_i16()?)),
+            Some(value) => value.read_as(
+                value.as_i16(),
+                ValueType::Extended(ExtendedValueType::I16),
+            ),
             None => Ok(None),
         }
     }
@@ -80,7 +93,10 @@ impl<'b, 't, 'i> Value<'b, 't, 'i> {
         ensures { result ≡ try_member_as (as_signed 32) (ValueType.Extended ExtendedValueType.I32) (tree self.now) (found self.now key.now) }
     {
         match self.try_get(key)? {
-            Some(value) => Ok(Some(value.try_as_i32()?)),
+            Some(value) => value.read_as(
+                value.as_i32(),
+                ValueType::Extended(ExtendedValueType::I32),
+            ),
             None => Ok(None),
         }
     }
@@ -97,7 +113,7 @@ impl<'b, 't, 'i> Value<'b, 't, 'i> {
         ensures { result ≡ try_member_as (as_signed 64) ValueType.I64 (tree self.now) (found self.now key.now) }
     {
         match self.try_get(key)? {
-            Some(value) => Ok(Some(value.try_as_i64()?)),
+            Some(value) => value.read_as(value.as_i64(), ValueType::I64),
             None => Ok(None),
         }
     }
@@ -114,7 +130,7 @@ impl<'b, 't, 'i> Value<'b, 't, 'i> {
         ensures { result ≡ try_member_as (as_signed 128) ValueType.I128 (tree self.now) (found self.now key.now) }
     {
         match self.try_get(key)? {
-            Some(value) => Ok(Some(value.try_as_i128()?)),
+            Some(value) => value.read_as(value.as_i128(), ValueType::I128),
             None => Ok(None),
         }
     }
@@ -131,7 +147,7 @@ impl<'b, 't, 'i> Value<'b, 't, 'i> {
         ensures { result ≡ try_member_as (as_unsigned 8) (ValueType.Extended ExtendedValueType.U8) (tree self.now) (found self.now key.now) }
     {
         match self.try_get(key)? {
-            Some(value) => Ok(Some(value.try_as_u8()?)),
+            Some(value) => value.read_as(value.as_u8(), ValueType::Extended(ExtendedValueType::U8)),
             None => Ok(None),
         }
     }
@@ -148,7 +164,10 @@ impl<'b, 't, 'i> Value<'b, 't, 'i> {
         ensures { result ≡ try_member_as (as_unsigned 16) (ValueType.Extended ExtendedValueType.U16) (tree self.now) (found self.now key.now) }
     {
         match self.try_get(key)? {
-            Some(value) => Ok(Some(value.try_as_u16()?)),
+            Some(value) => value.read_as(
+                value.as_u16(),
+                ValueType::Extended(ExtendedValueType::U16),
+            ),
             None => Ok(None),
         }
     }
@@ -165,7 +184,10 @@ impl<'b, 't, 'i> Value<'b, 't, 'i> {
         ensures { result ≡ try_member_as (as_unsigned 32) (ValueType.Extended ExtendedValueType.U32) (tree self.now) (found self.now key.now) }
     {
         match self.try_get(key)? {
-            Some(value) => Ok(Some(value.try_as_u32()?)),
+            Some(value) => value.read_as(
+                value.as_u32(),
+                ValueType::Extended(ExtendedValueType::U32),
+            ),
             None => Ok(None),
         }
     }
@@ -182,7 +204,7 @@ impl<'b, 't, 'i> Value<'b, 't, 'i> {
         ensures { result ≡ try_member_as (as_unsigned 64) ValueType.U64 (tree self.now) (found self.now key.now) }
     {
         match self.try_get(key)? {
-            Some(value) => Ok(Some(value.try_as_u64()?)),
+            Some(value) => value.read_as(value.as_u64(), ValueType::U64),
             None => Ok(None),
         }
     }
@@ -199,7 +221,7 @@ impl<'b, 't, 'i> Value<'b, 't, 'i> {
         ensures { result ≡ try_member_as (as_unsigned 128) ValueType.U128 (tree self.now) (found self.now key.now) }
     {
         match self.try_get(key)? {
-            Some(value) => Ok(Some(value.try_as_u128()?)),
+            Some(value) => value.read_as(value.as_u128(), ValueType::U128),
             None => Ok(None),
         }
     }
@@ -216,7 +238,10 @@ impl<'b, 't, 'i> Value<'b, 't, 'i> {
         ensures { result ≡ try_member_as (as_unsigned 64) (ValueType.Extended ExtendedValueType.Usize) (tree self.now) (found self.now key.now) }
     {
         match self.try_get(key)? {
-            Some(value) => Ok(Some(value.try_as_usize()?)),
+            Some(value) => value.read_as(
+                value.as_usize(),
+                ValueType::Extended(ExtendedValueType::Usize),
+            ),
             None => Ok(None),
         }
     }
