@@ -5,10 +5,10 @@ ghost use Rattle.sj_text_core.specs.Find.{find};
 ghost use Rattle.sj_text_core.specs.Reads.{as_items, as_members};
 ghost use Rattle.sj_document.specs.Document.{tree, why_of, with_member, without_member, with_item, without_last, last_item};
 
+use super::Lazy;
 use crate::upgrade::{Lent, Upgrade};
-use crate::value::Lazy;
-use sj_object::KeyText;
 use sj_document::Document;
+use sj_object::KeyText;
 use sj_text_core::{AccessError, Refused};
 use std::alloc::{AllocError, Global};
 

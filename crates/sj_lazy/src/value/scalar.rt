@@ -1,6 +1,6 @@
-//! Typed reads.
+//! The kind of a lazy value, and its reads as a scalar or a text.
 
-use crate::value::{Lazy, Value};
+use super::{Lazy, Value};
 use sj_text_core::{Meaning, TypedValue, ValueAsScalar, ValueType};
 
 impl<'b, 't, 'i> Meaning for Value<'b, 't, 'i> {
