@@ -20,6 +20,7 @@
 //! Both put a text between quotes by one loop, which copies runs of plain bytes.
 #![tactic(auto)]
 
+mod formatter;
 mod generator;
 mod layout;
 mod output;
@@ -27,6 +28,7 @@ mod parts;
 mod print;
 mod whole;
 
+pub use formatter::display;
 pub use generator::{
     BaseGenerator, DumpGenerator, PrettyGenerator, PrettyWriterGenerator, WriterGenerator,
 };

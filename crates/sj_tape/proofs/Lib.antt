@@ -28,3 +28,4 @@ pub mod Compared
 pub mod Counted
 pub mod Levels
 pub mod Yielded
+pub mod TypedReads
