@@ -86,12 +86,12 @@ scalar-number = refl
 scalar-text : as_scalar (text (codes "5")) ≡ None
 scalar-text = refl
 
--- a text is displayed without quotes, and nothing is promised of a container
-displayed-text : displayed (text (codes "a")) ≡ Some (codes "a")
+-- a text is displayed without quotes, but with them inside an array
+displayed-text : displayed (text (codes "a")) ≡ codes "a"
 displayed-text = refl
 
-displayed-null : displayed null ≡ Some (codes "null")
+displayed-null : displayed null ≡ codes "null"
 displayed-null = refl
 
-displayed-list : displayed (list no_items) ≡ None
+displayed-list : displayed (list (item (text (codes "a")) (item null no_items))) ≡ codes "[\"a\",null]"
 displayed-list = refl
