@@ -1,5 +1,4 @@
 pub mod Marks
-pub mod Parse
 pub mod Pieces
 pub mod Room
 pub mod Sinks
@@ -10,7 +9,6 @@ pub mod Value
 pub mod Items
 pub mod Members
 pub mod Lookup
-pub mod Laws
 pub use Rattle.sj_text_core.specs.Tree
 pub use Rattle.sj_text_core.specs.Grammar
 pub use Rattle.sj_text_core.specs.Find
