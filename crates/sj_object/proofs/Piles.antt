@@ -13,7 +13,7 @@ use Rattle.sj_text_core.specs.declared.repeats.Repeats.{Repeats}
 use Rattle.sj_text_core.specs.declared.repeats.Repeats.TheVariants.{First, Last}
 use Rattle.sj_tape.specs.Marks.{static_mark}
 use Rattle.sj_text_core.specs.Scalars.{static_tree}
-use Rattle.sj_text_core.specs.Flat.{paired, trees_of-flat, trees_of-flat_members}
+use Rattle.sj_text_core.specs.Flat.{texts_and_values, trees_of-flat, trees_of-flat_members}
 use Rattle.sj_text_core.specs.declared.static_node.StaticNode.{StaticNode}
 use Rattle.sj_text_core.specs.declared.static_node.StaticNode.TheVariants as scalar
 use Rattle.sj_object.specs.Entries.{Entry, texts}
@@ -276,7 +276,7 @@ enough : (c : Repeats) (is : Items) (ts : List Tree) → items_len is ≤ length
 enough c no_items ts = omega arith
 enough c (item t is) ts = omega (arith, enough c is ts)
 
-paired_up : (c : Repeats) (ms : Members) (ts : List Tree) → HasPairs (members_len ms) (kept_seen c (paired ms ++ ts))
+paired_up : (c : Repeats) (ms : Members) (ts : List Tree) → HasPairs (members_len ms) (kept_seen c (texts_and_values ms ++ ts))
 paired_up c no_members ts = tt
 paired_up c (member k t ms) ts = paired_up c ms ts
 

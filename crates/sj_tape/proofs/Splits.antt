@@ -2,9 +2,9 @@
 use Rattle.std.proofs.Common.{◌≡◌, ℕ, zero, suc, ◌+◌, ◌<◌, ◌≤◌, List, [], ◌∷◌, ◌++◌, length, take, drop, Bor, get_or, refl, sym, ap, ◌∙◌, arith, append-nil, length-append}
 use Rattle.std.proofs.lemmas.List.{length-map, take_at, take-map, append_cancel_left}
 use Rattle.std.proofs.Math.ListN.{get_or-map}
-use Rattle.sj_text_core.specs.Tree.{Tree, null, boolean, int, text, list, obj, Items, no_items, item, items_len, Members, no_members, member, members_len, members_from}
+use Rattle.sj_text_core.specs.Tree.{Tree, null, boolean, int, text, list, obj, Items, no_items, item, items_len, Members, no_members, member, members_len, members_from, listed, paired}
 use Rattle.sj_text_core.specs.Nodes.{Mark, string, flat, flat_items, flat_members, trees_of, tree_of, first_tree, items_of, members_of, members_in, AreMembers, IsPreorder, width}
-use Rattle.sj_text_core.specs.Flat.{paired as texts_before, trees_of-flat, trees_of-flat_members}
+use Rattle.sj_text_core.specs.Flat.{texts_and_values, trees_of-flat, trees_of-flat_members}
 use Rattle.std.specs.Prelude.{slice_get}
 use Rattle.sj_text_core.specs.Find.{nth_item}
 use Rattle.sj_text_core.specs.Code.{tree_of-flat}
@@ -13,7 +13,7 @@ use Rattle.sj_tape.specs.declared.node.Node.TheVariants.{Static, String, Array, 
 use Rattle.sj_text_core.specs.declared.static_node.StaticNode.TheVariants.{Null, Bool, I64, U64, I128, U128}
 use Rattle.sj_tape.specs.Marks.{mark, marks}
 use Rattle.sj_tape.specs.Fronts.{BeginsTree}
-use Rattle.sj_tape.specs.Parts.{items_in, AreItems, listed, paired}
+use Rattle.sj_tape.specs.Parts.{items_in, AreItems}
 
 -- the first tree of nodes, and what stands behind it, are theirs alone
 pub flat-append : (t u : Tree) (x y : List Mark) → flat t ++ x ≡ flat u ++ y → (t ≡ u) × (x ≡ y)
@@ -82,7 +82,7 @@ pub items_in-flat : (is : Items) → items_in (flat_items is) ≡ is
 items_in-flat is =
     ap (λ l. items_of (length (flat_items is)) l) (trees_of-flat_items is) ∙ items_of-listed is (length (flat_items is)) (items_len-le is)
 
-members_of-texts : (ms : Members) (n : ℕ) → members_len ms ≤ n → members_of n (texts_before ms) ≡ ms
+members_of-texts : (ms : Members) (n : ℕ) → members_len ms ≤ n → members_of n (texts_and_values ms) ≡ ms
 members_of-texts no_members zero h = refl
 members_of-texts no_members (suc n) h = refl
 members_of-texts (member k t ms) zero h = absurd (omega (arith, h))
@@ -95,8 +95,8 @@ members_len-le (member k t ms) = omega (arith, members_len-le ms, length-append 
 -- members have their nodes alone
 pub members_in-flat : (ms : Members) → members_in (flat_members ms) ≡ ms
 members_in-flat ms =
-    let e : trees_of (flat_members ms) ≡ texts_before ms =
-    ap (λ l. trees_of l) (sym (append-nil (flat_members ms))) ∙ (trees_of-flat_members ms [] ∙ append-nil (texts_before ms)) in
+    let e : trees_of (flat_members ms) ≡ texts_and_values ms =
+    ap (λ l. trees_of l) (sym (append-nil (flat_members ms))) ∙ (trees_of-flat_members ms [] ∙ append-nil (texts_and_values ms)) in
     ap (λ l. members_of (length (flat_members ms)) l) e ∙ members_of-texts ms (length (flat_members ms)) (members_len-le ms)
 
 -- the first of some items

@@ -25,11 +25,10 @@ pub struct Array<'t, 'i> {
 impl<'t, 'i> Array<'t, 'i> {
     ghost use Rattle.std.specs.Prelude.{◌≡◌, ◌↔◌, IsTrue, option_map};
     ghost use Rattle.sj_text_core.specs.Find.{nth_item};
-    ghost use Rattle.sj_text_core.specs.Tree.{no_items};
+    ghost use Rattle.sj_text_core.specs.Tree.{no_items, listed};
     ghost use Rattle.std.specs.Prelude.{map, IfSome};
     ghost use Rattle.sj_tape.specs.Value.{tree, choice};
     ghost use Rattle.sj_tape.specs.Items.{items, items_ahead, parts_ahead, array_choice};
-    ghost use Rattle.sj_tape.specs.Parts.{listed};
 
     /// The array with so many items, whose nodes are these.
     pub(crate) fn from_nodes(len: usize, nodes: &'t [Node<'i>], repeats: Repeats) -> Self
