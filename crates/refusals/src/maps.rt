@@ -155,7 +155,11 @@ fn insert_new(rt: &(impl Print + AllocGlobal), call: Call, members: u64) -> Resu
                     .is_some_and(|last| last.as_str() == key.as_str());
                 say_kept(rt, "key and value", is_key && value == members)?;
             }
-            say_kept(rt, "map", is_numbered(&map, &before, buckets_at(before.len())))?;
+            say_kept(
+                rt,
+                "map",
+                is_numbered(&map, &before, buckets_at(before.len())),
+            )?;
             match insert_by(call, &mut map, key_of(alloc, members)?, members) {
                 Answer::Inserted => say(rt, "then inserted, ")?,
                 _ => say(rt, "then NOT INSERTED, ")?,
@@ -184,7 +188,11 @@ pub fn insert_present(
         _ => say(rt, "ANOTHER ANSWER, ")?,
     }
     if let Some(value) = map.get_mut("k05") {
-        let wanted = if matches!(call, Call::OrInsert) { 5 } else { 99 };
+        let wanted = if matches!(call, Call::OrInsert) {
+            5
+        } else {
+            99
+        };
         say_kept(rt, "value", *value == wanted)?;
         *value = 5;
     }
@@ -241,7 +249,10 @@ pub fn reads(rt: &(impl Print + AllocGlobal)) -> Result<(), Fault> {
     say_call(rt)?;
     let found = map.get("k07").copied() == Some(7)
         && map.get("k33").is_none()
-        && map.get_hashed(ObjectHasher::default().hash_text("k32"), "k32").copied() == Some(32)
+        && map
+            .get_hashed(ObjectHasher::default().hash_text("k32"), "k32")
+            .copied()
+            == Some(32)
         && map.contains_key("k31")
         && map.keys().count() == 33
         && map.values().count() == 33

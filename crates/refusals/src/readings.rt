@@ -3,8 +3,8 @@
 use crate::fault::Fault;
 use crate::say::{say, say_bytes, say_call, say_made};
 use crate::texts::text_of;
-use sj_object::{KeyText, deserialize, deserialize_with_buffers};
 use sj_document::{BorrowedValue, Document, OwnedValue, outline};
+use sj_object::{KeyText, deserialize, deserialize_with_buffers};
 use sj_tape::{Buffers, Tape, to_tape, to_tape_with_buffers};
 use sj_text_core::{ErrorKind, StaticNode};
 use std::borrow::CowStr;

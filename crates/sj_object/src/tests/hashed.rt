@@ -204,7 +204,14 @@ fn empties<S: KeyHasher + Drop>(
 fn closes_up_like_a_plain_list(rt: HostRuntime) -> Result<(), Fail> {
     let alloc = rt.alloc();
     for members in [31, 32, 33, 64, 65] {
-        for (way, collides) in [(0, true), (1, true), (2, true), (0, false), (1, false), (2, false)] {
+        for (way, collides) in [
+            (0, true),
+            (1, true),
+            (2, true),
+            (0, false),
+            (1, false),
+            (2, false),
+        ] {
             let here = format!(in alloc; "{members} {way} {collides}")?;
             let fixed = ObjectHasher::default();
             assert!(rt; empties(alloc, members, way, collides, fixed)?, "{here}");
