@@ -1,0 +1,6 @@
+//! Borrowed documents, and known keys.
+#![tactic(auto)]
+
+pub mod known_key;
+
+pub use known_key::KnownKey;
