@@ -1,1 +1,2 @@
 mod Objects
+mod Puts

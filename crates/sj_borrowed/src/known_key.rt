@@ -1,18 +1,21 @@
 //! Keys that are looked up again and again, kept beside their hash.
 
-ghost use Rattle.std.specs.Prelude.{◌≡◌, string_bytes};
+ghost use Rattle.std.specs.Prelude.{◌≡◌, string_bytes, IfOk, IsOk, IsTrue};
 ghost use Rattle.std.specs.Cow.{cow_str_bytes};
 ghost use Rattle.sj_text_core.specs.Hash.{hash as hash_of_text};
 
+mod error;
+mod insert;
 mod lookup;
+mod or_insert;
 mod target;
 
-pub use target::{KnownKeyTarget, KnownKeyTargetMut};
-
+pub use error::Error;
 use sj_object::{KeyHasher, KeyText, ObjectHasher};
 use std::alloc::AllocError;
 use std::borrow::CowStr;
 use std::marker::Model;
+pub use target::{KnownKeyTarget, KnownKeyTargetMut};
 
 /// A key beside its hash, which is taken once, where the known key is made. Contracts see it as
 /// its key.
@@ -37,6 +40,9 @@ impl<'k> Model for KnownKey<'k> {
 }
 
 impl<'k> KnownKey<'k> {
+    ghost use Rattle.sj_object.specs.Keys.{is_borrowed};
+    ghost use Rattle.sj_borrowed.specs.Inserts.{IsCopy};
+
     /// The key.
     pub fn key(&self) -> &CowStr<'k>
         ensures { result.now ≡ self.now }
@@ -45,10 +51,21 @@ impl<'k> KnownKey<'k> {
     }
 
     /// The hash of the key's text.
-    pub fn hash(&self) -> u64
+    fn hash(&self) -> u64
         ensures { result ≡ hash_of_text (cow_str_bytes self.now) }
     {
         self.hash
+    }
+
+    /// A copy of the key, which is refused only where an owned text gets no memory.
+    fn copied(&self) -> Result<CowStr<'k>, AllocError>
+        ensures copy { IfOk result (IsCopy self.now) }
+        ensures succeeds { IsTrue (is_borrowed self.now) → IsOk result }
+    {
+        match &self.key {
+            CowStr::Borrowed(text) => Ok(CowStr::Borrowed(*text)),
+            CowStr::Owned(text) => Ok(CowStr::Owned(text.clone()?)),
+        }
     }
 }
 
@@ -86,11 +103,13 @@ impl<'k> From<String> for KnownKey<'k> {
 }
 
 impl<'k> Clone for KnownKey<'k> {
-    ghost is_clone = { λ k copy. cow_str_bytes copy ≡ cow_str_bytes k };
+    ghost use Rattle.sj_borrowed.specs.Inserts.{IsCopy};
+
+    ghost is_clone = { IsCopy };
 
     fn clone(&self) -> Result<KnownKey<'k>, AllocError> {
         Ok(KnownKey {
-            key: self.key.clone()?,
+            key: self.copied()?,
             hash: self.hash,
         })
     }
