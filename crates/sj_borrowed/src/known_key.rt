@@ -1,6 +1,6 @@
 //! Keys that are looked up again and again, kept beside their hash.
 
-ghost use Rattle.std.specs.Prelude.{◌≡◌, string_bytes, IfOk, IsOk, IsTrue};
+ghost use Rattle.std.specs.Prelude.{◌≡◌, string_bytes};
 ghost use Rattle.std.specs.Cow.{cow_str_bytes};
 ghost use Rattle.sj_text_core.specs.Hash.{hash as hash_of_text};
 
@@ -8,6 +8,7 @@ mod error;
 mod insert;
 mod lookup;
 mod or_insert;
+mod stored;
 mod target;
 
 pub use error::Error;
@@ -15,6 +16,7 @@ use sj_object::{KeyHasher, KeyText, ObjectHasher};
 use std::alloc::AllocError;
 use std::borrow::CowStr;
 use std::marker::Model;
+pub use stored::StoredKey;
 pub use target::{KnownKeyTarget, KnownKeyTargetMut};
 
 /// A key beside its hash, which is taken once, where the known key is made. Contracts see it as
@@ -40,9 +42,6 @@ impl<'k> Model for KnownKey<'k> {
 }
 
 impl<'k> KnownKey<'k> {
-    ghost use Rattle.sj_object.specs.Keys.{is_borrowed};
-    ghost use Rattle.sj_borrowed.specs.Inserts.{IsCopy};
-
     /// The key.
     pub fn key(&self) -> &CowStr<'k>
         ensures { result.now ≡ self.now }
@@ -55,17 +54,6 @@ impl<'k> KnownKey<'k> {
         ensures { result ≡ hash_of_text (cow_str_bytes self.now) }
     {
         self.hash
-    }
-
-    /// A copy of the key, which is refused only where an owned text gets no memory.
-    fn copied(&self) -> Result<CowStr<'k>, AllocError>
-        ensures copy { IfOk result (IsCopy self.now) }
-        ensures succeeds { IsTrue (is_borrowed self.now) → IsOk result }
-    {
-        match &self.key {
-            CowStr::Borrowed(text) => Ok(CowStr::Borrowed(*text)),
-            CowStr::Owned(text) => Ok(CowStr::Owned(text.clone()?)),
-        }
     }
 }
 
@@ -109,7 +97,7 @@ impl<'k> Clone for KnownKey<'k> {
 
     fn clone(&self) -> Result<KnownKey<'k>, AllocError> {
         Ok(KnownKey {
-            key: self.copied()?,
+            key: CowStr::copy_of(self)?,
             hash: self.hash,
         })
     }

@@ -9,6 +9,7 @@ ghost use Rattle.sj_object.specs.Index.{buckets_for};
 
 use super::KnownKey;
 use super::error::Error;
+use super::stored::StoredKey;
 use sj_document::{BorrowedValue, Object};
 use sj_object::KeyText;
 use sj_text_core::{Refused, TypedValue};
@@ -40,7 +41,7 @@ impl<'k> KnownKey<'k> {
         if let Some(place) = map.get_hashed_mut(self.hash(), self.key().text()) {
             return Ok(Some(mem::replace(place, value)));
         }
-        let key = match self.copied() {
+        let key = match CowStr::copy_of(self) {
             Ok(key) => key,
             Err(why) => return Err(Refused { why, value }),
         };

@@ -4,8 +4,8 @@ use Rattle.sj_document.specs.Document.{tree}
 use Rattle.sj_borrowed.proofs.Objects.{object_of_lem, is_object, there, absent, not_found, found_value}
 use Rattle.sj_borrowed.proofs.known_key.KnownKey.lookup_or_insert_mut.Goals as goal
 
-pub map_lookup_or_insert_mut-requires : goal.map_lookup_or_insert_mut-requires
-map_lookup_or_insert_mut-requires g c =
+pub get_or_put_with-requires : goal.get_or_put_with-requires
+get_or_put_with-requires g c =
     let u = tree cow_str_bytes c.args.target.now in
     let m = c.in-Some.members.now in
     let k = cow_str_bytes c.args.key.now in
