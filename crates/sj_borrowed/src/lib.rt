@@ -4,3 +4,6 @@
 pub mod known_key;
 
 pub use known_key::KnownKey;
+
+#[cfg(test)]
+mod tests;
