@@ -1,21 +1,28 @@
-ghost use Rattle.std.specs.Prelude.{IsSome};
+ghost use Rattle.std.specs.Prelude.{◌≡◌, IsSome, OnOk, OnErr};
 ghost use Rattle.std.specs.Cow.{cow_str_bytes};
 ghost use Rattle.sj_text_core.specs.Find.{find};
 ghost use Rattle.sj_document.specs.Document.{tree};
+ghost use Rattle.sj_borrowed.specs.Inserts.{IsCopy};
+ghost use Rattle.sj_borrowed.specs.Loans.{IsInserted};
 
 use crate::KnownKey;
 use crate::known_key::Error;
-use sj_document::{BorrowedValue, Document, Object, borrowed_from_tape, owned_from_tape};
+use sj_document::{BorrowedValue, Document, borrowed_from_tape, owned_from_tape};
 use sj_object::{HashMap, KeyText, ObjectHasher};
 use sj_tape::to_tape;
 use sj_text_core::{Refused, SameAs, StaticNode, TypedValue, ValueType, Writable};
-use std::alloc::Global;
+use std::alloc::{AllocError, Global};
 use std::borrow::CowStr;
 use std::test::Fail;
 
 fn read<'t>(alloc: Global, text: &'t mut [u8]) -> Result<BorrowedValue<'t>, Fail> {
     let tape = to_tape(alloc, text)?;
     Ok(borrowed_from_tape(alloc, tape.as_value())?)
+}
+
+/// Whether there is a value, and it is that number.
+fn is(value: Option<&BorrowedValue<'_>>, n: u64) -> bool {
+    value.is_some_and(|v| v.same_as(&n))
 }
 
 fn number<'v>(n: u64) -> BorrowedValue<'v> {
@@ -46,10 +53,10 @@ fn inserts(rt: HostRuntime) -> Result<(), Fail> {
         let first = KnownKey::from("key");
         let second = KnownKey::from(String::from_str(alloc, "cake")?);
         let before = first.insert(&mut value, number(2))?;
-        assert!(rt; before.is_some_and(|v| v.same_as(&1_u64)));
+        assert!(rt; is(before.as_ref(), 1));
         assert!(rt; second.insert(&mut value, number(3))?.is_none());
         assert_eq!(rt; value.encode(alloc)?.as_str(), "{\"key\":2,\"cake\":3}");
-        assert!(rt; second.lookup(&value).is_some_and(|v| v.same_as(&3_u64)));
+        assert!(rt; is(second.lookup(&value), 3));
     }
     Ok(())
 }
@@ -195,35 +202,70 @@ fn colliding(alloc: Global, digits: u64) -> Result<String, Fail> {
     Ok(text)
 }
 
+/// Puts a member into the object; whether its key was absent before.
+fn adds<'k>(value: &mut BorrowedValue<'k>, key: &KnownKey<'k>, n: u64) -> Result<bool, Fail> {
+    if key.lookup(value).is_some() {
+        return Ok(false);
+    }
+    if n % 2 == 0 {
+        let made = KnownKey::lookup_or_insert_mut(value, key, || number(n))?;
+        return Ok(made.same_as(&n));
+    }
+    match value {
+        Document::Object(members) => Ok(key.map_insert(members, number(n))?.is_none()),
+        _ => Ok(false),
+    }
+}
+
+/// Whether the key has the number, by each call that finds it.
+fn finds<'k>(value: &mut BorrowedValue<'k>, key: &KnownKey<'k>, n: u64) -> Result<bool, Fail> {
+    let by_text = is(value.get(key.key().text()), n);
+    let by_key = is(key.lookup(value), n);
+    let to_write = KnownKey::lookup_mut(value, key).is_some_and(|v| v.same_as(&n));
+    let found = KnownKey::lookup_or_insert_mut(value, key, || number(99))?.same_as(&n);
+    let before = key.insert(value, number(n))?;
+    Ok(by_text && by_key && to_write && found && is(before.as_ref(), n))
+}
+
 #[test]
 fn finds_among_buckets(rt: HostRuntime) -> Result<(), Fail> {
     let alloc = rt.alloc();
-    let mut members: Object<CowStr<'static>> = HashMap::with_capacity_and_hasher(
-        alloc,
-        0,
-        ObjectHasher::default(),
-    )?;
+    let mut value = roomy(alloc, 0)?;
     for i in 0..40_u64 {
         let key = KnownKey::from(colliding(alloc, i)?);
-        assert!(rt; key.map_lookup(&members).is_none());
-        if i % 2 == 0 {
-            assert!(rt; key.map_insert(&mut members, number(i))?.is_none());
-        } else {
-            let made = KnownKey::map_lookup_or_insert_mut(&mut members, &key, || number(i))?;
-            assert!(rt; made.same_as(&i));
-        }
+        assert!(rt; adds(&mut value, &key, i)?);
     }
+    for i in 0..40_u64 {
+        let key = KnownKey::from(colliding(alloc, i)?);
+        assert!(rt; finds(&mut value, &key, i)?);
+    }
+    let Document::Object(members) = &value else {
+        return Err("no object".into());
+    };
+    assert_eq!(rt; members.len(), 41);
     assert_eq!(rt; members.buckets(), Some(64));
-    for i in 0..40_u64 {
-        let key = KnownKey::from(colliding(alloc, i)?);
-        assert!(rt; members.get(key.key().text()).is_some_and(|v| v.same_as(&i)));
-        assert!(rt; key.map_lookup(&members).is_some_and(|v| v.same_as(&i)));
-        let found = KnownKey::map_lookup_or_insert_mut(&mut members, &key, || number(99))?;
-        assert!(rt; found.same_as(&i));
-        let before = key.map_insert(&mut members, number(i + 1))?;
-        assert!(rt; before.is_some_and(|v| v.same_as(&i)));
-    }
-    assert_eq!(rt; members.len(), 40);
+    Ok(())
+}
+
+/// What the map ends as is known to the caller.
+fn sets<'k>(
+    map: &mut HashMap<CowStr<'k>, u64, ObjectHasher>,
+    key: &KnownKey<'k>,
+) -> Result<(), AllocError>
+    ensures ok { OnOk result (IsInserted (IsCopy key.now) (cow_str_bytes key.now) map.old map.new 7) }
+    ensures err { OnErr result (map.new ≡ map.old) }
+{
+    let place = KnownKey::map_lookup_or_insert_mut(map, key, || 1)?;
+    *place = 7;
+    Ok(())
+}
+
+#[test]
+fn writes_to_a_map(rt: HostRuntime) -> Result<(), Fail> {
+    let mut map = HashMap::with_capacity_and_hasher(rt.alloc(), 0, ObjectHasher::default())?;
+    let key = KnownKey::from("a");
+    sets(&mut map, &key)?;
+    assert_eq!(rt; key.map_lookup(&map), Some(&7));
     Ok(())
 }
 
