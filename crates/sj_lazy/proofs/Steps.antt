@@ -1,8 +1,6 @@
 -- Steps of an upgrade.
-use Rattle.std.proofs.Common.{◌≡◌, Option, Some, None, refl, sym}
+use Rattle.std.proofs.Common.{◌≡◌, Option, Some, None, sym}
 use Rattle.std.specs.Option.{OnSome}
-use Rattle.sj_text_core.specs.Tree.{Tree, null, boolean, int, text, list, obj}
-use Rattle.sj_text_core.specs.Reads.{as_members}
 use Rattle.sj_text_core.specs.Keep.{keep}
 use Rattle.sj_document.specs.declared.value.Document.{Document}
 use Rattle.sj_document.proofs.Kept.{tree_kept}

@@ -1,0 +1,11 @@
+use super::*;
+use std::test::Fail;
+
+mod calls;
+mod documents;
+mod serialize;
+
+/// The document of a text.
+fn parsed<'v>(bytes: &'v mut Vec<u8>) -> Result<Value<'v>, Fail> {
+    Ok(to_value(*bytes.allocator(), bytes.as_mut_slice())?)
+}
