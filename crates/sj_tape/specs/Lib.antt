@@ -1,5 +1,4 @@
 pub mod Marks
-pub mod Parse
 pub mod Pieces
 pub mod Room
 pub mod Sinks
@@ -10,6 +9,7 @@ pub mod Value
 pub mod Items
 pub mod Members
 pub mod Lookup
+<<<<<<< HEAD
 pub mod Laws
 pub use Rattle.sj_text_core.specs.Tree
 pub use Rattle.sj_text_core.specs.Grammar
@@ -26,3 +26,5 @@ pub use Rattle.sj_text_core.specs.Scalars
 pub use Rattle.sj_text_core.specs.Reads
 pub use Rattle.sj_text_core.specs.Nulls
 pub use Rattle.sj_text_core.specs.Code
+=======
+>>>>>>> h-core

@@ -3,7 +3,6 @@
 #![tactic(auto)]
 
 pub mod array;
-pub mod laws;
 mod node;
 pub mod object;
 mod preorder;

@@ -7,6 +7,9 @@ pub mod Escapes
 pub mod Last
 pub mod Equality
 pub mod Finds
+pub mod Single
 pub mod Comparing
 pub mod Equal
+pub mod Recarried
 pub mod Printed
+pub mod parse

@@ -1,5 +1,6 @@
 pub mod Tree
 pub mod Grammar
+pub mod Parse
 pub mod Find
 pub mod Keep
 pub mod Edits

@@ -5,13 +5,12 @@ use Rattle.std.proofs.lemmas.Bool.Decides.{nat_tests}
 use Rattle.std.proofs.lemmas.List.{drop_at, take_at}
 use Rattle.sj_text_core.specs.Tree.{Tree, null, boolean, int, text, list, obj, Items, no_items, item, Members, no_members, member, depth, items_depth, members_depth, items_len, members_len}
 use Rattle.sj_text_core.specs.Grammar.{IsSpace, IsBlank, IsDigit, IsString, IsNumeral, IsNumber, Spaced, Spelling, MoreItems, MoreMembers, value_of, number_of}
-use Rattle.sj_tape.specs.Parse.{Read, is_space, after_blank, text_at, is_digit, digits_len, goes_on, numeral_at, number_at, separator_at, separator_or, with_first, parts_at, all_parts_at, list_at, obj_at, member_at, after_key, value_at}
+use Rattle.sj_text_core.specs.Parse.{Read, is_space, after_blank, text_at, is_digit, digits_len, goes_on, numeral_at, number_at, separator_at, separator_or, with_first, parts_at, all_parts_at, list_at, obj_at, member_at, after_key, value_at}
 use Rattle.sj_text_core.specs.Tree.{items_from, members_from}
-use Rattle.sj_tape.proofs.Strings.{string_read}
-use Rattle.sj_tape.proofs.Numbers.{numeral_is}
-use Rattle.sj_tape.proofs.Steps.{is_space_of}
-use Rattle.sj_tape.proofs.Scalars.{value_by_other}
-use Rattle.sj_tape.proofs.Values.{value_is, in_list, in_obj}
+use Rattle.sj_text_core.proofs.parse.Strings.{string_read}
+use Rattle.sj_text_core.proofs.parse.Numbers.{numeral_is}
+use Rattle.sj_text_core.proofs.parse.Steps.{is_space_of}
+use Rattle.sj_text_core.proofs.parse.Values.{value_by_other, value_is, in_list, in_obj}
 
 -- no number goes on here
 pub record Ends (r : List ℕ) : Type 0 where
