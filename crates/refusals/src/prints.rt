@@ -2,7 +2,7 @@
 
 use crate::fault::Fault;
 use crate::say::{say, say_bytes, say_call};
-use sj_text_core::{
+use sj_tape::{
     BaseGenerator, DumpGenerator, PrettyGenerator, PrettyWriterGenerator, StaticNode,
     WriterGenerator,
 };

@@ -34,3 +34,4 @@ pub mod Printing
 pub mod Counted
 pub mod Levels
 pub mod Yielded
+pub mod TypedReads

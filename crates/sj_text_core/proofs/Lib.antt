@@ -4,9 +4,6 @@ pub mod Characters
 pub mod Proper
 pub mod rows
 pub mod Escapes
-pub mod Lanes
-pub mod Runs
-pub mod Utf8
 pub mod Last
 pub mod Equality
 pub mod Finds

@@ -17,8 +17,7 @@ use Rattle.sj_text_core.specs.Keep.{keep}
 use Rattle.sj_text_core.specs.Same.{Same}
 use Rattle.sj_text_core.proofs.Equality.{same-trans}
 use Rattle.sj_text_core.proofs.Finds.{same-keep, same-recarry, within-recarry}
-use Rattle.sj_text_core.proofs.Escapes.{escaped_plain}
-use Rattle.sj_text_core.proofs.Utf8.{escaped-append, escaped_high}
+use Rattle.sj_text_core.proofs.Escapes.{escaped_plain, escaped-append, escaped_high}
 
 -- decimals
 record Decimal (n : ℕ) (ds : List ℕ) : Type 0 where

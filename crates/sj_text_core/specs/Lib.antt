@@ -15,8 +15,6 @@ pub mod Reads
 pub mod Laws
 pub mod ScalarValues
 pub mod Nulls
-pub mod Generators
-pub mod Runs
 pub mod Repeats
 pub mod Agree
 pub mod Equal
