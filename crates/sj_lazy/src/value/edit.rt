@@ -64,7 +64,7 @@ impl<P: Upgrade<T> + Drop, B: Lent<T> + Drop, T: KeyText + Drop> Lazy<P, B, T> {
         ensures refused { IfErr result (λ e. IsLeft T.text_of (lazy_kept P.part_kept B.lent_tree T.text_of self.old) self.old self.new (e ≡ AccessError.OutOfMemory) ((e ≡ AccessError.NotAnObject) × (as_members (lazy_kept P.part_kept B.lent_tree T.text_of self.old) ≡ None))) }
     {
         match self.as_mut(alloc) {
-            Ok(document) => document.remove_member(key),
+            Ok(document) => document.remove(key),
             Err(_) => Err(AccessError::OutOfMemory),
         }
     }
