@@ -14,7 +14,9 @@ struct Shown<'f, W> {
 }
 
 impl<'f, W: fmt::Write> Output for Shown<'f, W> {
-    ghost holds = { λ _ _ _ _. Unit {0} };
+    ghost Start = { Unit {0} };
+
+    ghost holds = { λ _ _ _. Unit {0} };
 
     fn put_bytes(&mut self, bytes: &[u8]) {
         if self.result.is_ok() {

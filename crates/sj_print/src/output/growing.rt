@@ -7,7 +7,7 @@ ghost use Rattle.sj_text_core.specs.Print.{quoted};
 use super::{Output, append_line};
 use std::alloc::AllocError;
 
-/// The bytes of a print, for which memory is asked as they come. Once it was refused, no more are put.
+/// The bytes of a print, for which memory is asked as they come, and whether it was refused once.
 #[derive(Drop)]
 struct Growing<'a> {
     out: &'a mut Vec<u8>,
@@ -21,14 +21,14 @@ impl Output for Growing<'_> {
     ghost holds = { λ start g b. (g.out.ghost_name ≡ start.0) × (take (length start.1) g.out.now.items ≡ start.1) × (g.is_refused ≡ false → g.out.now.items ≡ start.1 ++ b) };
 
     fn put_bytes(&mut self, bytes: &[u8]) {
-        if !self.is_refused {
-            self.is_refused = self.out.extend_from_slice(bytes).is_err();
+        if self.out.extend_from_slice(bytes).is_err() {
+            self.is_refused = true;
         }
     }
 
     fn put_line(&mut self, spaces: usize) {
-        if !self.is_refused {
-            self.is_refused = append_line(self.out, spaces).is_err();
+        if append_line(self.out, spaces).is_err() {
+            self.is_refused = true;
         }
     }
 }
