@@ -8,11 +8,13 @@ ghost use Rattle.sj_document.specs.Document.{tree as document_tree};
 ghost use Rattle.sj_tape.specs.Value.{tree as tape_tree, choice as tape_choice};
 ghost use Rattle.sj_lazy.specs.Value.{tree, choice, kept, lent_tree};
 ghost use Rattle.sj_text_core.specs.Repeats.{keep_by};
+ghost use Rattle.sj_text_core.specs.declared.repeats.Repeats.TheVariants.{First};
 
 mod access;
 mod cmp;
 mod convert;
 mod edit;
+mod from;
 mod loans;
 mod scalar;
 mod serialize;
@@ -93,6 +95,7 @@ impl<'b, 't, 'i> Value<'b, 't, 'i> {
     /// A null, as a part of a tape.
     pub fn null() -> Self
         ensures tree { tree result ≡ null }
+        ensures choice { choice result ≡ First }
         ensures form { on_tape result ≡ true }
     {
         Lazy::Tape(TapeValue::null())
@@ -102,7 +105,7 @@ impl<'b, 't, 'i> Value<'b, 't, 'i> {
 impl<'b, 't, 'i> Default for Value<'b, 't, 'i> {
     ghost use Rattle.sj_lazy.specs.Value.{on_tape};
 
-    ghost is_default = { λ v. (tree v ≡ null) × (on_tape v ≡ true) };
+    ghost is_default = { λ v. (tree v ≡ null) × (choice v ≡ First) × (on_tape v ≡ true) };
 
     fn default() -> Self {
         Lazy::null()

@@ -4,7 +4,7 @@ ghost use Rattle.std.specs.Prelude.{◌≡◌, Some, None, IfOk, IfErr, IsSome, 
 ghost use Rattle.sj_document.specs.Document.{tree};
 ghost use Rattle.sj_document.specs.Rows.{object_row, array_row};
 ghost use Rattle.sj_object.specs.Members.{entry_members};
-ghost use Rattle.sj_text_core.specs.Find.{find};
+ghost use Rattle.sj_text_core.specs.Find.{find, nth};
 ghost use Rattle.sj_text_core.specs.Reads.{as_items, as_members};
 ghost use Rattle.sj_text_core.specs.Tree.{list, obj, items_from};
 
@@ -90,5 +90,19 @@ impl<P: Upgrade<T> + Drop, B: Lent<T> + Drop, T: KeyText + Drop> Lazy<P, B, T> {
     {
         let document = self.as_mut(alloc)?;
         Ok(document.get_mut(key))
+    }
+
+    /// The item at that position, counted from 0, to write; None past the last, and on a non-array.
+    /// What the value is then is not said: `array_mut` and the items' `get_mut` say it.
+    pub fn get_idx_mut(
+        &mut self,
+        alloc: Global,
+        index: usize,
+    ) -> Result<Option<&mut Document<T>>, AllocError>
+        ensures value { IfOk result (λ found. option_map (λ v. tree T.text_of v.now) found ≡ nth index (lazy_kept P.part_kept B.lent_tree T.text_of self.old)) }
+        ensures succeeds { IsSome (owned T.text_of self.old) → IsOk result }
+    {
+        let document = self.as_mut(alloc)?;
+        Ok(document.get_idx_mut(index))
     }
 }
