@@ -1,10 +1,10 @@
 -- Members of a lazy object compared with the entries of a map of std.
-use Rattle.std.proofs.Common.{◌≡◌, ℕ, ◌≤◌, Bool, true, false, ◌||◌, List, [], ◌∷◌, map, length, Option, Some, None, is_some, refl, sym, ap, ◌∙◌, subst, arith, true≢false, bytes_eq}
+use Rattle.std.proofs.Common.{◌≡◌, ℕ, suc, ◌≤◌, Bool, true, false, ◌||◌, List, [], ◌∷◌, map, length, Option, Some, None, is_some, refl, sym, ap, ◌∙◌, subst, arith, true≢false, bytes_eq}
 use Rattle.std.specs.Prelude.{MatchOption, if◌then◌else◌}
 use Rattle.std.specs.Option.{option_or}
 use Rattle.std.proofs.lemmas.Slice.Eq.{bytes_eq-Decides}
 use Rattle.sj_text_core.specs.Keep.{is_seen}
-use Rattle.sj_text_core.specs.Tree.{Tree, Members, no_members, member}
+use Rattle.sj_text_core.specs.Tree.{Tree, Members, no_members, member, members_len}
 use Rattle.sj_text_core.specs.Repeats.{find_member_by}
 use Rattle.sj_text_core.specs.declared.repeats.Repeats.{Repeats}
 use Rattle.sj_text_core.specs.declared.repeats.Repeats.TheVariants.{First, Last}
@@ -20,6 +20,10 @@ names text ps = map (λ (p : _ × _). text p.0) ps
 -- the texts of members
 abbrev pub keys_of : Members → List (List ℕ)
 keys_of ms = map (λ (p : List ℕ × Tree). p.0) (paired ms)
+
+pub keys_len : (ms : Members) → length (keys_of ms) ≡ members_len ms
+keys_len no_members = refl
+keys_len (member k t ms) = ap suc (keys_len ms)
 
 first_none : {A : Type 0} (b : Bool) (t : A) (r : Option A) → (if b then Some t else r) ≡ None → (b ≡ false) × (r ≡ None)
 first_none true t r e = cc
@@ -166,3 +170,9 @@ module _ {X L : Type 0} (R : Tree → X → Type 0) (text : L → List ℕ) (c :
 
     fewer : length (names text ps) ≤ length (keys_of ms)
     fewer = within_len (names text ps) (keys_of ms) d (has_within R text at (keys_of ms) (λ k n. there c k ms n) ps h)
+
+  -- the same at every text: no fewer
+  pub len_from_same : no_repeats (names text ps) ≡ true → SameEntries R text at ps → length ps ≤ members_len ms
+  len_from_same d h = omega (arith, fewer, names_len text ps, keys_len ms) where
+    fewer : length (names text ps) ≤ length (keys_of ms)
+    fewer = within_len (names text ps) (keys_of ms) d (has_within R text at (keys_of ms) (λ k n. there c k ms n) ps (each_from_same R text at ps d h))

@@ -2,3 +2,4 @@ mod choices;
 mod comparisons;
 mod forms;
 mod reads;
+mod scalars;

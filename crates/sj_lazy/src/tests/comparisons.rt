@@ -4,6 +4,8 @@ use crate::Value;
 use sj_document::owned_from_tape;
 use sj_tape::to_tape;
 use sj_text_core::{Repeats, SameAs};
+use std::alloc::Global;
+use std::collections::HashMap;
 use std::test::Fail;
 
 /// Two texts, and whether they mean one document.
@@ -48,5 +50,46 @@ fn forms_are_compared(rt: HostRuntime) -> Result<(), Fail> {
         assert_eq!(rt; first.same_as(&borrowed), same);
         assert_eq!(rt; upgraded.same_as(&borrowed), same);
     }
+    Ok(())
+}
+
+/// The map with these entries.
+fn map_of(alloc: Global, entries: &[(&str, u8)]) -> Result<HashMap<String, u8>, Fail> {
+    let mut map = HashMap::new(alloc);
+    for (key, value) in entries {
+        map.insert(String::from_str(alloc, key)?, *value)?;
+    }
+    Ok(map)
+}
+
+#[test]
+fn maps_are_compared_key_by_key(rt: HostRuntime) -> Result<(), Fail> {
+    let alloc = rt.alloc();
+    let one = map_of(alloc, &[("a", 1)])?;
+    let two = map_of(alloc, &[("a", 1), ("b", 2)])?;
+    let last = map_of(alloc, &[("a", 2)])?;
+    let rows = [
+        (r#"{"a":1,"a":2}"#, true, false),
+        (r#"{"a":1}"#, true, false),
+        (r#"{"b":2,"a":1}"#, false, true),
+        (r#"{"b":2,"a":1,"c":3}"#, false, false),
+        (r#"{"a":2}"#, false, false),
+        ("{}", false, false),
+        ("[1]", false, false),
+    ];
+    for (text, same_as_one, same_as_two) in rows {
+        let mut bytes = text.as_bytes().to_vec(alloc)?;
+        let tape = to_tape(alloc, bytes.as_mut_slice())?;
+        let mut value: Value<'_, '_, '_> = Value::from_tape(tape.as_value());
+        for _ in 0..2 {
+            assert_eq!(rt; value.same_as(&one), same_as_one, "{text}");
+            assert_eq!(rt; value.same_as(&two), same_as_two, "{text}");
+            value.as_mut(alloc)?;
+        }
+    }
+    let mut bytes = br#"{"a":1,"a":2}"#.to_vec(alloc)?;
+    let tape = to_tape(alloc, bytes.as_mut_slice())?;
+    let value: Value<'_, '_, '_> = Value::from_tape(tape.as_value_repeats(Repeats::Last));
+    assert!(rt; value.same_as(&last) && !value.same_as(&one));
     Ok(())
 }

@@ -191,3 +191,20 @@ fn parts_are_written_in_place(rt: HostRuntime) -> Result<(), Fail> {
     assert_eq!(rt; items.encode_pp(alloc)?.as_str(), "[\n  1,\n  3\n]");
     Ok(())
 }
+
+#[test]
+fn values_are_displayed(rt: HostRuntime) -> Result<(), Fail> {
+    let alloc = rt.alloc();
+    let mut text = br#"[null,-5,"a\"b",{"k":[]}]"#.to_vec(alloc)?;
+    let tape = to_tape(alloc, text.as_mut_slice())?;
+    let mut value: Value<'_, '_, '_> = Value::from_tape(tape.as_value());
+    let shown = ["null", "-5", "a\"b", r#"{"k":[]}"#];
+    for _ in 0..2 {
+        for (place, text) in shown.iter().enumerate() {
+            let item = value.get_idx(place).ok_or("an item")?;
+            assert_eq!(rt; format!(in alloc; "{item}")?.as_str(), *text);
+        }
+        value.as_mut(alloc)?;
+    }
+    Ok(())
+}

@@ -27,10 +27,24 @@ impl<'b, 't, 'i, K: KeyText + Hash, X: SameAsLazy, S: BuildHasher> SameAs<HashMa
 
     fn same_as(&self, other: &HashMap<K, X, S>) -> bool {
         match self.as_object() {
-            Some(object) => each_found(&object, other) && has_keys(&object, other),
+            Some(object) => same_entries(&object, other),
             None => false,
         }
     }
+}
+
+/// Whether each text has the same in both: as many members at least as entries, a same member for
+/// each entry, and no key more.
+fn same_entries<K: KeyText + Hash, X: SameAsLazy, S: BuildHasher>(
+    object: &Object,
+    entries: &HashMap<K, X, S>,
+) -> bool
+    ensures { IsTrue result ↔ SameEntries (λ u x. X.same_lazy (object_choice object.now, u) x) K.text_of (counted (object_choice object.now) (members_of object.now)) entries.now.entries }
+{
+    if object.len() < entries.len() {
+        return false;
+    }
+    each_found(object, entries) && has_keys(object, entries)
 }
 
 /// Whether each key of the map has the same value in the object.
