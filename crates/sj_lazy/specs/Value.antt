@@ -44,15 +44,6 @@ module _ {B T : Type 0} (t : T → List ℕ) where
   owned (Tape x) = None
   owned (Value c) = owned_of c
 
--- it owns a document that has the property
-abbrev pub OwnsOf : {B T : Type 0} → (Document T → Type 0) → Shared B T → Type 0
-OwnsOf p (Borrowed x) = ⊥
-OwnsOf p (Owned v) = p v
-
-abbrev pub Owns : {P B T : Type 0} → (Document T → Type 0) → Lazy P B T → Type 0
-Owns p (Tape x) = ⊥
-Owns p (Value c) = OwnsOf p c
-
 abbrev pub on_tape : {P B T : Type 0} → Lazy P B T → Bool
 on_tape (Tape x) = true
 on_tape (Value c) = false

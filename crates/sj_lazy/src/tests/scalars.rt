@@ -24,28 +24,113 @@ fn fits(rt: &impl Abort, value: &Value, kind: ValueType, types: &str) {
 
 #[test]
 fn numbers_lie_in_ranges(rt: HostRuntime) {
-    fits(&rt, &Value::from(i8::MIN), ValueType::I64, "i8 i16 i32 i64 i128");
-    fits(&rt, &Value::from(i8::MAX), ValueType::I64, "i8 i16 i32 i64 i128 u8 u16 u32 u64 u128 usize");
-    fits(&rt, &Value::from(i16::MIN), ValueType::I64, "i16 i32 i64 i128");
-    fits(&rt, &Value::from(i16::MAX), ValueType::I64, "i16 i32 i64 i128 u16 u32 u64 u128 usize");
+    fits(
+        &rt,
+        &Value::from(i8::MIN),
+        ValueType::I64,
+        "i8 i16 i32 i64 i128",
+    );
+    fits(
+        &rt,
+        &Value::from(i8::MAX),
+        ValueType::I64,
+        "i8 i16 i32 i64 i128 u8 u16 u32 u64 u128 usize",
+    );
+    fits(
+        &rt,
+        &Value::from(i16::MIN),
+        ValueType::I64,
+        "i16 i32 i64 i128",
+    );
+    fits(
+        &rt,
+        &Value::from(i16::MAX),
+        ValueType::I64,
+        "i16 i32 i64 i128 u16 u32 u64 u128 usize",
+    );
     fits(&rt, &Value::from(i32::MIN), ValueType::I64, "i32 i64 i128");
-    fits(&rt, &Value::from(i32::MAX), ValueType::I64, "i32 i64 i128 u32 u64 u128 usize");
+    fits(
+        &rt,
+        &Value::from(i32::MAX),
+        ValueType::I64,
+        "i32 i64 i128 u32 u64 u128 usize",
+    );
     fits(&rt, &Value::from(i64::MIN), ValueType::I64, "i64 i128");
-    fits(&rt, &Value::from(i64::MAX), ValueType::I64, "i64 i128 u64 u128 usize");
+    fits(
+        &rt,
+        &Value::from(i64::MAX),
+        ValueType::I64,
+        "i64 i128 u64 u128 usize",
+    );
     fits(&rt, &Value::from(i128::MIN), ValueType::I128, "i128");
     fits(&rt, &Value::from(i128::MAX), ValueType::I128, "i128 u128");
-    fits(&rt, &Value::from(u8::MIN), ValueType::U64, "i8 i16 i32 i64 i128 u8 u16 u32 u64 u128 usize");
-    fits(&rt, &Value::from(u8::MAX), ValueType::U64, "i16 i32 i64 i128 u8 u16 u32 u64 u128 usize");
-    fits(&rt, &Value::from(u16::MIN), ValueType::U64, "i8 i16 i32 i64 i128 u8 u16 u32 u64 u128 usize");
-    fits(&rt, &Value::from(u16::MAX), ValueType::U64, "i32 i64 i128 u16 u32 u64 u128 usize");
-    fits(&rt, &Value::from(u32::MIN), ValueType::U64, "i8 i16 i32 i64 i128 u8 u16 u32 u64 u128 usize");
-    fits(&rt, &Value::from(u32::MAX), ValueType::U64, "i64 i128 u32 u64 u128 usize");
-    fits(&rt, &Value::from(u64::MIN), ValueType::U64, "i8 i16 i32 i64 i128 u8 u16 u32 u64 u128 usize");
-    fits(&rt, &Value::from(u64::MAX), ValueType::U64, "i128 u64 u128 usize");
-    fits(&rt, &Value::from(u128::MIN), ValueType::U128, "i8 i16 i32 i64 i128 u8 u16 u32 u64 u128 usize");
+    fits(
+        &rt,
+        &Value::from(u8::MIN),
+        ValueType::U64,
+        "i8 i16 i32 i64 i128 u8 u16 u32 u64 u128 usize",
+    );
+    fits(
+        &rt,
+        &Value::from(u8::MAX),
+        ValueType::U64,
+        "i16 i32 i64 i128 u8 u16 u32 u64 u128 usize",
+    );
+    fits(
+        &rt,
+        &Value::from(u16::MIN),
+        ValueType::U64,
+        "i8 i16 i32 i64 i128 u8 u16 u32 u64 u128 usize",
+    );
+    fits(
+        &rt,
+        &Value::from(u16::MAX),
+        ValueType::U64,
+        "i32 i64 i128 u16 u32 u64 u128 usize",
+    );
+    fits(
+        &rt,
+        &Value::from(u32::MIN),
+        ValueType::U64,
+        "i8 i16 i32 i64 i128 u8 u16 u32 u64 u128 usize",
+    );
+    fits(
+        &rt,
+        &Value::from(u32::MAX),
+        ValueType::U64,
+        "i64 i128 u32 u64 u128 usize",
+    );
+    fits(
+        &rt,
+        &Value::from(u64::MIN),
+        ValueType::U64,
+        "i8 i16 i32 i64 i128 u8 u16 u32 u64 u128 usize",
+    );
+    fits(
+        &rt,
+        &Value::from(u64::MAX),
+        ValueType::U64,
+        "i128 u64 u128 usize",
+    );
+    fits(
+        &rt,
+        &Value::from(u128::MIN),
+        ValueType::U128,
+        "i8 i16 i32 i64 i128 u8 u16 u32 u64 u128 usize",
+    );
     fits(&rt, &Value::from(u128::MAX), ValueType::U128, "u128");
-    fits(&rt, &Value::from(usize::MIN), ValueType::U64, "i8 i16 i32 i64 i128 u8 u16 u32 u64 u128 usize");
-    fits(&rt, &Value::from(usize::MAX), ValueType::U64, "i128 u64 u128 usize");
+    fits(
+        &rt,
+        &Value::from(usize::MIN),
+        ValueType::U64,
+        "i8 i16 i32 i64 i128 u8 u16 u32 u64 u128 usize",
+    );
+    fits(
+        &rt,
+        &Value::from(usize::MAX),
+        ValueType::U64,
+        "i128 u64 u128 usize",
+    );
 }
 
 #[test]
