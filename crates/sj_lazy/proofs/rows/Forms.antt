@@ -1,13 +1,11 @@
 -- The three forms, with trees in the place of parts and of lent documents.
-use Rattle.std.proofs.Common.{◌≡◌, ℕ, List, pos, refl, codes, Some, None, true, false}
-use Rattle.sj_text_core.specs.Tree.{u64, Tree, null, int, obj, no_members, member}
+use Rattle.std.proofs.Common.{◌≡◌, ℕ, List, pos, refl, codes, None, true, false}
+use Rattle.sj_text_core.specs.Tree.{u64, Tree, int, obj, no_members, member}
 use Rattle.sj_text_core.specs.Keep.{keep}
-use Rattle.sj_text_core.specs.declared.static_node.StaticNode.TheVariants.{U64}
-use Rattle.sj_document.specs.declared.value.Document.{Document, Static}
 use Rattle.sj_lazy.specs.declared.value.Lazy.{Lazy}
 use Rattle.sj_lazy.specs.declared.value.Lazy.TheVariants.{Tape, Value}
-use Rattle.sj_lazy.specs.declared.value.Shared.TheVariants.{Borrowed, Owned}
-use Rattle.sj_lazy.specs.Value.{Form, of_tape, of_lent, of_owned, lazy_tree, lazy_kept, owned, on_tape, form}
+use Rattle.sj_lazy.specs.declared.value.Shared.TheVariants.{Borrowed}
+use Rattle.sj_lazy.specs.Value.{of_tape, of_lent, lazy_tree, lazy_kept, owned, on_tape, form}
 
 abbrev n : ℕ → Tree
 n m = int (pos m) u64

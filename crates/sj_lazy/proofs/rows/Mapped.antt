@@ -1,5 +1,5 @@
 -- A map of std with the entries a: 1, and objects that are the same as it or not. Values are compared as trees.
-use Rattle.std.proofs.Common.{◌≡◌, ℕ, List, [], ◌∷◌, pos, refl, codes, true≢false, sym, Some, None}
+use Rattle.std.proofs.Common.{◌≡◌, ℕ, List, [], ◌∷◌, pos, refl, codes, true≢false, sym, None}
 use Rattle.sj_text_core.specs.Tree.{u64, Tree, Members, int, no_members, member}
 use Rattle.sj_text_core.specs.declared.repeats.Repeats.{Repeats}
 use Rattle.sj_text_core.specs.declared.repeats.Repeats.TheVariants.{First, Last}
