@@ -29,6 +29,7 @@ impl<P: Upgrade<T> + Drop, B: Lent<T> + Drop, T: KeyText + Drop> Lazy<P, B, T> {
             (λ n. IfErr result (λ e. IsLeft T.text_of (lazy_kept P.part_kept B.lent_tree T.text_of self.old) self.old n (e ≡ AccessError.OutOfMemory) (e ≡ AccessError.NotAnObject)))) }
         ensures value { IfOk result (λ m. Some (entry_members (tree T.text_of) m.now.entries) ≡ as_members (lazy_kept P.part_kept B.lent_tree T.text_of self.old)) }
         ensures kind { IfErr result (λ e. e ≡ AccessError.NotAnObject → as_members (lazy_kept P.part_kept B.lent_tree T.text_of self.old) ≡ None) }
+        ensures succeeds { IsSome (owned T.text_of self.old) → IsSome (as_members (lazy_kept P.part_kept B.lent_tree T.text_of self.old)) → IsOk result }
     {
         match self.as_mut(alloc) {
             Ok(document) => match document.as_object_mut() {
@@ -47,6 +48,7 @@ impl<P: Upgrade<T> + Drop, B: Lent<T> + Drop, T: KeyText + Drop> Lazy<P, B, T> {
             (λ n. IfErr result (λ e. IsLeft T.text_of (lazy_kept P.part_kept B.lent_tree T.text_of self.old) self.old n (e ≡ AccessError.OutOfMemory) (e ≡ AccessError.NotAnArray)))) }
         ensures value { IfOk result (λ v. Some (items_from (map (tree T.text_of) v.now.items)) ≡ as_items (lazy_kept P.part_kept B.lent_tree T.text_of self.old)) }
         ensures kind { IfErr result (λ e. e ≡ AccessError.NotAnArray → as_items (lazy_kept P.part_kept B.lent_tree T.text_of self.old) ≡ None) }
+        ensures succeeds { IsSome (owned T.text_of self.old) → IsSome (as_items (lazy_kept P.part_kept B.lent_tree T.text_of self.old)) → IsOk result }
     {
         match self.as_mut(alloc) {
             Ok(document) => match document.as_array_mut() {
