@@ -1,9 +1,11 @@
 //! Rates of reading: `to_tape`, `to_tape_with_buffers` and the tape of `json`, in turns, on texts
-//! that a seeded generator writes. Run `rt run -- ROUNDS MEGABYTES KIND` in this folder (without
-//! KIND: each kind); each line has the best rate of so many rounds, by the thread's own clock.
-//! Without words it does nothing.
+//! that a seeded generator writes; and rates of documents, by both forms, by tapes and by
+//! `serde_json`. Run `rt run -- ROUNDS MEGABYTES KIND` or `rt run -- documents ROUNDS MEGABYTES
+//! KIND` in this folder (without KIND: each kind); each line has the best rate of so many rounds,
+//! by the thread's own clock. Without words it does nothing.
 #![tactic(auto)]
 
+mod documents;
 mod texts;
 
 use crate::texts::{Kind, text_of};
@@ -82,26 +84,36 @@ fn report(rt: &HostRuntime, kind: Kind, size: usize, rounds: u32) -> io::Result<
     Ok(())
 }
 
-fn main(rt: HostRuntime) -> io::Result<()> {
-    let alloc = rt.alloc();
-    let words: Vec<String> = env::args(&rt)?.collect(alloc)?;
-    let Some(rounds) = words.get(1) else {
+/// What the words ask for: rounds, megabytes and a kind.
+fn report_all(rt: &HostRuntime, words: &[String], are_documents: bool) -> io::Result<()> {
+    let Some(rounds) = words.get(0) else {
         return Ok(());
     };
     let rounds = rounds.as_str().parse::<u32>().unwrap_or(1);
-    let megabytes = match words.get(2) {
+    let megabytes = match words.get(1) {
         Some(word) => word.as_str().parse::<usize>().unwrap_or(1),
         None => 1,
     };
     let size = megabytes.min(1000) * 1_000_000;
     for kind in Kind::ALL {
-        let is_wanted = match words.get(3) {
+        let is_wanted = match words.get(2) {
             Some(word) => word.as_str() == kind.name(),
             None => true,
         };
-        if is_wanted {
-            report(&rt, kind, size, rounds)?;
+        if is_wanted && are_documents {
+            documents::report(rt, kind, size, rounds)?;
+        } else if is_wanted {
+            report(rt, kind, size, rounds)?;
         }
     }
     Ok(())
+}
+
+fn main(rt: HostRuntime) -> io::Result<()> {
+    let words: Vec<String> = env::args(&rt)?.collect(rt.alloc())?;
+    match words.as_slice() {
+        [_, first, rest @ ..] if first.as_str() == "documents" => report_all(&rt, rest, true),
+        [_, rest @ ..] => report_all(&rt, rest, false),
+        [] => Ok(()),
+    }
 }

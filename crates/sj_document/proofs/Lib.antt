@@ -9,3 +9,4 @@ pub mod Compared
 pub mod Mixed
 pub mod Maps
 pub mod Levels
+pub mod Pairs

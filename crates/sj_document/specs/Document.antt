@@ -1,7 +1,7 @@
 -- The tree that a document means, where t gives the text of a key or a string.
-use Rattle.std.specs.Prelude.{ℕ, Bool, true, ◌&&◌, List, Option, Some, None}
+use Rattle.std.specs.Prelude.{ℕ, Bool, true, ◌&&◌, List, [], ◌∷◌, Option, Some, None}
 use Rattle.std.specs.List.{list_all}
-use Rattle.sj_text_core.specs.Tree.{Tree, text, list, obj, items_from}
+use Rattle.sj_text_core.specs.Tree.{Tree, text, list, obj, items_from, Members}
 use Rattle.sj_text_core.specs.Scalars.{static_tree}
 use Rattle.sj_text_core.specs.Print.{compact}
 use Rattle.sj_text_core.specs.Edits.{put, cut, push, front, last}
@@ -68,3 +68,8 @@ why_of wrong (Some x) = OutOfMemory
 abbrev pub shown : Tree → List ℕ
 shown (text s) = s
 shown t = compact t
+
+-- members with pairs put into them in turn
+abbrev pub put_pairs : {T : Type 0} → (T → List ℕ) → Members → List (T × Document T) → Members
+put_pairs t ms [] = ms
+put_pairs t ms (p ∷ ps) = put_pairs t (put (t p.0) (tree t p.1) ms) ps

@@ -6,10 +6,12 @@ ghost use Rattle.sj_text_core.specs.Tree.{null, list, obj, no_items, no_members}
 mod access;
 mod build;
 mod cmp;
+mod convert;
 mod copy;
 mod edit;
 mod from;
 mod index;
+mod make;
 mod path;
 mod scalar;
 mod serialize;

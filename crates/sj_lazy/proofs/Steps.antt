@@ -1,10 +1,7 @@
 -- Steps of an upgrade.
-use Rattle.std.proofs.Common.{◌≡◌, Option, Some, None, refl, sym}
+use Rattle.std.proofs.Common.{◌≡◌, Option, Some, None, sym}
 use Rattle.std.specs.Option.{OnSome}
-use Rattle.sj_text_core.specs.Tree.{Tree, null, boolean, int, text, list, obj}
-use Rattle.sj_text_core.specs.Reads.{as_members}
 use Rattle.sj_text_core.specs.Keep.{keep}
-use Rattle.sj_document.specs.Document.{object_of}
 use Rattle.sj_document.specs.declared.value.Document.{Document}
 use Rattle.sj_document.proofs.Kept.{tree_kept}
 use Rattle.std.specs.Borrow.{Bor}
@@ -24,11 +21,3 @@ some_is x u e = cc
 pub shared_kept : (c : Shared (Bor (Document Text)) Text) → shared_tree lent_tree cow_str_bytes c ≡ keep (shared_tree lent_tree cow_str_bytes c)
 shared_kept (Borrowed x) = sym (tree_kept cow_str_bytes x.now)
 shared_kept (Owned v) = sym (tree_kept cow_str_bytes v)
-
-pub members_of : (t : Tree) → object_of t ≡ as_members t
-members_of null = refl
-members_of (boolean b) = refl
-members_of (int n c) = refl
-members_of (text s) = refl
-members_of (list is) = refl
-members_of (obj ms) = refl

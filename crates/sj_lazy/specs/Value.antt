@@ -28,11 +28,9 @@ module _ {P B T : Type 0} (p : P → Tree) (b : B → Tree) (t : T → List ℕ)
   lazy_tree (Tape x) = p x
   lazy_tree (Value c) = shared_tree b t c
 
--- p gives what is kept of a part of a tape: a lazy value as it is once it is written
-module _ {P B T : Type 0} (p : P → Tree) (b : B → Tree) (t : T → List ℕ) where
+  -- where p gives what is kept of a part of a tape: the tree once it is written
   abbrev pub lazy_kept : Lazy P B T → Tree
-  lazy_kept (Tape x) = p x
-  lazy_kept (Value c) = shared_tree b t c
+  lazy_kept = lazy_tree
 
 module _ {B T : Type 0} (t : T → List ℕ) where
   abbrev pub owned_of : Shared B T → Option Tree

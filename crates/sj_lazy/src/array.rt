@@ -21,6 +21,13 @@ impl<'b, 't, 'i> Array<'b, 't, 'i> {
     ghost use Rattle.sj_lazy.specs.Array.{items, items_ahead, parts_ahead, array_choice};
     ghost use Rattle.sj_lazy.specs.Value.{tree, choice};
 
+    /// The same array.
+    pub fn clone(&self) -> Self
+        ensures { result ≡ self.now }
+    {
+        *self
+    }
+
     /// The item at that position, counted from 0; None past the last.
     pub fn get(&self, index: usize) -> Option<Value<'b, 't, 'i>>
         ensures value { option_map tree result ≡ nth_item index (items self.now) }

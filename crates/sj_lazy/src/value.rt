@@ -8,13 +8,18 @@ ghost use Rattle.sj_document.specs.Document.{tree as document_tree};
 ghost use Rattle.sj_tape.specs.Value.{tree as tape_tree, choice as tape_choice};
 ghost use Rattle.sj_lazy.specs.Value.{tree, choice, kept, lent_tree};
 ghost use Rattle.sj_text_core.specs.Repeats.{keep_by};
+ghost use Rattle.sj_text_core.specs.declared.repeats.Repeats.TheVariants.{First};
 
 mod access;
 mod cmp;
+mod convert;
 mod edit;
+mod from;
+mod loans;
 mod scalar;
 mod serialize;
 mod typed;
+mod upgrade;
 
 use crate::upgrade::{Lent, Upgrade};
 use sj_document::{BorrowedValue, CopyText, Document};
@@ -90,6 +95,7 @@ impl<'b, 't, 'i> Value<'b, 't, 'i> {
     /// A null, as a part of a tape.
     pub fn null() -> Self
         ensures tree { tree result ≡ null }
+        ensures choice { choice result ≡ First }
         ensures form { on_tape result ≡ true }
     {
         Lazy::Tape(TapeValue::null())
@@ -99,77 +105,10 @@ impl<'b, 't, 'i> Value<'b, 't, 'i> {
 impl<'b, 't, 'i> Default for Value<'b, 't, 'i> {
     ghost use Rattle.sj_lazy.specs.Value.{on_tape};
 
-    ghost is_default = { λ v. (tree v ≡ null) × (on_tape v ≡ true) };
+    ghost is_default = { λ v. (tree v ≡ null) × (choice v ≡ First) × (on_tape v ≡ true) };
 
     fn default() -> Self {
         Lazy::null()
-    }
-}
-
-impl<P: Upgrade<T> + Drop, B: Lent<T> + Drop, T: KeyText + Drop> Lazy<P, B, T> {
-    ghost use Rattle.sj_lazy.specs.Value.{lazy_tree, lazy_kept, on_tape, owned};
-
-    /// The document: of a tape the one that keeps the first member of each key.
-    pub fn into_value(self, alloc: Global) -> Result<Document<T>, AllocError>
-        ensures { IfOk result (λ v. document_tree T.text_of v ≡ lazy_kept P.part_kept B.lent_tree T.text_of self) }
-    {
-        match self {
-            Lazy::Tape(part) => part.upgrade(alloc),
-            Lazy::Value(Shared::Borrowed(lent)) => lent.copied(alloc),
-            Lazy::Value(Shared::Owned(value)) => Ok(value),
-        }
-    }
-
-    /// The same, with no document lent: a tape stays a tape.
-    pub fn into_owned(self, alloc: Global) -> Result<Self, AllocError>
-        ensures tree { IfOk result (λ v. lazy_tree P.part_tree B.lent_tree T.text_of v ≡ lazy_tree P.part_tree B.lent_tree T.text_of self) }
-        ensures form { IfOk result (λ v. on_tape v ≡ on_tape self) }
-        ensures owned { IfOk result (λ v. is_some (owned T.text_of v) ≡ not (on_tape v)) }
-    {
-        match self {
-            Lazy::Tape(part) => Ok(Lazy::Tape(part)),
-            Lazy::Value(Shared::Borrowed(lent)) => {
-                Ok(Lazy::Value(Shared::Owned(lent.copied(alloc)?)))
-            }
-            Lazy::Value(Shared::Owned(value)) => Ok(Lazy::Value(Shared::Owned(value))),
-        }
-    }
-}
-
-impl<'b, 't, 'i> Clone for Value<'b, 't, 'i> {
-    ghost use Rattle.sj_lazy.specs.Value.{form};
-
-    ghost is_clone = { λ v w. (tree w ≡ tree v) × (form w ≡ form v) × (choice w ≡ choice v) };
-
-    fn clone(&self) -> Result<Self, AllocError> {
-        match self {
-            Lazy::Tape(part) => Ok(Lazy::Tape(*part)),
-            Lazy::Value(Shared::Borrowed(lent)) => Ok(Lazy::Value(Shared::Borrowed(*lent))),
-            Lazy::Value(Shared::Owned(value)) => Ok(Lazy::Value(Shared::Owned(value.clone()?))),
-        }
-    }
-}
-
-impl<'b, 't, 'i> Value<'b, 't, 'i> {
-    /// The text, where it is one. It is refused only for want of memory, and asks for some only
-    /// where a text behind a lent document owns its bytes.
-    pub fn into_string(self) -> Result<Option<CowStr<'i>>, AllocError>
-        ensures { IfOk result (λ s. option_map cow_str_bytes s ≡ as_text (tree self.entry)) }
-    {
-        match self {
-            Lazy::Tape(part) => match part.into_string() {
-                Some(text) => Ok(Some(CowStr::Borrowed(text))),
-                None => Ok(None),
-            },
-            Lazy::Value(Shared::Borrowed(lent)) => match lent {
-                Document::String(text) => Ok(Some(text.copy()?)),
-                _ => Ok(None),
-            },
-            Lazy::Value(Shared::Owned(value)) => match value {
-                Document::String(text) => Ok(Some(text)),
-                _ => Ok(None),
-            },
-        }
     }
 }
 

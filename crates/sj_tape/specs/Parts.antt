@@ -8,5 +8,5 @@ abbrev pub items_in : List Mark → Items
 items_in ns = items_of (length ns) (trees_of ns)
 
 -- the nodes are those of an array's items
-abbrev pub AreItems : List Mark → Type 0
-AreItems ns = ns ≡ flat_items (items_in ns)
+abbrev pub AreItemNodes : List Mark → Type 0
+AreItemNodes ns = ns ≡ flat_items (items_in ns)

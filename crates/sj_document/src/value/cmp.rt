@@ -37,7 +37,7 @@ impl<T: KeyText> PartialEq for Document<T> {
         ensures answer { result ≡ tree_eq (tree T.text_of self.now) (tree T.text_of other.now) }
         ensures same { IsTrue result ↔ Same (tree T.text_of self.now) (tree T.text_of other.now) }
     {
-        same(self, other)
+        self.same_as(other)
     }
 }
 

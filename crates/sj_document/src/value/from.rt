@@ -138,15 +138,12 @@ impl<T: KeyText> From<u128> for Document<T> {
 }
 
 /// The value where there is one, else a null.
-impl<T: KeyText, X> From<Option<X>> for Document<T>
-where
-    Document<T>: From<X>,
-{
-    ghost from_gives = { λ o v. MatchOption o (tree T.text_of v ≡ null) (λ x. ⟦<Document<T> as From<X>>⟧.from_gives x v) };
+impl<T: KeyText, X: Into<Document<T>>> From<Option<X>> for Document<T> {
+    ghost from_gives = { λ o v. MatchOption o (tree T.text_of v ≡ null) (λ x. X.converts x v) };
 
     fn from(value: Option<X>) -> Self {
         match value {
-            Some(value) => Document::from(value),
+            Some(value) => value.into(),
             None => Document::null(),
         }
     }

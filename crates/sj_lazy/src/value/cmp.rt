@@ -8,6 +8,8 @@ ghost use Rattle.sj_text_core.specs.Equal.{tree_eq};
 ghost use Rattle.sj_text_core.specs.Repeats.{SameBy};
 ghost use Rattle.sj_text_core.specs.declared.repeats.Repeats.TheVariants.{First};
 
+mod map;
+
 use super::{Lazy, Value};
 use sj_document::{Document, same};
 use sj_object::KeyText;

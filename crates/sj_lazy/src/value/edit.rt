@@ -1,6 +1,7 @@
-//! Edits: each makes the value an owned document first.
+//! Edits. Each makes the value an owned document first, so it is one after every answer but that
+//! of a refused upgrade, which leaves it as it was.
 
-ghost use Rattle.std.specs.Prelude.{◌≡◌, ⊤, Some, None, option_map, OnOk, IfOk, IfErr, IsSome};
+ghost use Rattle.std.specs.Prelude.{◌≡◌, ⊤, Some, None, option_map, OnOk, IfOk, IfErr, IsOk, IsSome};
 ghost use Rattle.sj_text_core.specs.Find.{find};
 ghost use Rattle.sj_text_core.specs.Reads.{as_items, as_members};
 ghost use Rattle.sj_document.specs.Document.{tree, why_of, with_member, without_member, with_item, without_last, last_item};
@@ -16,7 +17,8 @@ impl<P: Upgrade<T> + Drop, B: Lent<T> + Drop, T: KeyText + Drop> Lazy<P, B, T> {
     ghost use Rattle.sj_lazy.specs.Value.{lazy_kept, owned};
     ghost use Rattle.sj_lazy.specs.Edits.{IsLeft};
 
-    /// Sets the value of the key, and answers the one before.
+    /// Sets the value of the key, and answers the one before. A key that is there keeps its place; a
+    /// new one goes last. Refused on a non-object and for want of memory: the value comes back.
     pub fn insert(
         &mut self,
         alloc: Global,
@@ -28,6 +30,7 @@ impl<P: Upgrade<T> + Drop, B: Lent<T> + Drop, T: KeyText + Drop> Lazy<P, B, T> {
         ensures object { OnOk result (IsSome (as_members (lazy_kept P.part_kept B.lent_tree T.text_of self.old))) }
         ensures refused { IfErr result (λ r. IsLeft T.text_of (lazy_kept P.part_kept B.lent_tree T.text_of self.old) self.old self.new (r.why ≡ AccessError.OutOfMemory) (r.why ≡ why_of AccessError.NotAnObject (as_members (lazy_kept P.part_kept B.lent_tree T.text_of self.old)))) }
         ensures returned { IfErr result (λ r. r.value ≡ value) }
+        ensures succeeds { IsSome (owned T.text_of self.old) → IsSome (find (T.text_of key) (lazy_kept P.part_kept B.lent_tree T.text_of self.old)) → IsOk result }
     {
         match self.as_mut(alloc) {
             Ok(document) => document.insert(key, value),
@@ -38,7 +41,8 @@ impl<P: Upgrade<T> + Drop, B: Lent<T> + Drop, T: KeyText + Drop> Lazy<P, B, T> {
         }
     }
 
-    /// The same, and nothing on a non-object.
+    /// As `insert`; on a non-object it answers None, gives the value up and does nothing but the
+    /// upgrade.
     pub fn try_insert(
         &mut self,
         alloc: Global,
@@ -49,6 +53,7 @@ impl<P: Upgrade<T> + Drop, B: Lent<T> + Drop, T: KeyText + Drop> Lazy<P, B, T> {
         ensures after { OnOk result (owned T.text_of self.new ≡ Some (with_member (T.text_of key) (tree T.text_of value) (lazy_kept P.part_kept B.lent_tree T.text_of self.old))) }
         ensures refused { IfErr result (λ r. IsLeft T.text_of (lazy_kept P.part_kept B.lent_tree T.text_of self.old) self.old self.new (⊤) (IsSome (as_members (lazy_kept P.part_kept B.lent_tree T.text_of self.old)))) }
         ensures returned { IfErr result (λ r. r.value ≡ value) }
+        ensures succeeds { IsSome (owned T.text_of self.old) → IsSome (find (T.text_of key) (lazy_kept P.part_kept B.lent_tree T.text_of self.old)) → IsOk result }
     {
         match self.as_mut(alloc) {
             Ok(document) => document.try_insert(key, value),
@@ -56,7 +61,8 @@ impl<P: Upgrade<T> + Drop, B: Lent<T> + Drop, T: KeyText + Drop> Lazy<P, B, T> {
         }
     }
 
-    /// Takes the key's member out, and answers its value.
+    /// Takes the key's member out, and answers its value; the members behind it close up. Refused on
+    /// a non-object, and where the upgrade is.
     pub fn remove(&mut self, alloc: Global, key: &str) -> Result<Option<Document<T>>, AccessError>
         ensures answer { IfOk result (λ before. option_map (tree T.text_of) before ≡ find key.now (lazy_kept P.part_kept B.lent_tree T.text_of self.old)) }
         ensures after { OnOk result (owned T.text_of self.new ≡ Some (without_member key.now (lazy_kept P.part_kept B.lent_tree T.text_of self.old))) }
@@ -69,7 +75,7 @@ impl<P: Upgrade<T> + Drop, B: Lent<T> + Drop, T: KeyText + Drop> Lazy<P, B, T> {
         }
     }
 
-    /// Appends an item.
+    /// Appends an item. Refused on a non-array and for want of memory: the value comes back.
     pub fn push(
         &mut self,
         alloc: Global,
@@ -89,7 +95,8 @@ impl<P: Upgrade<T> + Drop, B: Lent<T> + Drop, T: KeyText + Drop> Lazy<P, B, T> {
         }
     }
 
-    /// Takes the last item off; None where there is none.
+    /// Takes the last item off; None where there is none. Refused on a non-array, and where the
+    /// upgrade is.
     pub fn pop(&mut self, alloc: Global) -> Result<Option<Document<T>>, AccessError>
         ensures answer { IfOk result (λ last. option_map (tree T.text_of) last ≡ last_item (lazy_kept P.part_kept B.lent_tree T.text_of self.old)) }
         ensures after { OnOk result (owned T.text_of self.new ≡ Some (without_last (lazy_kept P.part_kept B.lent_tree T.text_of self.old))) }

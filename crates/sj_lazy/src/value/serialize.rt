@@ -3,6 +3,7 @@
 use super::{Lazy, Value};
 use sj_text_core::{Writable, WriteError};
 use std::alloc::Global;
+use std::fmt;
 
 impl<'b, 't, 'i> Writable for Value<'b, 't, 'i> {
     fn encode(&self, alloc: Global) -> Result<String, WriteError> {
@@ -30,6 +31,21 @@ impl<'b, 't, 'i> Writable for Value<'b, 't, 'i> {
         match self {
             Lazy::Tape(part) => part.write_pp(out),
             Lazy::Value(value) => value.document().write_pp(out),
+        }
+    }
+}
+
+/// A scalar as it is printed, a text as it is, an array or an object as its compact print.
+impl<'b, 't, 'i> fmt::Display for Value<'b, 't, 'i> {
+    ghost use Rattle.sj_lazy.specs.Value.{tree};
+    ghost use Rattle.sj_tape.specs.Value.{displayed};
+
+    ghost output = { λ v. displayed (tree v) };
+
+    fn fmt<W: fmt::Write>(&self, f: &mut fmt::Formatter<W>) -> fmt::Result {
+        match self {
+            Lazy::Tape(part) => part.fmt(f),
+            Lazy::Value(value) => value.document().fmt(f),
         }
     }
 }

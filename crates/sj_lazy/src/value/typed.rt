@@ -251,8 +251,8 @@ impl<'b, 't, 'i> Value<'b, 't, 'i> {
         ensures { option_map (λ s. s.now) result ≡ member_as as_text (found self.now key.now) }
     {
         match self {
-            Lazy::Tape(part) => part.get(key)?.into_string(),
-            Lazy::Value(value) => value.document().get(key)?.as_str(),
+            Lazy::Tape(part) => part.get_str(key),
+            Lazy::Value(value) => value.document().get_str(key),
         }
     }
 
@@ -260,12 +260,9 @@ impl<'b, 't, 'i> Value<'b, 't, 'i> {
     pub fn try_get_str(&self, key: &str) -> Result<Option<&str>, TryTypeError>
         ensures { result_map_both (option_map (λ s. s.now)) (λ e. e) result ≡ try_member_as as_text ValueType.String (tree self.now) (found self.now key.now) }
     {
-        match self.try_get(key)? {
-            None => Ok(None),
-            Some(value) => match self.get_str(key) {
-                Some(text) => Ok(Some(text)),
-                None => Err(value.fault(ValueType::String)),
-            },
+        match self {
+            Lazy::Tape(part) => part.try_get_str(key),
+            Lazy::Value(value) => value.document().try_get_str(key),
         }
     }
 
@@ -275,8 +272,8 @@ impl<'b, 't, 'i> Value<'b, 't, 'i> {
         ensures choice { IfSome result (λ a. array_choice a ≡ choice self.now) }
     {
         match self {
-            Lazy::Tape(part) => Some(Array::Tape(part.get(key)?.as_array()?)),
-            Lazy::Value(value) => Some(Array::Value(value.document().get(key)?.as_array()?)),
+            Lazy::Tape(part) => Some(Array::Tape(part.get_array(key)?)),
+            Lazy::Value(value) => Some(Array::Value(value.document().get_array(key)?)),
         }
     }
 
@@ -285,11 +282,14 @@ impl<'b, 't, 'i> Value<'b, 't, 'i> {
         ensures items { result_map_both (option_map items) (λ e. e) result ≡ try_member_as as_items ValueType.Array (tree self.now) (found self.now key.now) }
         ensures choice { IfOk result (λ value. IfSome value (λ a. array_choice a ≡ choice self.now)) }
     {
-        match self.try_get(key)? {
-            None => Ok(None),
-            Some(value) => match self.get_array(key) {
-                Some(items) => Ok(Some(items)),
-                None => Err(value.fault(ValueType::Array)),
+        match self {
+            Lazy::Tape(part) => match part.try_get_array(key)? {
+                Some(items) => Ok(Some(Array::Tape(items))),
+                None => Ok(None),
+            },
+            Lazy::Value(value) => match value.document().try_get_array(key)? {
+                Some(items) => Ok(Some(Array::Value(items))),
+                None => Ok(None),
             },
         }
     }
@@ -300,8 +300,8 @@ impl<'b, 't, 'i> Value<'b, 't, 'i> {
         ensures choice { IfSome result (λ o. object_choice o ≡ choice self.now) }
     {
         match self {
-            Lazy::Tape(part) => Some(Object::Tape(part.get(key)?.as_object()?)),
-            Lazy::Value(value) => Some(Object::Value(value.document().get(key)?.as_object()?)),
+            Lazy::Tape(part) => Some(Object::Tape(part.get_object(key)?)),
+            Lazy::Value(value) => Some(Object::Value(value.document().get_object(key)?)),
         }
     }
 
@@ -310,11 +310,14 @@ impl<'b, 't, 'i> Value<'b, 't, 'i> {
         ensures members { result_map_both (option_map members) (λ e. e) result ≡ try_member_as as_members ValueType.Object (tree self.now) (found self.now key.now) }
         ensures choice { IfOk result (λ value. IfSome value (λ o. object_choice o ≡ choice self.now)) }
     {
-        match self.try_get(key)? {
-            None => Ok(None),
-            Some(value) => match self.get_object(key) {
-                Some(members) => Ok(Some(members)),
-                None => Err(value.fault(ValueType::Object)),
+        match self {
+            Lazy::Tape(part) => match part.try_get_object(key)? {
+                Some(members) => Ok(Some(Object::Tape(members))),
+                None => Ok(None),
+            },
+            Lazy::Value(value) => match value.document().try_get_object(key)? {
+                Some(members) => Ok(Some(Object::Value(members))),
+                None => Ok(None),
             },
         }
     }

@@ -1,0 +1,128 @@
+//! Rates of documents: reading, printing and letting go, by each form and by `serde_json`.
+
+use crate::texts::{Kind, text_of};
+use serde_json::Value;
+use sj_tape::to_tape;
+use sj_text_core::Writable;
+use std::alloc::Global;
+use std::time::{CpuClock, Duration};
+use std::{io, str};
+
+const WAYS: [&str; 4] = ["tape", "borrowed", "owned", "serde_json"];
+
+const TASKS: [&str; 3] = ["read", "print", "let go"];
+
+/// The nanoseconds from one time to another.
+fn between(before: Duration, after: Duration) -> u64 {
+    u64::try_from(after.saturating_sub(before).as_nanos()).unwrap_or(u64::MAX)
+}
+
+/// Reads, prints and lets go once in that way, and answers the times; None where it was refused.
+fn once(rt: &HostRuntime, way: usize, bytes: &mut [u8]) -> io::Result<Option<[u64; 3]>> {
+    let alloc = rt.alloc();
+    let start = rt.thread_cpu_time()?;
+    match way {
+        0 => {
+            let Ok(tape) = to_tape(alloc, bytes) else {
+                return Ok(None);
+            };
+            let read = rt.thread_cpu_time()?;
+            let is_printed = tape.as_value().encode(alloc).is_ok();
+            let printed = rt.thread_cpu_time()?;
+            drop(tape);
+            times(rt, is_printed, start, read, printed)
+        }
+        1 => {
+            let Ok(value) = sj_borrowed::to_value(alloc, bytes) else {
+                return Ok(None);
+            };
+            let read = rt.thread_cpu_time()?;
+            let is_printed = value.encode(alloc).is_ok();
+            let printed = rt.thread_cpu_time()?;
+            drop(value);
+            times(rt, is_printed, start, read, printed)
+        }
+        2 => {
+            let Ok(value) = sj_owned::to_value(alloc, bytes) else {
+                return Ok(None);
+            };
+            let read = rt.thread_cpu_time()?;
+            let is_printed = value.encode(alloc).is_ok();
+            let printed = rt.thread_cpu_time()?;
+            drop(value);
+            times(rt, is_printed, start, read, printed)
+        }
+        _ => {
+            let Some(value) = by_serde(alloc, bytes) else {
+                return Ok(None);
+            };
+            let read = rt.thread_cpu_time()?;
+            let is_printed = value.to_string(alloc).is_ok();
+            let printed = rt.thread_cpu_time()?;
+            drop(value);
+            times(rt, is_printed, start, read, printed)
+        }
+    }
+}
+
+fn by_serde(alloc: Global, bytes: &[u8]) -> Option<Value> {
+    match simdutf8::basic::from_utf8(bytes) {
+        Ok(text) => Value::from_str(alloc, text).ok(),
+        Err(_) => None,
+    }
+}
+
+fn times(
+    rt: &HostRuntime,
+    is_printed: bool,
+    start: Duration,
+    read: Duration,
+    printed: Duration,
+) -> io::Result<Option<[u64; 3]>> {
+    let end = rt.thread_cpu_time()?;
+    if is_printed {
+        Ok(Some([
+            between(start, read),
+            between(read, printed),
+            between(printed, end),
+        ]))
+    } else {
+        Ok(None)
+    }
+}
+
+/// The least times of so many rounds, for each way and each task, in turns.
+fn best(rt: &HostRuntime, bytes: &Vec<u8>, rounds: u32) -> io::Result<[[u64; 3]; 4]> {
+    let mut best = [[u64::MAX; 3]; 4];
+    for _ in 0..rounds {
+        for way in 0..WAYS.len() {
+            let mut work = bytes.clone()?;
+            if let Some(times) = once(rt, way, work.as_mut_slice())? {
+                for task in 0..TASKS.len() {
+                    best[way][task] = best[way][task].min(times[task]);
+                }
+            }
+        }
+    }
+    Ok(best)
+}
+
+/// Prints the best rates on a text of that kind and size.
+pub fn report(rt: &HostRuntime, kind: Kind, size: usize, rounds: u32) -> io::Result<()> {
+    let bytes = text_of(rt.alloc(), kind, size)?;
+    let best = best(rt, &bytes, rounds)?;
+    let kind = kind.name();
+    let len = bytes.len();
+    for way in 0..WAYS.len() {
+        for task in 0..TASKS.len() {
+            let name = WAYS[way];
+            let what = TASKS[task];
+            let rate = (len as u64)
+                .wrapping_mul(1000)
+                .checked_div(best[way][task])
+                .unwrap_or(0);
+            println!(rt; "{kind:>10} {len:>9} bytes {name:>10} {what:>6} {rate:>6} MB/s")?;
+        }
+    }
+    Ok(())
+}

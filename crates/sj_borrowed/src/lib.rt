@@ -1,0 +1,48 @@
+//! Documents that borrow their texts.
+//!
+//! A `Value` is a null, a truth value or a whole number (`Static`), a text, an array or an object.
+//! It means one tree in which no object has two members of one key, whatever it was made from, and
+//! each of its calls answers and changes that tree. As it is read, each of its texts and keys lies
+//! in the bytes that were read. The calls stand at `sj_document::Document`, which has one body for
+//! this form and for the one that owns its texts.
+//!
+//! ```
+//! let mut bytes = b"{\"some\":[\"key\",\"value\",2],\"some\":3}".to_vec(alloc)?;
+//! let mut value = sj_borrowed::to_value(alloc, bytes.as_mut_slice())?;
+//! assert!(rt; matches!(&value["some"][0], Value::String(CowStr::Borrowed("key"))));
+//! value.insert(CowStr::Borrowed("n"), Value::from("lent"))?;
+//! assert_eq!(rt; value.get_str("n"), Some("lent"));
+//! let copy = value.clone_static(alloc)?;
+//! assert_eq!(rt; value.pop(), Err(AccessError::NotAnArray));
+//! assert_eq!(rt; copy.encode(alloc)?.as_str(), "{\"some\":[\"key\",\"value\",2],\"n\":\"lent\"}");
+//! ```
+#![tactic(auto)]
+
+pub mod known_key;
+mod read;
+
+pub use known_key::KnownKey;
+pub use read::{
+    to_borrowed_value, to_borrowed_value_with_buffers, to_value, to_value_repeats,
+    to_value_with_buffers,
+};
+pub use sj_document::BorrowedValue;
+pub use sj_object::{HashMap, ObjectHasher};
+pub use sj_tape::Buffers;
+pub use sj_text_core::{
+    AccessError, ErrorKind, ExtendedValueType, Refused, Repeats, SameAs, StaticNode, TryMake,
+    TryTypeError, TypedValue, ValueAsScalar, ValueType, Writable, WriteError,
+};
+use std::borrow::CowStr;
+
+/// A document whose texts are lent where they were read, or given so.
+pub type Value<'v> = BorrowedValue<'v>;
+
+/// The members of an object, in the order of their insertion.
+pub type Object<'v> = sj_document::Object<CowStr<'v>>;
+
+/// The items of an array.
+pub type Array<'v> = Vec<Value<'v>>;
+
+#[cfg(test)]
+mod tests;

@@ -1,0 +1,12 @@
+use super::*;
+use std::test::Fail;
+
+mod calls;
+mod documents;
+mod known_keys;
+mod serialize;
+
+/// The document of a text.
+fn parsed<'v>(bytes: &'v mut Vec<u8>) -> Result<Value<'v>, Fail> {
+    Ok(to_value(*bytes.allocator(), bytes.as_mut_slice())?)
+}

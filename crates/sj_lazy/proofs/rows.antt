@@ -1,0 +1,3 @@
+-- What the definitions give on small examples, by computation.
+pub mod Forms
+pub mod Mapped

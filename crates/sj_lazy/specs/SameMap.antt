@@ -1,0 +1,31 @@
+-- A lazy value compared with a map of std.
+use Rattle.std.specs.Prelude.{◌≡◌, ℕ, true, List, [], ◌∷◌, Option, Some, None, MatchOption, is_some}
+use Rattle.sj_text_core.specs.Keep.{is_seen}
+use Rattle.sj_text_core.specs.Tree.{Tree, Members}
+use Rattle.sj_text_core.specs.Repeats.{find_member_by}
+use Rattle.sj_text_core.specs.declared.repeats.Repeats.{Repeats}
+use Rattle.sj_document.specs.SameWith.{SameIn, value_at}
+
+-- find gives what is found at a text, and R compares it with a value of the map, whose keys have texts
+module _ {D X L : Type 0} (R : D → X → Type 0) (text : L → List ℕ) (find : List ℕ → Option D) where
+  -- at each key's text something is found, and the same
+  abbrev pub EachFound : List (L × X) → Type 0
+  EachFound [] = Unit {0}
+  EachFound (p ∷ ps) = MatchOption (find (text p.0)) ⊥ (λ d. R d p.1) × EachFound ps
+
+  -- each text is absent from both, or has the same in both
+  abbrev pub SameEntries : List (L × X) → Type 0
+  SameEntries ps = (k : List ℕ) → SameIn R (find k) (value_at text k ps)
+
+-- each of the texts is that of a key of the map
+abbrev pub HasKeys : {L X : Type 0} → (L → List ℕ) → List (List ℕ) → List (L × X) → Type 0
+HasKeys text ks ps = (k : List ℕ) → is_seen k ks ≡ true → is_some (value_at text k ps) ≡ true
+
+-- the members that count, as lazy values are seen
+abbrev pub counted : Repeats → Members → List ℕ → Option Tree
+counted c ms k = find_member_by c k ms
+
+-- an object of which each text has the same as the map; R compares a lazy value, as its choice and its tree
+abbrev pub SameMap : {X L : Type 0} → (Repeats × Tree → X → Type 0) → (L → List ℕ) → Repeats → Option Members → List (L × X) → Type 0
+SameMap R text c None ps = ⊥
+SameMap R text c (Some ms) ps = SameEntries (λ u x. R (c, u) x) text (counted c ms) ps

@@ -1,0 +1,62 @@
+//! Documents whose last member of each key counts.
+
+use crate::Value;
+use sj_tape::to_tape;
+use sj_text_core::{AccessError, Repeats, SameAs, ValueAsScalar, Writable};
+use std::test::Fail;
+
+#[test]
+fn the_last_member_is_kept_in_the_place_of_the_first(rt: HostRuntime) -> Result<(), Fail> {
+    let alloc = rt.alloc();
+    let mut text = br#"{"a":1,"b":2,"a":3}"#.to_vec(alloc)?;
+    let tape = to_tape(alloc, text.as_mut_slice())?;
+    let mut value: Value<'_, '_, '_> = Value::from_tape(tape.as_value_repeats(Repeats::Last));
+    assert_eq!(rt; value.repeats(), Repeats::Last);
+    assert_eq!(rt; value.get_u8("a"), Some(3));
+    assert_eq!(rt; value.as_object().ok_or("an object")?.len(), 3);
+    assert_eq!(rt; value.encode(alloc)?.as_str(), r#"{"a":1,"b":2,"a":3}"#);
+    value.as_mut(alloc)?;
+    assert_eq!(rt; value.get_u8("a"), Some(3));
+    assert_eq!(rt; value.encode(alloc)?.as_str(), r#"{"a":3,"b":2}"#);
+    Ok(())
+}
+
+#[test]
+fn the_choice_goes_with_the_parts(rt: HostRuntime) -> Result<(), Fail> {
+    let alloc = rt.alloc();
+    let mut text = br#"{"a":1,"b":{"c":4,"c":5},"a":[6]}"#.to_vec(alloc)?;
+    let tape = to_tape(alloc, text.as_mut_slice())?;
+    let mut value: Value<'_, '_, '_> = Value::from_tape(tape.as_value_repeats(Repeats::Last));
+    assert_eq!(rt;
+        value.get("a").ok_or("a member")?.encode(alloc)?.as_str(),
+        "[6]"
+    );
+    let part = value.get("b").ok_or("a member")?;
+    assert_eq!(rt; part.get_u8("c"), Some(5));
+    let keys = ["a", "b", "a"];
+    assert!(rt; value.as_object().ok_or("an object")?.keys().eq(keys));
+    assert!(rt; matches!(value.pop(alloc), Err(AccessError::NotAnArray)));
+    assert_eq!(rt; value.encode(alloc)?.as_str(), r#"{"a":[6],"b":{"c":5}}"#);
+    Ok(())
+}
+
+#[test]
+fn each_side_is_compared_by_its_own_choice(rt: HostRuntime) -> Result<(), Fail> {
+    let alloc = rt.alloc();
+    let mut text = br#"{"a":1,"a":2}"#.to_vec(alloc)?;
+    let tape = to_tape(alloc, text.as_mut_slice())?;
+    let first: Value<'_, '_, '_> = Value::from_tape(tape.as_value());
+    let last: Value<'_, '_, '_> = Value::from_tape(tape.as_value_repeats(Repeats::Last));
+    assert!(rt; first != last);
+    let mut two = br#"{"a":2}"#.to_vec(alloc)?;
+    let two = to_tape(alloc, two.as_mut_slice())?;
+    let two: Value<'_, '_, '_> = Value::from_tape(two.as_value());
+    let document = two.into_value(alloc)?;
+    assert!(rt; last.same_as(&document));
+    assert!(rt; !first.same_as(&document));
+    let mut written = last.clone()?;
+    written.as_mut(alloc)?;
+    assert!(rt; written == last);
+    assert!(rt; written != first);
+    Ok(())
+}

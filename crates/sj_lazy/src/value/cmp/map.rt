@@ -1,0 +1,109 @@
+//! Lazy values compared with maps of std, key by key. Of a tape, members that do not count are not
+//! compared.
+
+ghost use Rattle.std.specs.Prelude.{◌≡◌, ◌↔◌, ℕ, List, IsTrue, is_some, map};
+ghost use Rattle.sj_lazy.specs.Object.{members as members_of, object_choice};
+ghost use Rattle.sj_lazy.specs.SameMap.{EachFound, HasKeys, SameEntries, SameMap, counted};
+ghost use Rattle.sj_lazy.specs.Value.{tree, choice};
+ghost use Rattle.sj_document.specs.SameWith.{value_at};
+ghost use Rattle.sj_tape.specs.Members.{members as tape_members};
+ghost use Rattle.sj_text_core.specs.Reads.{as_members};
+ghost use Rattle.sj_text_core.specs.Tree.{Tree, paired};
+
+use super::super::Value;
+use crate::object::Object;
+use crate::same_as_lazy::SameAsLazy;
+use sj_object::KeyText;
+use sj_tape::Object as TapeObject;
+use sj_text_core::SameAs;
+use std::collections::HashMap;
+use std::hash::{BuildHasher, Hash};
+
+/// Same exactly where the value is an object with the same keys as the map, and each has the same.
+impl<'b, 't, 'i, K: KeyText + Hash, X: SameAsLazy, S: BuildHasher> SameAs<HashMap<K, X, S>>
+    for Value<'b, 't, 'i> {
+    ghost same = { λ v m. SameMap X.same_lazy K.text_of (choice v) (as_members (tree v)) m.entries };
+
+    fn same_as(&self, other: &HashMap<K, X, S>) -> bool {
+        match self.as_object() {
+            Some(object) => same_entries(&object, other),
+            None => false,
+        }
+    }
+}
+
+/// Whether each text has the same in both: as many members at least as entries, a same member for
+/// each entry, and no key more.
+fn same_entries<K: KeyText + Hash, X: SameAsLazy, S: BuildHasher>(
+    object: &Object,
+    entries: &HashMap<K, X, S>,
+) -> bool
+    ensures { IsTrue result ↔ SameEntries (λ u x. X.same_lazy (object_choice object.now, u) x) K.text_of (counted (object_choice object.now) (members_of object.now)) entries.now.entries }
+{
+    if object.len() < entries.len() {
+        return false;
+    }
+    each_found(object, entries) && has_keys(object, entries)
+}
+
+/// Whether each key of the map has the same value in the object.
+fn each_found<K: KeyText + Hash, X: SameAsLazy, S: BuildHasher>(
+    object: &Object,
+    entries: &HashMap<K, X, S>,
+) -> bool
+    ensures { IsTrue result ↔ EachFound (λ u x. X.same_lazy (object_choice object.now, u) x) K.text_of (counted (object_choice object.now) (members_of object.now)) entries.now.entries }
+{
+    for (key, value) in entries.iter() {
+        match object.get(key.text()) {
+            Some(member) => {
+                if !value.same_as_lazy(&member) {
+                    return false;
+                }
+            }
+            None => return false,
+        }
+    }
+    true
+}
+
+/// Whether each key of the object is one of the map, where each of the map has the same value in
+/// the object: a document then has as many members.
+fn has_keys<K: KeyText + Hash, X: SameAsLazy, S: BuildHasher>(
+    object: &Object,
+    entries: &HashMap<K, X, S>,
+) -> bool
+    requires { EachFound (λ u x. X.same_lazy (object_choice object.now, u) x) K.text_of (counted (object_choice object.now) (members_of object.now)) entries.now.entries }
+    ensures { IsTrue result ↔ HasKeys K.text_of (map (λ (p : List ℕ × Tree). p.0) (paired (members_of object.now))) entries.now.entries }
+{
+    match object {
+        Object::Tape(part) => tape_has_keys(part, entries),
+        Object::Value(members) => members.len() == entries.len(),
+    }
+}
+
+/// Whether each key of a tape's object is one of the map.
+fn tape_has_keys<K: KeyText + Hash, X, S: BuildHasher>(
+    object: &TapeObject,
+    entries: &HashMap<K, X, S>,
+) -> bool
+    ensures { IsTrue result ↔ HasKeys K.text_of (map (λ (p : List ℕ × Tree). p.0) (paired (tape_members object.now))) entries.now.entries }
+{
+    for key in object.keys() {
+        if !has_key(entries, key) {
+            return false;
+        }
+    }
+    true
+}
+
+/// Whether a key of the map has the text.
+fn has_key<K: KeyText + Hash, X, S: BuildHasher>(entries: &HashMap<K, X, S>, text: &str) -> bool
+    ensures { result ≡ is_some (value_at K.text_of text.now entries.now.entries) }
+{
+    for (key, _) in entries.iter() {
+        if key.text() == text {
+            return true;
+        }
+    }
+    false
+}

@@ -1,0 +1,42 @@
+//! Documents that own their texts.
+//!
+//! A `Value` is a null, a truth value or a whole number (`Static`), a text, an array or an object.
+//! It means one tree in which no object has two members of one key, whatever it was made from, and
+//! each of its calls answers and changes that tree. The calls stand at `sj_document::Document`,
+//! which has one body for this form and for the one that borrows its texts.
+//!
+//! ```
+//! let mut bytes = b"{\"some\":[\"key\",\"value\",2],\"some\":3}".to_vec(alloc)?;
+//! let mut value = sj_owned::to_value(alloc, bytes.as_mut_slice())?;
+//! assert_eq!(rt; value["some"][2].as_u8(), Some(2));
+//! value.insert(String::from_str(alloc, "n")?, Value::from(true))?;
+//! value["some"].push(Value::null())?;
+//! assert_eq!(rt; value.remove("n")?, Some(Value::from(true)));
+//! assert_eq!(rt; value.encode(alloc)?.as_str(), "{\"some\":[\"key\",\"value\",2,null]}");
+//! ```
+#![tactic(auto)]
+
+mod read;
+
+pub use read::{
+    to_owned_value, to_owned_value_with_buffers, to_value, to_value_repeats, to_value_with_buffers,
+};
+pub use sj_document::OwnedValue;
+pub use sj_object::{HashMap, ObjectHasher};
+pub use sj_tape::Buffers;
+pub use sj_text_core::{
+    AccessError, ErrorKind, ExtendedValueType, Refused, Repeats, SameAs, StaticNode, TryMake,
+    TryTypeError, TypedValue, ValueAsScalar, ValueType, Writable, WriteError,
+};
+
+/// A document that owns its texts.
+pub type Value = OwnedValue;
+
+/// The members of an object, in the order of their insertion.
+pub type Object = sj_document::Object<String>;
+
+/// The items of an array.
+pub type Array = Vec<Value>;
+
+#[cfg(test)]
+mod tests;
