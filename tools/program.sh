@@ -40,6 +40,8 @@ session 'a line that is no command' owned 'null\n---\n["nonsense"]\n' 0 'bad com
 session 'no words' '' 'null' 2 '' "$usage"
 session 'a word too many' 'owned known known' 'null' 2 '' "$usage"
 session 'an unknown word' 'own' 'null' 2 '' "$usage"
+session 'a word that is not UTF-8' $'\xff' 'null' 2 '' "$usage"
+session 'a second word that is not UTF-8' $'owned \xff' 'null' 2 '' "$usage"
 session 'lazy by known key' 'lazy known' 'null' 2 '' "$usage"
 session 'the empty text' owned '' 3 '' 'text refused: Syntax\n'
 session 'no UTF-8' owned '"\xff"' 3 '' 'text refused: InvalidUtf8\n'
