@@ -97,7 +97,7 @@ fn pop<T: KeyText + Drop>(value: &mut Document<T>) -> Result<Changed<T>, AllocEr
 fn remove<T: KeyText + Drop>(value: &mut Document<T>, key: &str) -> Result<Changed<T>, AllocError>
     ensures { Edits T.text_of [] (command.remove key.now) (tree T.text_of value.old) (tree T.text_of value.new) result }
 {
-    match value.remove_member(key) {
+    match value.remove(key) {
         Ok(Some(before)) => Ok(Changed::Old(before)),
         Ok(None) => Ok(Changed::Nothing),
         Err(_) => Ok(Changed::NotAnObject),

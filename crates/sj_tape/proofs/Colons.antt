@@ -5,7 +5,7 @@ use Rattle.std.proofs.lemmas.Bool.Decides.{nat_tests}
 use Rattle.sj_text_core.specs.declared.error.ErrorKind.{ErrorKind}
 use Rattle.sj_text_core.specs.Tree.{Tree}
 use Rattle.sj_text_core.specs.Nodes.{Mark, flat}
-use Rattle.sj_tape.specs.Parse.{Read, text_at, after_blank, after_key, member_at}
+use Rattle.sj_text_core.specs.Parse.{Read, text_at, after_blank, after_key, member_at}
 use Rattle.sj_tape.specs.Pieces.{piece_mark, Reads, ReadsMember, PutsText}
 
 pick : {X : Type 0} (c d : ℕ) (x y : X) → c ≡ d → cond (c == d) x y ≡ x

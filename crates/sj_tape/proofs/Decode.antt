@@ -4,9 +4,9 @@ use Rattle.std.specs.Prelude.{slice_range}
 use Rattle.std.specs.Char.{encode_utf8}
 use Rattle.std.proofs.lemmas.Option.{none-some, same_Some, some_pair_parts, option_and_then_some}
 use Rattle.std.proofs.lemmas.List.{take-append-drop, drop_at, take_at, drop-drop, length-take-le, get_or-drop, drop_more}
-use Rattle.sj_tape.specs.Parse.{escape_at, with_front, text_from, text_at}
+use Rattle.sj_text_core.specs.Parse.{escape_at, with_front, text_from, text_at}
 use Rattle.sj_tape.specs.Pieces.{after, text_of}
-use Rattle.sj_tape.proofs.Escapes.{IsPlain, Byte, quote, backslash, control, plain, byte_of, text_ends, text_quote, text_backslash, text_plain, text_control, with_escape, with_front_some, escape_sound}
+use Rattle.sj_text_core.proofs.parse.Escapes.{IsPlain, Byte, quote, backslash, control, plain, byte_of, text_ends, text_quote, text_backslash, text_plain, text_control, with_escape, with_front_some, escape_sound}
 use Rattle.sj_tape.proofs.Places.{place_quote, place_control, place_escape, place_bad, after_front, after_text}
 
 -- a front that is longer is shortened

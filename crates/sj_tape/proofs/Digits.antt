@@ -24,11 +24,11 @@ use Rattle.sj_tape.specs.declared.reader.piece.Piece.TheVariants.{Integer, Wide}
 use Rattle.sj_tape.specs.Marks.{static_mark}
 use Rattle.sj_tape.specs.Pieces.{piece_mark, ReadsPiece, number_mark, scalar_mark}
 use Rattle.sj_text_core.specs.Grammar.{value_of, number_of}
-use Rattle.sj_tape.specs.Parse.{is_digit, digits_len, goes_on, numeral_at, number_at}
-use Rattle.sj_tape.proofs.Numbers.{step, numeral_is}
+use Rattle.sj_text_core.specs.Parse.{is_digit, digits_len, goes_on, numeral_at, number_at}
+use Rattle.sj_text_core.proofs.parse.Numbers.{step, numeral_is}
 use Rattle.sj_tape.proofs.Scalars.{flat-static}
 use Rattle.sj_tape.proofs.Sound.{number_front}
-use Rattle.sj_tape.proofs.Complete.{number_again}
+use Rattle.sj_text_core.proofs.parse.Complete.{number_again}
 
 digit_is : (c : ℕ) → is_ascii_digit c ≡ is_digit c
 digit_is c = grind (arith, nat_tests)

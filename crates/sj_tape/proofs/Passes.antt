@@ -6,7 +6,7 @@ use Rattle.std.proofs.lemmas.Option.{none-some, some_pair_parts}
 use Rattle.std.proofs.lemmas.List.{take-append-drop, length-take-le, map-append, take_all}
 use Rattle.std.proofs.lemmas.List.Elements.{All-from_recursion}
 use Rattle.sj_text_core.specs.Nodes.{string}
-use Rattle.sj_tape.specs.Parse.{text_at, number_at}
+use Rattle.sj_text_core.specs.Parse.{text_at, number_at}
 use Rattle.sj_tape.specs.Pieces.{after, text_of, number_mark, piece_mark, piece_marks, spelling_of, IsBetween, InOrder, IsInside, AreInside}
 use Rattle.sj_tape.specs.declared.reader.piece.Piece.{Piece}
 use Rattle.sj_tape.specs.declared.reader.piece.Piece.TheVariants.{Null, Bool, Integer, Wide, Text, Escaped, Array, Object}

@@ -4,9 +4,9 @@ use Rattle.std.specs.Prelude.{slice_range}
 use Rattle.std.specs.Char.{encode_utf8}
 use Rattle.std.proofs.lemmas.Option.{none-some, same_Some}
 use Rattle.std.proofs.lemmas.List.{drop_more, drop_all, drop-drop, get_or-drop}
-use Rattle.sj_tape.specs.Parse.{Read, escape_at, with_front, text_at}
+use Rattle.sj_text_core.specs.Parse.{Read, escape_at, with_front, text_at}
 use Rattle.sj_tape.specs.Pieces.{after, text_of}
-use Rattle.sj_tape.proofs.Escapes.{IsPlain, text_skip, text_nil, text_quote, text_backslash, text_plain, text_control, with_escape, with_front_front}
+use Rattle.sj_text_core.proofs.parse.Escapes.{IsPlain, text_skip, text_nil, text_quote, text_backslash, text_plain, text_control, with_escape, with_front_front}
 
 at_byte : (b : List ℕ) (i c : ℕ) → i < length b → get_or b i 0 ≡ c → drop i b ≡ c ∷ drop (i + 1) b
 at_byte b i c h e = drop_more b i 0 h ∙ ap (λ x. x ∷ drop (i + 1) b) e

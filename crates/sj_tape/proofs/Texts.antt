@@ -9,7 +9,7 @@ use Rattle.sj_text_core.specs.Tree.{Tree, null, boolean, int, text, list, obj, I
 use Rattle.sj_text_core.specs.Nodes.{Mark, flat, flat_items, flat_members}
 use Rattle.sj_text_core.specs.Grammar.{IsString, Spaced, Spelling, SpellsItems, MoreItems, SpellsMembers, MoreMembers}
 use Rattle.sj_tape.proofs.Bytewise as raw
-use Rattle.sj_tape.proofs.Strings.{string_is}
+use Rattle.sj_text_core.proofs.parse.Strings.{string_is}
 use Rattle.sj_text_core.proofs.Characters.{string_utf8}
 use Rattle.sj_tape.specs.Pieces.{IsTextMark}
 

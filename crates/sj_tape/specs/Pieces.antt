@@ -3,7 +3,7 @@ use Rattle.std.specs.Prelude.{◌≡◌, ◌≢◌, ℕ, get_or, ◌+◌, ◌<�
 use Rattle.std.specs.Int.{cast_signed, w64}
 use Rattle.sj_text_core.specs.Tree.{i64, u64, Tree, null, boolean, int, text, list, obj}
 use Rattle.sj_text_core.specs.Nodes.{Mark, nothing, truth, number, string, array, object, flat, flat_items, flat_members}
-use Rattle.sj_tape.specs.Parse.{Read, text_at, number_at}
+use Rattle.sj_text_core.specs.Parse.{Read, text_at, number_at}
 use Rattle.sj_text_core.specs.Tree.{items_from, members_from}
 use Rattle.sj_tape.specs.declared.reader.piece.Piece.{Piece}
 use Rattle.sj_tape.specs.declared.reader.piece.Piece.TheVariants.{Null, Bool, Integer, Wide, Text, Escaped, Array, Object}

@@ -16,7 +16,7 @@ mod structure;
 ghost use Rattle.std.specs.Prelude.{◌≡◌, ◌≢◌, ◌↔◌, Some, None, length, IfOk, IfErr, IsErrOf, IsUtf8};
 ghost use Rattle.sj_text_core.specs.Tree.{Tree, IsWithin};
 ghost use Rattle.sj_text_core.specs.Grammar.{Spells, IsReadable};
-ghost use Rattle.sj_tape.specs.Parse.{tree_at};
+ghost use Rattle.sj_text_core.specs.Parse.{tree_at};
 ghost use Rattle.sj_tape.specs.Pieces.{HasBackslash, Scans, piece_marks};
 ghost use Rattle.sj_tape.specs.Sinks.{Holds};
 

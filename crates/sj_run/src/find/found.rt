@@ -15,7 +15,8 @@ use crate::reply::Reply;
 use crate::runs::Why;
 use sj_document::{Document, Object};
 use sj_object::KeyText;
-use sj_text_core::{BaseGenerator, StaticNode, ValueType, Writable, WriterGenerator};
+use sj_print::{BaseGenerator, WriterGenerator};
+use sj_text_core::{StaticNode, ValueType, Writable};
 use std::alloc::{AllocError, Global};
 
 /// What a read finds.

@@ -2,7 +2,7 @@
 
 ghost use Rattle.std.specs.Prelude.{◌≡◌, ◌+◌, ◌<◌, ◌≤◌, ◌++◌, Some, length, take, drop, slice_range};
 ghost use Rattle.std.specs.Char.{encode_utf8};
-ghost use Rattle.sj_tape.specs.Parse as parse;
+ghost use Rattle.sj_text_core.specs.Parse as parse;
 ghost use Rattle.sj_tape.specs.Pieces.{after, text_of, InOrder, AreInside, piece_marks};
 
 use crate::reader::escape::escape;

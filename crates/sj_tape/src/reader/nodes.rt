@@ -3,7 +3,7 @@
 ghost use Rattle.std.specs.Prelude.{◌≡◌, ◌≢◌, ◌+◌, ◌<◌, ◌≤◌, ◌++◌, ◌∷◌, [], None, length, IfOk, OnOk, IfErr, IsUtf8, All};
 ghost use Rattle.sj_tape.specs.Pieces.{AreInside, HasBackslash, IsCut, IsInside, IsTextMark, number_mark, piece_mark, piece_marks};
 ghost use Rattle.sj_tape.specs.Marks.{static_mark, marks};
-ghost use Rattle.sj_tape.specs.Parse.{number_at};
+ghost use Rattle.sj_text_core.specs.Parse.{number_at};
 
 use crate::node::Node;
 use crate::reader::number::number;

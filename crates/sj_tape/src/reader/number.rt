@@ -3,7 +3,7 @@
 ghost use Rattle.std.specs.Prelude.{◌≡◌, ◌+◌, ◌-◌, ◌<◌, ◌≤◌, ◌^◌, ℕ, Some, None, length, drop, IfOk, IfErr, ◌≢◌, OnErr, MatchOption, option_map, IsTrue, ◌↔◌, EachIndex, slice_index, slice_range, pos, neg_ℤ, true, false, cond};
 ghost use Rattle.std.specs.Int.{cast_signed, w64};
 ghost use Rattle.sj_tape.specs.Pieces.{Puts};
-ghost use Rattle.sj_tape.specs.Parse as parse;
+ghost use Rattle.sj_text_core.specs.Parse as parse;
 ghost use Rattle.sj_text_core.specs.Grammar.{value_of, number_of};
 ghost use Rattle.sj_text_core.specs.Scalars.{static_tree};
 
@@ -28,7 +28,7 @@ fn digits(bytes: &[u8], at: usize) -> (usize, u64)
     read_digits(bytes, at, 0)
 }
 
-#[tactic(auto, using(crate::proofs::Numbers::too_large))]
+#[tactic(auto, using(sj_text_core::proofs::parse::Numbers::too_large))]
 /// The number that digits write, if it is below 2 ^ 128.
 fn large(digits: &[u8]) -> Option<u128>
     requires { EachIndex digits.now (λ k. (48 ≤ slice_index digits.now k) × (slice_index digits.now k ≤ 57)) }
@@ -96,7 +96,7 @@ fn goes_on(bytes: &[u8], at: usize) -> bool
     byte == b'.' || byte == b'e' || byte == b'E'
 }
 
-#[tactic(auto, using(crate::proofs::Numbers::numeral_is))]
+#[tactic(auto, using(sj_text_core::proofs::parse::Numbers::numeral_is))]
 /// The digits that stand at `at`, and the place after them.
 fn numeral(bytes: &[u8], at: usize, is_negative: bool) -> Result<(StaticNode, usize), ErrorKind>
     requires { at ≤ length bytes.now }

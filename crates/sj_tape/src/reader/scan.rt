@@ -2,7 +2,7 @@
 
 ghost use Rattle.std.specs.Prelude.{◌≡◌, ◌+◌, ◌-◌, ◌<◌, ◌≤◌, ℕ, Some, None, length, drop, IfOk, IfErr, OnOk, OnErr, MatchResult, IsTrue, ◌↔◌, ◌≢◌, ◌==◌, ◌++◌, ◌∷◌, [], slice_index, IsUtf8};
 ghost use Rattle.sj_tape.specs.Pieces.{Puts, Reads, ReadsItems, ReadsMembers, ReadsMember, Scans};
-ghost use Rattle.sj_tape.specs.Parse as parse;
+ghost use Rattle.sj_text_core.specs.Parse as parse;
 
 use crate::reader::blank::skip;
 use crate::reader::number::number_piece;

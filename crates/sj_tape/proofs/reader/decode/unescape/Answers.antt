@@ -2,10 +2,10 @@ use Rattle.sj_tape.specs.Pieces.{after}
 use Rattle.std.proofs.Common.{ℕ, ◌≡◌, ◌+◌, ◌≤◌, ◌∷◌, [], length, take, drop, get_or, set, sym, ap, ◌∙◌, subst, arith, Some}
 use Rattle.std.specs.Prelude.{slice_range}
 use Rattle.std.specs.Char.{encode_utf8}
-use Rattle.sj_tape.specs.Parse.{text_at, with_front}
+use Rattle.sj_text_core.specs.Parse.{text_at, with_front}
 use Rattle.sj_tape.proofs.Places.{place_plain}
 use Rattle.sj_tape.proofs.Places.{place_plain}
-use Rattle.sj_tape.proofs.Escapes.{with_front_front}
+use Rattle.sj_text_core.proofs.parse.Escapes.{with_front_front}
 use Rattle.sj_tape.proofs.Decode.{written, set_is, written_size, written_rest, written_before, written_text, same_byte, same_rest, ends_on, ahead, never_bad, plain_here, text_done}
 use Rattle.sj_tape.proofs.reader.decode.unescape.Goals as goal
 

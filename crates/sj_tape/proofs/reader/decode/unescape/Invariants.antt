@@ -1,6 +1,6 @@
 use Rattle.std.proofs.Common.{◌≡◌, ◌≤◌, ◌-◌, ◌+◌, length, take, drop, Some}
 use Rattle.std.specs.Prelude.{slice_range}
-use Rattle.sj_tape.specs.Parse.{text_at, with_front}
+use Rattle.sj_text_core.specs.Parse.{text_at, with_front}
 use Rattle.sj_tape.specs.Pieces.{after}
 use Rattle.sj_tape.proofs.reader.decode.unescape.Given as goal
 

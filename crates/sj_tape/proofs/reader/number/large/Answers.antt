@@ -1,5 +1,5 @@
 use Rattle.std.proofs.Common.{get_or, refl, arith}
-use Rattle.sj_tape.proofs.Numbers.{too_large}
+use Rattle.sj_text_core.proofs.parse.Numbers.{too_large}
 use Rattle.sj_tape.proofs.reader.number.large.Goals as goal
 
 pub returns-in_default : goal.returns-in_default

@@ -5,7 +5,7 @@ use Rattle.sj_tape.proofs.Scalars.{puts_by, puts_reads}
 use Rattle.std.proofs.lemmas.List.{get_or_past}
 use Rattle.sj_text_core.specs.Tree.{list, obj}
 use Rattle.sj_text_core.specs.Nodes.{flat, array, object}
-use Rattle.sj_tape.specs.Parse.{value_at, parts_at, member_at}
+use Rattle.sj_text_core.specs.Parse.{value_at, parts_at, member_at}
 use Rattle.sj_text_core.specs.Tree.{items_from, members_from}
 use Rattle.sj_tape.proofs.Parts.{fails, parts_none, parts_unseparated, last_turn, next_turn, item_flats, member_flats, member_flat, item_flats-push, member_flats-push}
 use Rattle.sj_tape.proofs.Values.{value_at_end, value_too_deep, value_too_deep_2, value_in_list, value_in_obj, value_scalar, reads_by, errs_by, list_reads, obj_reads, count_is, nodes_set, flat_list_is, flat_obj_is}

@@ -1,5 +1,5 @@
 use Rattle.std.proofs.Common.{◌*◌, ◌+◌, ◌-◌, ◌≤◌, length, drop}
-use Rattle.sj_tape.specs.Parse.{parts_at, value_at, member_at}
+use Rattle.sj_text_core.specs.Parse.{parts_at, value_at, member_at}
 use Rattle.sj_tape.proofs.Parts.{Progress, item_flats, member_flats}
 use Rattle.sj_tape.proofs.reader.scan.+scan.Given as goal
 

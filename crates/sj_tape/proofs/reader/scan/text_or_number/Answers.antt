@@ -1,6 +1,6 @@
 use Rattle.std.proofs.Common.{arith}
 use Rattle.std.proofs.lemmas.Result.{IfOk-weaker}
-use Rattle.sj_tape.specs.Parse.{nothing_at}
+use Rattle.sj_text_core.specs.Parse.{nothing_at}
 use Rattle.sj_tape.proofs.Scalars.{other_at, puts_text, puts_by}
 use Rattle.sj_tape.proofs.Values.{errs_by}
 use Rattle.sj_tape.proofs.reader.scan.text_or_number.Goals as goal

@@ -1,7 +1,7 @@
 use Rattle.std.proofs.Common.{refl, ◌∙◌, arith, true, false}
 use Rattle.std.proofs.lemmas.Result.{err_from_is_err_and}
 use Rattle.sj_text_core.specs.Tree.{null, boolean}
-use Rattle.sj_tape.specs.Parse.{nothing_at}
+use Rattle.sj_text_core.specs.Parse.{nothing_at}
 use Rattle.sj_tape.specs.declared.reader.piece.Piece.TheVariants.{Null, Bool}
 use Rattle.sj_tape.proofs.Scalars.{null_at, true_at, false_at, nothing_else}
 use Rattle.sj_tape.proofs.reader.scan.word.Goals as goal

@@ -1,5 +1,5 @@
 use Rattle.std.proofs.Common.{◌≡◌, ◌≤◌, ◌<◌, false, get_or, ◌-◌, length, drop}
-use Rattle.sj_tape.specs.Parse.{text_at}
+use Rattle.sj_text_core.specs.Parse.{text_at}
 use Rattle.sj_tape.specs.Pieces.{after}
 use Rattle.sj_tape.specs.Run.{is_plain}
 use Rattle.sj_tape.proofs.reader.string.escaped_end.Given as goal
