@@ -9,7 +9,7 @@ use Rattle.sj_run.specs.Replies.{PlainReply, missing}
 use Rattle.sj_run.specs.Answers.{edit, edit_found, changed}
 use Rattle.sj_run.specs.Meant.{step_meant}
 use Rattle.sj_run.specs.declared.command.Step as meant
-use Rattle.std.proofs.Common.{drop, drop-cons, add-one, ◌+◌, Result, Ok, Err, ◌<◌, length, get_or, set, arith}
+use Rattle.std.proofs.Common.{drop, drop-cons, add-one, ◌+◌, Result, Ok, Err, ◌<◌, ◌≤◌, length, get_or, set, arith}
 use Rattle.sj_text_core.specs.Tree.{items_from}
 use Rattle.sj_document.specs.Document.{tree}
 use Rattle.sj_document.specs.declared.value.Document.{Document}
@@ -80,6 +80,11 @@ module _ {T : Type 0} (t : T → List ℕ) where
   item_at [] i x h e = absurd (omega arith)
   item_at (v ∷ vs) zero x h e = ap (λ y. Some (tree t y)) (sym e)
   item_at (v ∷ vs) (suc i) x h e = item_at vs i x (omega arith) e
+
+  pub no_item : (vs : List (Document T)) (i : ℕ) → length vs ≤ i → nth_item i (items_from (map (tree t) vs)) ≡ None
+  no_item [] i h = refl
+  no_item (v ∷ vs) zero h = absurd (omega arith)
+  no_item (v ∷ vs) (suc i) h = no_item vs i (omega arith)
 
   pub item_set : (vs : List (Document T)) (i : ℕ) (x : Document T) → items_from (map (tree t) (set vs i x)) ≡ set_item i (tree t x) (items_from (map (tree t) vs))
   item_set [] i x = refl

@@ -1,4 +1,4 @@
-use Rattle.std.proofs.Common.{◌≡◌, rules, Box, Vec, Global, None, map, option_map, sym, ap, ◌∙◌, arith}
+use Rattle.std.proofs.Common.{◌≡◌, rules, Box, Vec, Global, map, option_map, sym, ap, ◌∙◌, arith}
 use Rattle.sj_text_core.specs.Tree.{list, obj, items_from}
 use Rattle.sj_text_core.specs.Paths.{by_key, by_place}
 use Rattle.sj_object.specs.Members.{entry_members}
@@ -6,10 +6,9 @@ use Rattle.sj_object.proofs.Shown.{lookup-entry_members, entry_members-set_value
 use Rattle.sj_document.specs.Document.{tree}
 use Rattle.sj_document.specs.declared.value.Document.{Document, Object, Array, the_lemmas}
 use Rattle.sj_document.proofs.Trees.{Map, tree-Object, tree-Array}
-use Rattle.sj_document.proofs.Arrays.{get_nth}
 use Rattle.sj_run.specs.Asked.{write_meant}
 use Rattle.sj_run.specs.Meant.{step_meant}
-use Rattle.sj_run.proofs.Edits.{answered_below, answered_as, edit_missing, item_at, item_set}
+use Rattle.sj_run.proofs.Edits.{answered_below, answered_as, edit_missing, item_at, item_set, no_item}
 use Rattle.sj_run.proofs.change.edit.+edit.Goals as goal
 
 pub edit_member-returns-in-Some : goal.edit_member-returns-in-Some
@@ -41,7 +40,7 @@ pub edit_item-returns-else-at-len : goal.edit_item-returns-else-at-len
 edit_item-returns-else-at-len g r c =
     let t = g.T.KeyText.text_of in
     sym (edit_missing (by_place c.args.at) (map step_meant c.args.rest.now) (write_meant t c.args.write) (list (items_from (map (tree t) c.args.items.now.items)))
-    (sym (get_nth t c.args.items.now.items c.args.at None (omega (arith, c.if-at-len.false, c.len.ensures, c.args.items.now.ok.0)))))
+    (no_item t c.args.items.now.items c.args.at (omega (arith, c.if-at-len.false, c.len.ensures, c.args.items.now.ok.0))))
 
 pub edit_step-returns-in-Object : goal.edit_step-returns-in-Object
 edit_step-returns-in-Object g r c =
