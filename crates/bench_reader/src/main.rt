@@ -1,7 +1,7 @@
 //! Rates of reading: `to_tape`, `to_tape_with_buffers` and the tape of `json`, in turns, on texts
 //! that a seeded generator writes. Run `rt run -- ROUNDS MEGABYTES KIND` in this folder (without
-//! KIND: each kind); each line has the best rate of so many rounds, by the thread's own clock.
-//! Without words it does nothing.
+//! KIND: each kind), or `rt run -- ROUNDS stdin` for the text on standard input; each line has the
+//! best rate of so many rounds, by the thread's own clock. Without words it does nothing.
 #![tactic(auto)]
 
 mod texts;
@@ -10,6 +10,7 @@ use crate::texts::{Kind, text_of};
 use json::{Scratch, Tape};
 use sj_tape::{Buffers, to_tape, to_tape_with_buffers};
 use std::alloc::Global;
+use std::io::Read;
 use std::time::CpuClock;
 use std::{env, io};
 
@@ -66,10 +67,8 @@ fn best(rt: &HostRuntime, bytes: &Vec<u8>, rounds: u32) -> io::Result<[u64; WAYS
     Ok(best)
 }
 
-fn report(rt: &HostRuntime, kind: Kind, size: usize, rounds: u32) -> io::Result<()> {
-    let bytes = text_of(rt.alloc(), kind, size)?;
-    let best = best(rt, &bytes, rounds)?;
-    let kind = kind.name();
+fn report(rt: &HostRuntime, kind: &str, bytes: &Vec<u8>, rounds: u32) -> io::Result<()> {
+    let best = best(rt, bytes, rounds)?;
     let len = bytes.len();
     for way in 0..WAYS {
         let name = name_of(way);
@@ -89,6 +88,11 @@ fn main(rt: HostRuntime) -> io::Result<()> {
         return Ok(());
     };
     let rounds = rounds.as_str().parse::<u32>().unwrap_or(1);
+    if words.get(2).is_some_and(|word| word.as_str() == "stdin") {
+        let mut bytes = Vec::new(alloc);
+        rt.reader().read_to_end(&mut bytes)?;
+        return report(&rt, "stdin", &bytes, rounds);
+    }
     let megabytes = match words.get(2) {
         Some(word) => word.as_str().parse::<usize>().unwrap_or(1),
         None => 1,
@@ -100,7 +104,8 @@ fn main(rt: HostRuntime) -> io::Result<()> {
             None => true,
         };
         if is_wanted {
-            report(&rt, kind, size, rounds)?;
+            let bytes = text_of(alloc, kind, size)?;
+            report(&rt, kind.name(), &bytes, rounds)?;
         }
     }
     Ok(())
