@@ -20,7 +20,7 @@ pub enum Kind {
     Messages,
     /// Texts with an escape every 20 bytes.
     Escapes,
-    /// Arrays and objects in one another, up to 300 deep.
+    /// Arrays and objects in one another, up to 100 deep.
     Nested,
 }
 
@@ -281,8 +281,8 @@ fn put_escaped(out: &mut Vec<u8>, random: &mut Random) -> Result<(), AllocError>
 }
 
 fn put_nested(out: &mut Vec<u8>, random: &mut Random) -> Result<(), AllocError> {
-    let depth = random.below(300) as usize + 1;
-    let mut is_list: [bool; 300] = [false; 300];
+    let depth = random.below(100) as usize + 1;
+    let mut is_list: [bool; 100] = [false; 100];
     for level in 0..depth {
         is_list[level] = random.below(2) == 0;
         if is_list[level] {
