@@ -14,6 +14,7 @@ pub mod Lookups
 pub mod NodeMarks
 pub mod Numbers
 pub mod Order
+pub mod Overwrites
 pub mod Parts
 pub mod Passes
 pub mod Places

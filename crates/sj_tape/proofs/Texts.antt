@@ -14,7 +14,7 @@ use Rattle.sj_text_core.proofs.Characters.{string_utf8}
 use Rattle.sj_tape.specs.Pieces.{IsTextMark}
 
 -- an ASCII byte cuts UTF-8 in two
-cut : (a b : List ℕ) (c : ℕ) → c < 128 → IsUtf8 (a ++ (c ∷ b)) → IsUtf8 a × IsUtf8 b
+pub cut : (a b : List ℕ) (c : ℕ) → c < 128 → IsUtf8 (a ++ (c ∷ b)) → IsUtf8 a × IsUtf8 b
 cut a b c h u =
     let at : get_or (a ++ (c ∷ b)) (length a) 0 < 128 = omega (arith, get_or_at a c b 0 (length a) refl) in
     let lt : length a < length (a ++ (c ∷ b)) = omega (arith, length-append a (c ∷ b)) in (

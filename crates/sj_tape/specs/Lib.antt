@@ -11,3 +11,4 @@ pub mod Items
 pub mod Members
 pub mod Lookup
 pub mod Laws
+pub mod Gives

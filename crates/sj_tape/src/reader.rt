@@ -12,6 +12,7 @@ mod scan;
 mod sink;
 mod string;
 mod structure;
+mod text;
 
 ghost use Rattle.std.specs.Prelude.{◌≡◌, ◌≢◌, ◌↔◌, Some, None, length, IfOk, IfErr, IsErrOf, IsUtf8};
 ghost use Rattle.sj_text_core.specs.Tree.{Tree, IsWithin};

@@ -2,7 +2,7 @@
 
 ghost use Rattle.std.specs.Prelude.{◌≡◌, ◌≢◌, ◌+◌, ◌<◌, ◌≤◌, ◌++◌, ◌∷◌, [], None, length, IfOk, OnOk, IfErr, IsUtf8, All};
 ghost use Rattle.sj_tape.specs.Pieces.{AreInside, HasBackslash, IsCut, IsInside, IsTextMark, number_mark, piece_mark, piece_marks};
-ghost use Rattle.sj_tape.specs.Marks.{static_mark, marks};
+ghost use Rattle.sj_tape.specs.Marks.{mark, static_mark, marks};
 ghost use Rattle.sj_tape.specs.Parse.{number_at};
 
 use crate::node::Node;
@@ -26,7 +26,7 @@ pub(crate) fn lend<'i>(
 {
     let mut nodes = Vec::with_capacity(alloc, pieces.len())?;
     for piece in pieces {
-        push_node(&mut nodes, bytes, *piece)?;
+        push_piece(&mut nodes, bytes, *piece)?;
     }
     Ok(nodes)
 }
@@ -50,7 +50,7 @@ impl<'i> Sink for Nodes<'i> {
 
     #[inline(always)]
     fn put(&mut self, _bytes: &[u8], piece: Piece) -> Result<(), ErrorKind> {
-        push_node(&mut self.nodes, self.bytes, piece)
+        push_piece(&mut self.nodes, self.bytes, piece)
     }
 
     #[inline(always)]
@@ -66,10 +66,20 @@ impl<'i> Sink for Nodes<'i> {
     ghost wider = { λ _ _ _ _ _ h. h };
 }
 
+/// Puts a node at the end.
+#[tactic(auto, using(crate::proofs::NodeMarks::marks_push))]
+#[inline(always)]
+pub(crate) fn push_node<'i>(nodes: &mut Vec<Node<'i>>, node: Node<'i>) -> Result<(), ErrorKind>
+    ensures marks { OnOk result (marks nodes.new.items ≡ marks nodes.old.items ++ mark node.entry ∷ []) }
+    ensures err { IfErr result (λ e. e ≡ ErrorKind.OutOfMemory) }
+{
+    push(nodes, node)
+}
+
 /// Puts the node of a piece at the end.
 #[tactic(auto, using(crate::proofs::NodeMarks::marks_push))]
 #[inline(always)]
-fn push_node<'i>(nodes: &mut Vec<Node<'i>>, bytes: &'i [u8], piece: Piece) -> Result<(), ErrorKind>
+fn push_piece<'i>(nodes: &mut Vec<Node<'i>>, bytes: &'i [u8], piece: Piece) -> Result<(), ErrorKind>
     requires inside { IsInside bytes.now (length bytes.now) piece }
     requires cut { IsCut bytes.now piece }
     ensures marks { OnOk result (marks nodes.new.items ≡ marks nodes.old.items ++ piece_mark bytes.now piece ∷ []) }
