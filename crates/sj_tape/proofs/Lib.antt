@@ -9,6 +9,7 @@ pub mod Decode
 pub mod Digits
 pub mod Escapes
 pub mod Fronts
+pub mod Gives
 pub mod Lanes
 pub mod Lookups
 pub mod NodeMarks

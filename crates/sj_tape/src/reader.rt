@@ -13,6 +13,7 @@ mod sink;
 mod string;
 mod structure;
 mod text;
+mod value;
 
 ghost use Rattle.std.specs.Prelude.{◌≡◌, ◌≢◌, ◌↔◌, Some, None, length, IfOk, IfErr, IsErrOf, IsUtf8};
 ghost use Rattle.sj_text_core.specs.Tree.{Tree, IsWithin};

@@ -1,6 +1,6 @@
 //! Nodes with texts that lie in the bytes, made of pieces or at once.
 
-ghost use Rattle.std.specs.Prelude.{◌≡◌, ◌≢◌, ◌+◌, ◌<◌, ◌≤◌, ◌++◌, ◌∷◌, [], None, length, IfOk, OnOk, IfErr, IsUtf8, All};
+ghost use Rattle.std.specs.Prelude.{◌≡◌, ◌≢◌, ◌+◌, ◌<◌, ◌≤◌, ◌++◌, ◌∷◌, [], None, length, set, IfOk, OnOk, IfErr, IsUtf8, All};
 ghost use Rattle.sj_tape.specs.Pieces.{AreInside, HasBackslash, IsCut, IsInside, IsTextMark, number_mark, piece_mark, piece_marks};
 ghost use Rattle.sj_tape.specs.Marks.{mark, static_mark, marks};
 ghost use Rattle.sj_tape.specs.Parse.{number_at};
@@ -74,6 +74,23 @@ pub(crate) fn push_node<'i>(nodes: &mut Vec<Node<'i>>, node: Node<'i>) -> Result
     ensures err { IfErr result (λ e. e ≡ ErrorKind.OutOfMemory) }
 {
     push(nodes, node)
+}
+
+/// How many nodes there are.
+#[inline(always)]
+pub(crate) fn count(nodes: &Vec<Node<'_>>) -> usize
+    ensures { result ≡ length (marks nodes.now.items) }
+{
+    nodes.len()
+}
+
+/// Puts a node in the place of another.
+#[inline(always)]
+pub(crate) fn set_node<'i>(nodes: &mut Vec<Node<'i>>, place: usize, node: Node<'i>)
+    requires { place < length (marks nodes.old.items) }
+    ensures { marks nodes.new.items ≡ set (marks nodes.old.items) place (mark node.entry) }
+{
+    nodes[place] = node;
 }
 
 /// Puts the node of a piece at the end.
