@@ -1,7 +1,6 @@
 -- Digits, as many as there are, and what a word holds of them.
-use Rattle.std.proofs.Common.{◌≡◌, ◌≢◌, ℕ, pos, neg_ℤ, suc, ◌+◌, ◌-◌, ◌*◌, ◌%◌, ◌^◌, ◌<◌, ◌≤◌, Bool, true, false, List, [], ◌∷◌, length, take, drop, get_or, cond, lit<, Some, None, fold, refl, sym, ap, subst, ◌∙◌, arith, zero-mul, append-nil, length-append, length-drop}
+use Rattle.std.proofs.Common.{◌≡◌, ℕ, suc, ◌+◌, ◌-◌, ◌*◌, ◌%◌, ◌^◌, ◌<◌, ◌≤◌, Bool, true, false, List, [], ◌∷◌, length, take, drop, get_or, cond, lit<, fold, refl, sym, ap, subst, ◌∙◌, arith, zero-mul}
 use Rattle.std.specs.Prelude.{slice_range}
-use Rattle.std.specs.Int.{cast_signed, w64}
 use Rattle.std.specs.List.{prefix_len}
 use Rattle.std.specs.Char.{is_ascii_digit, digit_value}
 use Rattle.std.specs.Str.Parse.{AllDigits, digits_value, digits_value_after}
@@ -9,26 +8,12 @@ use Rattle.std.proofs.Math.Nat.{pow-le-pow_right}
 use Rattle.std.proofs.lemmas.Str.{digit_value_digit}
 use Rattle.std.proofs.lemmas.Str.Parse.{digit_from_value}
 use Rattle.std.proofs.lemmas.Int.Digits.{digits_value-lt}
-use Rattle.std.proofs.lemmas.Option.{none-some}
 use Rattle.std.proofs.lemmas.Bool.Decides.{nat_tests}
-use Rattle.std.proofs.lemmas.Grind.{common_steps}
-use Rattle.std.proofs.lemmas.List.{take_at, drop-drop, length-take-le, get_or-drop}
+use Rattle.std.proofs.lemmas.List.{length-take-le, get_or-drop}
 use Rattle.std.proofs.lemmas.List.Sums.{prefix_len_passes, prefix_len-le-length}
-use Rattle.sj_text_core.specs.Tree.{Tree, int, i64, u64}
-use Rattle.sj_text_core.specs.Nodes.{flat, number}
-use Rattle.sj_text_core.specs.Scalars.{static_tree}
-use Rattle.sj_text_core.specs.declared.static_node.StaticNode.{StaticNode}
-use Rattle.sj_text_core.specs.declared.static_node.StaticNode.TheVariants as nodes
-use Rattle.sj_tape.specs.declared.reader.piece.Piece.{Piece}
-use Rattle.sj_tape.specs.declared.reader.piece.Piece.TheVariants.{Integer, Wide}
-use Rattle.sj_tape.specs.Marks.{static_mark}
-use Rattle.sj_tape.specs.Pieces.{piece_mark, ReadsPiece, number_mark, scalar_mark}
-use Rattle.sj_text_core.specs.Grammar.{value_of, number_of}
-use Rattle.sj_tape.specs.Parse.{is_digit, digits_len, goes_on, numeral_at, number_at}
-use Rattle.sj_tape.proofs.Numbers.{step, numeral_is}
-use Rattle.sj_tape.proofs.Scalars.{flat-static}
-use Rattle.sj_tape.proofs.Sound.{number_front}
-use Rattle.sj_tape.proofs.Complete.{number_again}
+use Rattle.sj_text_core.specs.Grammar.{value_of}
+use Rattle.sj_tape.specs.Parse.{is_digit, digits_len}
+use Rattle.sj_tape.proofs.Numbers.{step}
 
 digit_is : (c : ℕ) → is_ascii_digit c ≡ is_digit c
 digit_is c = grind (arith, nat_tests)
@@ -93,87 +78,3 @@ pub digit_at : (b : List ℕ) (at e k : ℕ) → e ≡ at + prefix_len is_ascii_
 digit_at b at e k h l m =
     let same : get_or (drop at b) (k - at) 0 ≡ get_or b k 0 = get_or-drop at b (k - at) 0 ∙ ap (λ n. get_or b n 0) (omega (arith, l)) in
     digit_range _ (subst (λ x. is_ascii_digit x ≡ true) same (prefix_len_passes is_ascii_digit (drop at b) (k - at) 0 (omega (arith, h, l, m))))
-
--- a number is spelled by its own bytes alone
-pub number_alone : (b : List ℕ) (at next : ℕ) (t : Tree) → at ≤ next → next ≤ length b → number_at (drop at b) ≡ Some (t, drop next b) → number_at (slice_range b at next) ≡ Some (t, [])
-number_alone b at next t h k e =
-    let q = number_front (drop at b) t (drop next b) e in
-    let n : length q.0 ≡ next - at = omega (arith, ap (λ (l : List ℕ). length l) q.1, length-append q.0 (drop next b), length-drop at b, length-drop next b, h, k) in
-    let is : slice_range b at next ≡ q.0 = ap (λ l. take (next - at) l) q.1 ∙ take_at q.0 (drop next b) (next - at) n in
-    ap (λ l. number_at l) (is ∙ sym (append-nil q.0)) ∙ number_again q.0 [] t q.2 (record { digits = refl; plain = refl })
-
--- one numeral from a place on
-pub numeral_reads : (minus : Bool) (b : List ℕ) (start e : ℕ) (t : Tree) → start ≤ e → digits_len (drop start b) ≡ e - start → e - start ≢ 0 → (get_or b start 0 ≡ 48 → e - start ≤ 1)
-    → goes_on (drop e b) ≡ false → number_of minus (value_of (slice_range b start e)) ≡ Some t → numeral_at minus (digits_len (drop start b)) (drop start b) ≡ Some (t, drop e b)
-numeral_reads minus b start e t h n some plain ends k =
-    let back : drop (e - start) (drop start b) ≡ drop e b = drop-drop (e - start) start b ∙ ap (λ m. drop m b) (omega (arith, h)) in
-    ap (λ m. numeral_at minus m (drop start b)) n
-    ∙ (numeral_is minus (e - start) (drop start b) t some (λ z. plain (sym (first_at b start) ∙ z)) (ap (λ l. goes_on l) back ∙ ends) k ∙ ap (λ l. Some (t, l)) back)
-  where
-    first_at : (b : List ℕ) (start : ℕ) → get_or (drop start b) 0 0 ≡ get_or b start 0
-    first_at b start = get_or-drop start b 0 0 ∙ ap (λ n. get_or b n 0) (omega arith)
-
--- none where a fraction or an exponent follows
-pub numeral_float : (minus : Bool) (b : List ℕ) (start e : ℕ) → start ≤ e → digits_len (drop start b) ≡ e - start → goes_on (drop e b) ≡ true → numeral_at minus (digits_len (drop start b)) (drop start b) ≡ None
-numeral_float minus b start e h n goes =
-    let back : drop (e - start) (drop start b) ≡ drop e b = drop-drop (e - start) start b ∙ ap (λ m. drop m b) (omega (arith, h)) in
-    ap (λ m. numeral_at minus m (drop start b)) n ∙ none minus (e - start) (drop start b) (ap (λ l. goes_on l) back ∙ goes)
-  where
-    none : (minus : Bool) (n : ℕ) (b : List ℕ) → goes_on (drop n b) ≡ true → numeral_at minus n b ≡ None
-    none minus n b goes = grind (arith, common_steps, nat_tests)
-
--- none where more digits follow a zero
-pub numeral_zero : (minus : Bool) (b : List ℕ) (start e : ℕ) → digits_len (drop start b) ≡ e - start → 1 < e - start → get_or b start 0 ≡ 48 → numeral_at minus (digits_len (drop start b)) (drop start b) ≡ None
-numeral_zero minus b start e n many z =
-    ap (λ m. numeral_at minus m (drop start b)) n ∙ none minus (e - start) (drop start b) many (get_or-drop start b 0 0 ∙ (ap (λ n. get_or b n 0) (omega arith) ∙ z))
-  where
-    none : (minus : Bool) (n : ℕ) (b : List ℕ) → 1 < n → get_or b 0 0 ≡ 48 → numeral_at minus n b ≡ None
-    none minus n b many z = grind (arith, common_steps, nat_tests)
-
--- numbers of a word
-pub word_of : (n : ℕ) → n < 2 ^ 64 → number_of false n ≡ Some (int (pos n) u64)
-word_of n h = grind (arith, nat_tests)
-
--- small negative numbers
-pub negative_of : (n : ℕ) → n < 10 ^ 18 → number_of true n ≡ Some (int (neg_ℤ (pos n)) i64)
-negative_of n h = grind (arith, nat_tests)
-
--- the piece of a number, where there is one
-pub reads_number : (b : List ℕ) (at start e n : ℕ) (minus : Bool) (t : Tree) (p : Piece) → number_at (drop at b) ≡ numeral_at minus (digits_len (drop start b)) (drop start b)
-    → start ≤ e → digits_len (drop start b) ≡ e - start → e - start ≢ 0 → (get_or b start 0 ≡ 48 → e - start ≤ 1) → goes_on (drop e b) ≡ false → n ≡ value_of (slice_range b start e) → number_of minus n ≡ Some t → flat t ≡ piece_mark b p ∷ []
-    → ReadsPiece (number_at (drop at b)) b e p
-reads_number b at start e n minus t p sign h k some plain ends v w m = record {
-  tree = t;
-  was = sign ∙ numeral_reads minus b start e t h k some plain ends (ap (λ x. number_of minus x) (sym v) ∙ w);
-  node = m;
-}
-
--- the piece of a number of one word
-pub reads_word : (b : List ℕ) (at start e n bits most : ℕ) (minus : Bool) → number_at (drop at b) ≡ numeral_at minus (digits_len (drop start b)) (drop start b)
-    → start ≤ e → digits_len (drop start b) ≡ e - start → e - start ≢ 0 → (get_or b start 0 ≡ 48 → e - start ≤ 1) → goes_on (drop e b) ≡ false
-    → most ≡ cond minus 18 19 → e - start ≤ most → (e - start ≤ 19 → n ≡ value_of (slice_range b start e)) → (e - start ≤ 18 → n < 10 ^ 18) → n < 2 ^ 64
-    → (minus ≡ true → cast_signed w64 bits ≡ neg_ℤ (pos n)) → (minus ≡ false → bits ≡ n) → ReadsPiece (number_at (drop at b)) b e (Integer minus bits)
-reads_word b at start e n bits most true sign h k some plain ends m few v w fits neg same =
-    reads_number b at start e n true (int (neg_ℤ (pos n)) i64) (Integer true bits) sign h k some plain ends (v (omega (arith, few, m))) (negative_of n (w (omega (arith, few, m)))) (ap (λ z. number z i64 ∷ []) (sym (neg refl)))
-reads_word b at start e n bits most false sign h k some plain ends m few v w fits neg same =
-    reads_number b at start e n false (int (pos n) u64) (Integer false bits) sign h k some plain ends (v (omega (arith, few, m))) (word_of n fits) (ap (λ z. number (pos z) u64 ∷ []) (sym (same refl)))
-
--- the piece of a number of many digits
-pub reads_wide : (b : List ℕ) (at e : ℕ) (n : StaticNode) → at ≤ e → e ≤ length b → number_at (drop at b) ≡ Some (static_tree n, drop e b) → ReadsPiece (number_at (drop at b)) b e (Wide at e)
-reads_wide b at e n h k w = record {
-  tree = static_tree n;
-  was = w;
-  node = flat-static n ∙ ap (λ m. m ∷ []) (sym (ap (λ o. number_mark o) (number_alone b at e (static_tree n) h k w) ∙ scalar-static n));
-}
-  where
-    scalar-static : (n : StaticNode) → scalar_mark (static_tree n) ≡ static_mark n
-    scalar-static nodes.Null = refl
-    scalar-static (nodes.Bool b) = refl
-    scalar-static (nodes.I64 n) = refl
-    scalar-static (nodes.U64 n) = refl
-    scalar-static (nodes.I128 n) = refl
-    scalar-static (nodes.U128 n) = refl
-
--- and there is a number there
-pub spelled_wide : (b : List ℕ) (at e : ℕ) (t : Tree) → at ≤ e → e ≤ length b → number_at (drop at b) ≡ Some (t, drop e b) → number_at (slice_range b at e) ≢ None
-spelled_wide b at e t h k w = λ z. none-some (t, []) (sym z ∙ number_alone b at e t h k w)

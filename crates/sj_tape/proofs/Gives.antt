@@ -1,12 +1,13 @@
 -- What a step of the reader gives, by what its own steps give.
-use Rattle.std.proofs.Common.{◌≡◌, ◌≢◌, ◌==◌, true, false, ℕ, suc, ◌+◌, ◌-◌, ◌<◌, ◌≤◌, List, [], ◌∷◌, ◌++◌, length, take, drop, get_or, set, cond, option_map, option_and_then, Some, None, IsUtf8, refl, sym, ap, subst, ◌∙◌, arith, append_assoc, length-drop}
-use Rattle.std.proofs.lemmas.List.{take-append-drop, drop_more, drop-drop, get_or-drop}
+use Rattle.std.proofs.Common.{◌≡◌, ◌≢◌, ◌==◌, true, false, ℕ, ◌+◌, ◌<◌, ◌≤◌, List, [], ◌∷◌, ◌++◌, length, take, drop, get_or, cond, option_map, option_and_then, Some, None, IsUtf8, Ok, Err, Result, IfErr, sym, ap, subst, ◌∙◌, arith, append_assoc, length-drop}
+use Rattle.std.proofs.lemmas.List.{take-append-drop, drop-drop, get_or-drop}
 use Rattle.std.proofs.lemmas.Bool.Decides.{nat_tests}
 use Rattle.sj_text_core.specs.Tree.{Tree, text, list, obj, items_from, members_from}
-use Rattle.sj_text_core.specs.Nodes.{Mark, flat, string, array, object}
+use Rattle.sj_text_core.specs.Nodes.{Mark, flat, string}
 use Rattle.sj_text_core.specs.Scalars.{static_tree}
 use Rattle.sj_text_core.specs.declared.static_node.StaticNode.{StaticNode}
-use Rattle.sj_tape.specs.Gives.{EndsUtf8, Gives, GivesText, GivesItems, GivesMembers, GivesMember}
+use Rattle.sj_text_core.specs.declared.error.ErrorKind.{ErrorKind}
+use Rattle.sj_tape.specs.Gives.{EndsUtf8, Gives, GivesText, GivesMember}
 use Rattle.sj_tape.specs.Marks.{static_mark}
 use Rattle.sj_tape.specs.Parse.{Read, text_at, number_at, value_by, after_blank, parts_at, all_parts_at, list_at, obj_at, member_at, after_key}
 use Rattle.sj_tape.proofs.Scalars.{flat-static, text_is, other_at}
@@ -95,6 +96,12 @@ member_gives x y read r l old mid new t e h = record {
   was = e ∙ ap (λ o. option_map (λ p. ((t.text, p.0), p.1)) o) h.was;
   nodes = h.nodes ∙ (ap (λ ms. ms ++ flat h.tree) t.nodes ∙ append_assoc old (string t.text ∷ []) (flat h.tree));
 }
+
+-- what was not read of a member
+pub member_errs : {T : Type 0} (r : Result T ErrorKind) (e : ErrorKind) (x : Read (List ℕ × Tree)) (y : Read Tree) (k : List ℕ) → x ≡ option_map (λ p. ((k, p.0), p.1)) y
+    → IfErr r (λ j. j ≢ e → y ≡ None) → IfErr r (λ j. j ≢ e → x ≡ None)
+member_errs (Ok v) e x y k q h = tt
+member_errs (Err j) e x y k q h = λ n. q ∙ ap (λ o. option_map (λ p. ((k, p.0), p.1)) o) (h n)
 
 -- by whether bytes are left
 pub filled : (n : ℕ) → false ≡ (n == 0) → 0 < n

@@ -1,7 +1,6 @@
 pub mod Blanks
 pub mod Bytewise
 pub mod Chosen
-pub mod Colons
 pub mod Complete
 pub mod Containers
 pub mod Counts
@@ -14,10 +13,8 @@ pub mod Lanes
 pub mod Lookups
 pub mod NodeMarks
 pub mod Numbers
-pub mod Order
 pub mod Overwrites
 pub mod Parts
-pub mod Passes
 pub mod Places
 pub mod PlainRuns
 pub mod Preorders

@@ -1,5 +1,5 @@
 -- What a step of the reader has read, what it leaves, and the nodes that it put behind the old ones.
-use Rattle.std.specs.Prelude.{◌≡◌, ℕ, List, [], ◌∷◌, ◌++◌, length, Some, IsUtf8}
+use Rattle.std.specs.Prelude.{◌≡◌, ℕ, List, [], ◌∷◌, ◌++◌, length, Option, Some, IsUtf8}
 use Rattle.sj_text_core.specs.Tree.{Tree, items_from, members_from}
 use Rattle.sj_text_core.specs.Nodes.{Mark, string, flat, flat_items, flat_members}
 use Rattle.sj_tape.specs.Parse.{Read}
@@ -40,3 +40,9 @@ pub record GivesMember (read : Read (List ℕ × Tree)) (left : List ℕ) (old n
   pub tree : Tree
   pub was : read ≡ Some ((key, tree), left)
   pub nodes : new ≡ old ++ (string key ∷ flat tree)
+
+-- the whole text was read, and these are the tree's nodes
+pub record Scans (read : Option Tree) (ns : List Mark) : Type 0 where
+  pub tree : Tree
+  pub was : read ≡ Some tree
+  pub nodes : ns ≡ flat tree

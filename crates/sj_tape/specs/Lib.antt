@@ -1,8 +1,6 @@
 pub mod Marks
 pub mod Parse
-pub mod Pieces
 pub mod Room
-pub mod Sinks
 pub mod Run
 pub mod Parts
 pub mod Fronts

@@ -2,14 +2,11 @@
 
 ghost use Rattle.std.specs.Prelude.{◌≡◌, ◌+◌, ◌-◌, ◌<◌, ◌≤◌, ◌^◌, ℕ, Some, None, length, drop, IfOk, IfErr, ◌≢◌, OnErr, MatchOption, option_map, IsTrue, ◌↔◌, EachIndex, slice_index, slice_range, pos, neg_ℤ, true, false, cond};
 ghost use Rattle.std.specs.Int.{cast_signed, w64};
-ghost use Rattle.sj_tape.specs.Pieces.{Puts};
 ghost use Rattle.sj_tape.specs.Parse as parse;
 ghost use Rattle.sj_text_core.specs.Grammar.{value_of, number_of};
 ghost use Rattle.sj_text_core.specs.Scalars.{static_tree};
 
 use crate::reader::blank::byte_at;
-use crate::reader::piece::Piece;
-use crate::reader::sink::Sink;
 use core::dec2flt::read_digits;
 use sj_text_core::{ErrorKind, StaticNode};
 
@@ -122,101 +119,4 @@ fn numeral(bytes: &[u8], at: usize, is_negative: bool) -> Result<(StaticNode, us
             Some(node) => Ok((node, end)),
         },
     }
-}
-
-/// Reads the whole number at `at`, puts its piece at the end, and answers the place after it.
-#[inline(always)]
-pub(crate) fn number_piece<S: Sink>(
-    bytes: &[u8],
-    at: usize,
-    out: &mut S,
-) -> Result<usize, ErrorKind>
-    requires at { at < length bytes.now }
-    requires takes { S.Takes bytes.now out.old at }
-    ensures within { IfOk result (λ next. (at < next) × (next ≤ length bytes.now)) }
-    ensures ok { IfOk result (λ next. Puts (parse.number_at (drop at bytes.now)) bytes.now at next (S.marks bytes.now out.old) (S.marks bytes.now out.new)) }
-    ensures takes { IfOk result (λ next. S.Takes bytes.now out.new next) }
-    ensures err { IfErr result (λ e. e ≢ ErrorKind.OutOfMemory → parse.number_at (drop at bytes.now) ≡ None) }
-    ensures kind { IfErr result (λ e. e ≢ ErrorKind.InvalidUtf8) }
-{
-    let is_negative = bytes[at] == b'-';
-    let start = if is_negative { at + 1 } else { at };
-    numeral_piece(bytes, at, start, is_negative, out)
-}
-
-/// The same, where the digits begin at `start`.
-#[inline(always)]
-fn numeral_piece<S: Sink>(
-    bytes: &[u8],
-    at: usize,
-    start: usize,
-    is_negative: bool,
-    out: &mut S,
-) -> Result<usize, ErrorKind>
-    requires at { at < length bytes.now }
-    requires takes { S.Takes bytes.now out.old at }
-    requires low { at ≤ start }
-    requires high { start ≤ length bytes.now }
-    requires sign { parse.number_at (drop at bytes.now) ≡ parse.numeral_at is_negative (parse.digits_len (drop start bytes.now)) (drop start bytes.now) }
-    ensures within { IfOk result (λ next. (at < next) × (next ≤ length bytes.now)) }
-    ensures ok { IfOk result (λ next. Puts (parse.number_at (drop at bytes.now)) bytes.now at next (S.marks bytes.now out.old) (S.marks bytes.now out.new)) }
-    ensures takes { IfOk result (λ next. S.Takes bytes.now out.new next) }
-    ensures err { IfErr result (λ e. e ≢ ErrorKind.OutOfMemory → parse.number_at (drop at bytes.now) ≡ None) }
-    ensures kind { IfErr result (λ e. e ≢ ErrorKind.InvalidUtf8) }
-{
-    let (end, n) = digits(bytes, start);
-    let count = end - start;
-    if count == 0 {
-        return Err(ErrorKind::Syntax);
-    }
-    if bytes[start] == b'0' && count > 1 {
-        return Err(ErrorKind::Syntax);
-    }
-    if goes_on(bytes, end) {
-        return Err(ErrorKind::Float);
-    }
-    if count > most_digits(is_negative) {
-        return wide_piece(bytes, at, out);
-    }
-    let bits = word_of(is_negative, n);
-    out.put(bytes, Piece::Integer { is_negative, bits })?;
-    Ok(end)
-}
-
-/// How many digits are sure to fit one word.
-#[inline(always)]
-fn most_digits(is_negative: bool) -> usize
-    ensures { result ≡ cond is_negative 18 19 }
-{
-    19 - is_negative as usize
-}
-
-/// The word of a number whose digits write `n`.
-#[inline(always)]
-fn word_of(is_negative: bool, n: u64) -> u64
-    requires { is_negative ≡ true → n < 2 ^ 63 }
-    ensures negative { is_negative ≡ true → cast_signed w64 result ≡ neg_ℤ (pos n) }
-    ensures plain { is_negative ≡ false → result ≡ n }
-{
-    if is_negative {
-        (0 - n as i64).cast_unsigned()
-    } else {
-        n
-    }
-}
-
-/// The same for a number of many digits.
-#[inline(never)]
-fn wide_piece<S: Sink>(bytes: &[u8], at: usize, out: &mut S) -> Result<usize, ErrorKind>
-    requires at { at < length bytes.now }
-    requires takes { S.Takes bytes.now out.old at }
-    ensures within { IfOk result (λ next. (at < next) × (next ≤ length bytes.now)) }
-    ensures ok { IfOk result (λ next. Puts (parse.number_at (drop at bytes.now)) bytes.now at next (S.marks bytes.now out.old) (S.marks bytes.now out.new)) }
-    ensures takes { IfOk result (λ next. S.Takes bytes.now out.new next) }
-    ensures err { IfErr result (λ e. e ≢ ErrorKind.OutOfMemory → parse.number_at (drop at bytes.now) ≡ None) }
-    ensures kind { IfErr result (λ e. e ≢ ErrorKind.InvalidUtf8) }
-{
-    let (_, end) = number(bytes, at)?;
-    out.put(bytes, Piece::Wide { start: at, end })?;
-    Ok(end)
 }

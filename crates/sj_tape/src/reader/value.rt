@@ -3,8 +3,7 @@
 
 ghost use Rattle.std.specs.Prelude.{◌≡◌, ◌≢◌, ◌<◌, ◌≤◌, Some, None, [], length, get_or, drop, IfOk, IfErr, OnOk, OnErr, IsUtf8};
 ghost use Rattle.sj_text_core.specs.Scalars.{static_tree};
-ghost use Rattle.sj_tape.specs.Gives.{EndsUtf8, Gives, GivesItems, GivesMember, GivesMembers};
-ghost use Rattle.sj_tape.specs.Pieces.{Scans};
+ghost use Rattle.sj_tape.specs.Gives.{EndsUtf8, Gives, GivesItems, GivesMember, GivesMembers, Scans};
 ghost use Rattle.sj_tape.specs.Marks.{marks};
 ghost use Rattle.sj_tape.specs.Parse as parse;
 
