@@ -1,19 +1,20 @@
 -- Digits, as many as there are, and what a word holds of them.
-use Rattle.std.proofs.Common.{◌≡◌, ℕ, suc, ◌+◌, ◌-◌, ◌*◌, ◌%◌, ◌^◌, ◌<◌, ◌≤◌, Bool, true, false, List, [], ◌∷◌, length, take, drop, get_or, cond, lit<, fold, refl, sym, ap, subst, ◌∙◌, arith, zero-mul}
+use Rattle.std.proofs.Common.{◌≡◌, ◌≢◌, Some, ℕ, suc, ◌+◌, ◌-◌, ◌*◌, ◌%◌, ◌^◌, ◌<◌, ◌≤◌, Bool, true, false, List, [], ◌∷◌, length, take, drop, get_or, cond, lit<, fold, refl, sym, ap, subst, ◌∙◌, arith, zero-mul}
 use Rattle.std.specs.Prelude.{slice_range}
 use Rattle.std.specs.List.{prefix_len}
 use Rattle.std.specs.Char.{is_ascii_digit, digit_value}
 use Rattle.std.specs.Str.Parse.{AllDigits, digits_value, digits_value_after}
-use Rattle.std.proofs.Math.Nat.{pow-le-pow_right}
+use Rattle.std.proofs.Math.Nat.{pow-zero, pow-succ', pow-le-pow_right}
 use Rattle.std.proofs.lemmas.Str.{digit_value_digit}
 use Rattle.std.proofs.lemmas.Str.Parse.{digit_from_value}
 use Rattle.std.proofs.lemmas.Int.Digits.{digits_value-lt}
 use Rattle.std.proofs.lemmas.Bool.Decides.{nat_tests}
-use Rattle.std.proofs.lemmas.List.{length-take-le, get_or-drop}
+use Rattle.std.proofs.lemmas.List.{length-take-le, get_or-drop, drop-drop}
 use Rattle.std.proofs.lemmas.List.Sums.{prefix_len_passes, prefix_len-le-length}
-use Rattle.sj_text_core.specs.Grammar.{value_of}
-use Rattle.sj_tape.specs.Parse.{is_digit, digits_len}
-use Rattle.sj_tape.proofs.Numbers.{step}
+use Rattle.sj_text_core.specs.Tree.{Tree}
+use Rattle.sj_text_core.specs.Grammar.{value_of, number_of}
+use Rattle.sj_tape.specs.Parse.{is_digit, digits_len, goes_on, numeral_at}
+use Rattle.sj_tape.proofs.Numbers.{step, numeral_is}
 
 digit_is : (c : ℕ) → is_ascii_digit c ≡ is_digit c
 digit_is c = grind (arith, nat_tests)
@@ -59,22 +60,65 @@ value_is (c ∷ ds) n h =
     let e : n * 10 + digit_value c ≡ n * 10 + (c - 48) = omega (arith, digit_value_digit c (digit_from_value c h.0)) in
     value_is ds (n * 10 + digit_value c) h.1 ∙ ap (λ m. fold step m ds) e
 
--- a word holds what at most 19 digits write
-pub word_value : (b : List ℕ) (at e n : ℕ) → at ≤ length b → e ≡ at + prefix_len is_ascii_digit (drop at b) → n ≡ (0 * 10 ^ (e - at) + digits_value 10 (slice_range b at e)) % 2 ^ 64 → e - at ≤ 19
-    → (n ≡ value_of (slice_range b at e)) × (n < 10 ^ (e - at))
-word_value b at e n within h k few =
+-- what the digits of a run write, and the last 64 bits of it
+pub run_value : (b : List ℕ) (at e n : ℕ) → at ≤ length b → e ≡ at + prefix_len is_ascii_digit (drop at b) → n ≡ (0 * 10 ^ (e - at) + digits_value 10 (slice_range b at e)) % 2 ^ 64
+    → (n ≡ value_of (slice_range b at e) % 2 ^ 64) × (value_of (slice_range b at e) < 10 ^ (e - at))
+run_value b at e n within h k =
     let m : e - at ≡ prefix_len is_ascii_digit (drop at b) = omega (arith, h) in
     let ds = slice_range b at e in
     let all : AllDigits 10 ds = subst (λ (j : ℕ). AllDigits 10 (take j (drop at b))) (sym m) (all_digits (drop at b)) in
     let len : length ds ≡ e - at = length-take-le (e - at) (drop at b) (omega (arith, m, prefix_len-le-length is_ascii_digit (drop at b))) in
     let lt : digits_value 10 ds < 10 ^ (e - at) = subst (λ (j : ℕ). digits_value 10 ds < 10 ^ j) len (digits_value-lt 10 ds all) in
-    let big : 10 ^ (e - at) ≤ 10 ^ 19 = pow-le-pow_right {n = 10} (lit< tt) {i = e - at} {j = 19} few in
+    let is : digits_value 10 ds ≡ value_of ds = value_is ds 0 all in
     let z : 0 * 10 ^ (e - at) ≡ 0 = zero-mul (10 ^ (e - at)) in
-    let is : n ≡ digits_value 10 ds = omega (arith, k, z, lt, big) in
-    (is ∙ value_is ds 0 all, omega (arith, is, lt))
+    (k ∙ ap (λ x. x % 2 ^ 64) (omega (arith, z, is)), subst (λ (x : ℕ). x < 10 ^ (e - at)) is lt)
+
+-- each byte is a digit
+pub each_digit : (ds : List ℕ) → ((k : ℕ) → k < length ds → (48 ≤ get_or ds k 0) × (get_or ds k 0 ≤ 57)) → AllDigits 10 ds
+each_digit [] h = tt
+each_digit (c ∷ ds) h = (low c (h 0 (omega arith)).0 (h 0 (omega arith)).1, each_digit ds (λ k l. h (suc k) (omega (arith, l))))
+  where
+    low : (c : ℕ) → 48 ≤ c → c ≤ 57 → digit_value c < 10
+    low c l m = grind (arith, nat_tests)
+
+-- digits behind a number
+pub value_after : (ds : List ℕ) (n : ℕ) → fold step n ds ≡ n * 10 ^ length ds + fold step 0 ds
+value_after [] n = omega (arith, ap (λ x. n * x) (pow-zero 10))
+value_after (c ∷ ds) n = omega (arith, ap (λ x. n * x) (pow-succ' 10 (length ds)), value_after ds (n * 10 + (c - 48)), value_after ds (0 * 10 + (c - 48)))
+
+-- digits write less than their count allows
+pub value_below : (ds : List ℕ) → AllDigits 10 ds → value_of ds < 10 ^ length ds
+value_below ds h = subst (λ (x : ℕ). x < 10 ^ length ds) (value_is ds 0 h) (digits_value-lt 10 ds h)
+
+-- at most 19 digits fit 64 bits
+pub value_few : (ds : List ℕ) (low : ℕ) → AllDigits 10 ds → length ds ≤ 19 → low ≡ value_of ds % 2 ^ 64 → low ≡ value_of ds
+value_few ds low h few e =
+    let big : 10 ^ length ds ≤ 10 ^ 19 = pow-le-pow_right {n = 10} (lit< tt) {i = length ds} {j = 19} few in
+    omega (arith, e, value_below ds h, big)
+
+-- and 20 where the first is 1 and what is left of 64 bits has 20 digits, too
+pub value_twenty : (ds : List ℕ) (low : ℕ) → AllDigits 10 ds → length ds ≡ 20 → get_or ds 0 0 ≡ 49 → 10 ^ 19 ≤ low → low ≡ value_of ds % 2 ^ 64 → low ≡ value_of ds
+value_twenty [] low h n one big e = absurd (omega (arith, n))
+value_twenty (c ∷ ds) low h n one big e =
+    let len : length ds ≡ 19 = omega (arith, n) in
+    let v : value_of (c ∷ ds) ≡ (0 * 10 + (c - 48)) * 10 ^ length ds + value_of ds = value_after ds (0 * 10 + (c - 48)) in
+    let k : (0 * 10 + (c - 48)) * 10 ^ length ds ≡ 10 ^ 19 = ap (λ x. x * 10 ^ length ds) (omega (arith, one)) ∙ (ap (λ j. 1 * 10 ^ j) len ∙ omega arith) in
+    let b : value_of ds < 10 ^ 19 = subst (λ (j : ℕ). value_of ds < 10 ^ j) len (value_below ds h.1) in
+    omega (arith, v, k, b, e, big)
 
 -- each byte of the run is a digit
 pub digit_at : (b : List ℕ) (at e k : ℕ) → e ≡ at + prefix_len is_ascii_digit (drop at b) → at ≤ k → k < e → (48 ≤ get_or b k 0) × (get_or b k 0 ≤ 57)
 digit_at b at e k h l m =
     let same : get_or (drop at b) (k - at) 0 ≡ get_or b k 0 = get_or-drop at b (k - at) 0 ∙ ap (λ n. get_or b n 0) (omega (arith, l)) in
     digit_range _ (subst (λ x. is_ascii_digit x ≡ true) same (prefix_len_passes is_ascii_digit (drop at b) (k - at) 0 (omega (arith, h, l, m))))
+
+-- one numeral from a place on
+pub numeral_reads : (minus : Bool) (b : List ℕ) (start e : ℕ) (t : Tree) → start ≤ e → digits_len (drop start b) ≡ e - start → e - start ≢ 0 → (get_or b start 0 ≡ 48 → e - start ≤ 1)
+    → goes_on (drop e b) ≡ false → number_of minus (value_of (slice_range b start e)) ≡ Some t → numeral_at minus (digits_len (drop start b)) (drop start b) ≡ Some (t, drop e b)
+numeral_reads minus b start e t h n some plain ends k =
+    let back : drop (e - start) (drop start b) ≡ drop e b = drop-drop (e - start) start b ∙ ap (λ m. drop m b) (omega (arith, h)) in
+    ap (λ m. numeral_at minus m (drop start b)) n
+    ∙ (numeral_is minus (e - start) (drop start b) t some (λ z. plain (sym (first_at b start) ∙ z)) (ap (λ l. goes_on l) back ∙ ends) k ∙ ap (λ l. Some (t, l)) back)
+  where
+    first_at : (b : List ℕ) (start : ℕ) → get_or (drop start b) 0 0 ≡ get_or b start 0
+    first_at b start = get_or-drop start b 0 0 ∙ ap (λ n. get_or b n 0) (omega arith)

@@ -1,7 +1,6 @@
 //! Whole numbers.
 
-ghost use Rattle.std.specs.Prelude.{◌≡◌, ◌+◌, ◌-◌, ◌<◌, ◌≤◌, ◌^◌, ℕ, Some, None, length, drop, IfOk, IfErr, ◌≢◌, OnErr, MatchOption, option_map, IsTrue, ◌↔◌, EachIndex, slice_index, slice_range, pos, neg_ℤ, true, false, cond};
-ghost use Rattle.std.specs.Int.{cast_signed, w64};
+ghost use Rattle.std.specs.Prelude.{◌≡◌, ◌≢◌, ◌+◌, ◌-◌, ◌<◌, ◌≤◌, ◌%◌, ◌^◌, ℕ, Some, None, length, get_or, drop, IfOk, IfErr, OnErr, MatchOption, option_map, EachIndex, slice_index, slice_range};
 ghost use Rattle.sj_tape.specs.Parse as parse;
 ghost use Rattle.sj_text_core.specs.Grammar.{value_of, number_of};
 ghost use Rattle.sj_text_core.specs.Scalars.{static_tree};
@@ -10,8 +9,7 @@ use crate::reader::blank::byte_at;
 use core::dec2flt::read_digits;
 use sj_text_core::{ErrorKind, StaticNode};
 
-/// The first place from `at` on that is no digit, and what the digits write, where they are at
-/// most 19.
+/// The first place from `at` on that is no digit, and the last 64 bits of what the digits write.
 #[inline(always)]
 fn digits(bytes: &[u8], at: usize) -> (usize, u64)
     requires { at ≤ length bytes.now }
@@ -19,8 +17,8 @@ fn digits(bytes: &[u8], at: usize) -> (usize, u64)
     ensures high { result.0 ≤ length bytes.now }
     ensures count { parse.digits_len (drop at bytes.now) ≡ result.0 - at }
     ensures digits { (k : ℕ) → at ≤ k → k < result.0 → (48 ≤ slice_index bytes.now k) × (slice_index bytes.now k ≤ 57) }
-    ensures value { result.0 - at ≤ 19 → result.1 ≡ value_of (slice_range bytes.now at result.0) }
-    ensures bound { result.0 - at ≤ 18 → result.1 < 10 ^ 18 }
+    ensures value { result.1 ≡ value_of (slice_range bytes.now at result.0) % 2 ^ 64 }
+    ensures bound { value_of (slice_range bytes.now at result.0) < 10 ^ (result.0 - at) }
 {
     read_digits(bytes, at, 0)
 }
@@ -67,22 +65,6 @@ fn carried(is_negative: bool, n: u128) -> Option<StaticNode>
     }
 }
 
-/// The whole number that stands at `at`, and the place after it.
-#[inline(never)]
-pub(crate) fn number(bytes: &[u8], at: usize) -> Result<(StaticNode, usize), ErrorKind>
-    requires { at < length bytes.now }
-    ensures within { IfOk result (λ p. (at < p.1) × (p.1 ≤ length bytes.now)) }
-    ensures ok { IfOk result (λ p. parse.number_at (drop at bytes.now) ≡ Some (static_tree p.0, drop p.1 bytes.now)) }
-    ensures err { OnErr result (parse.number_at (drop at bytes.now) ≡ None) }
-    ensures kind { IfErr result (λ e. e ≢ ErrorKind.InvalidUtf8) }
-{
-    if bytes[at] == b'-' {
-        numeral(bytes, at + 1, true)
-    } else {
-        numeral(bytes, at, false)
-    }
-}
-
 /// Whether a fraction or an exponent stands at `at`.
 #[inline(always)]
 fn goes_on(bytes: &[u8], at: usize) -> bool
@@ -93,8 +75,58 @@ fn goes_on(bytes: &[u8], at: usize) -> bool
     byte == b'.' || byte == b'e' || byte == b'E'
 }
 
+/// The number of at most 18 digits.
+#[inline(always)]
+fn few(is_negative: bool, n: u64) -> StaticNode
+    requires { n < 10 ^ 18 }
+    ensures { number_of is_negative n ≡ Some (static_tree result) }
+{
+    if is_negative {
+        StaticNode::I64(0 - n as i64)
+    } else {
+        StaticNode::U64(n)
+    }
+}
+
+/// The number of 19 digits or more, where it has a carrier. `low` is its last 64 bits: they are the
+/// whole of a number of 19 digits, and of one of 20 that begins with a 1 where they are no less.
+#[inline(never)]
+fn many(digits: &[u8], is_negative: bool, low: u64) -> Option<StaticNode>
+    requires digits { EachIndex digits.now (λ k. (48 ≤ slice_index digits.now k) × (slice_index digits.now k ≤ 57)) }
+    requires low { low ≡ value_of digits.now % 2 ^ 64 }
+    ensures { option_map static_tree result ≡ number_of is_negative (value_of digits.now) }
+{
+    if digits.len() <= 19 {
+        return carried(is_negative, u128::from(low));
+    }
+    if digits.len() == 20 && digits[0] == b'1' && low >= 10_000_000_000_000_000_000 {
+        return carried(is_negative, u128::from(low));
+    }
+    match large(digits) {
+        None => None,
+        Some(n) => carried(is_negative, n),
+    }
+}
+
+/// The whole number at the front, and the place behind it.
+#[inline(always)]
+pub(crate) fn number(bytes: &[u8]) -> Result<(StaticNode, usize), ErrorKind>
+    requires { 0 < length bytes.now }
+    ensures within { IfOk result (λ p. (0 < p.1) × (p.1 ≤ length bytes.now)) }
+    ensures ok { IfOk result (λ p. parse.number_at bytes.now ≡ Some (static_tree p.0, drop p.1 bytes.now)) }
+    ensures err { OnErr result (parse.number_at bytes.now ≡ None) }
+    ensures kind { IfErr result (λ e. e ≢ ErrorKind.InvalidUtf8) }
+{
+    if bytes[0] == b'-' {
+        numeral(bytes, 1, true)
+    } else {
+        numeral(bytes, 0, false)
+    }
+}
+
 #[tactic(auto, using(crate::proofs::Numbers::numeral_is))]
 /// The digits that stand at `at`, and the place after them.
+#[inline(always)]
 fn numeral(bytes: &[u8], at: usize, is_negative: bool) -> Result<(StaticNode, usize), ErrorKind>
     requires { at ≤ length bytes.now }
     ensures within { IfOk result (λ p. (at < p.1) × (p.1 ≤ length bytes.now)) }
@@ -102,7 +134,7 @@ fn numeral(bytes: &[u8], at: usize, is_negative: bool) -> Result<(StaticNode, us
     ensures err { OnErr result (parse.numeral_at is_negative (parse.digits_len (drop at bytes.now)) (drop at bytes.now) ≡ None) }
     ensures kind { IfErr result (λ e. e ≢ ErrorKind.InvalidUtf8) }
 {
-    let (end, _) = digits(bytes, at);
+    let (end, low) = digits(bytes, at);
     if end == at {
         return Err(ErrorKind::Syntax);
     }
@@ -112,11 +144,11 @@ fn numeral(bytes: &[u8], at: usize, is_negative: bool) -> Result<(StaticNode, us
     if goes_on(bytes, end) {
         return Err(ErrorKind::Float);
     }
-    match large(&bytes[at..end]) {
+    if end - at <= 18 {
+        return Ok((few(is_negative, low), end));
+    }
+    match many(&bytes[at..end], is_negative, low) {
         None => Err(ErrorKind::NumberTooLarge),
-        Some(n) => match carried(is_negative, n) {
-            None => Err(ErrorKind::NumberTooLarge),
-            Some(node) => Ok((node, end)),
-        },
+        Some(node) => Ok((node, end)),
     }
 }

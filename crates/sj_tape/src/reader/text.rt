@@ -59,10 +59,7 @@ fn str_of(bytes: &[u8]) -> &str
 /// The text, where its first escape stands at `first`, and the bytes behind its quote. It is
 /// written over its spelling from left to right.
 #[inline(never)]
-fn escaped<'i>(
-    rest: &'i mut [u8],
-    first: usize,
-) -> Result<(&'i str, &'i mut [u8]), ErrorKind>
+fn escaped<'i>(rest: &'i mut [u8], first: usize) -> Result<(&'i str, &'i mut [u8]), ErrorKind>
     requires utf8 { IsUtf8 rest.old }
     requires within { first ≤ length rest.old }
     requires plain { parse.text_at rest.old ≡ parse.with_front (slice_range rest.old 0 first) (parse.text_at (drop first rest.old)) }

@@ -34,7 +34,7 @@ fn text_or_number<'i>(
         let (_, inside) = rest.split_at_mut(1);
         return text(inside, nodes);
     }
-    let (number, end) = number(rest, 0)?;
+    let (number, end) = number(rest)?;
     push_node(nodes, Node::Static(number))?;
     let (_, rest) = rest.split_at_mut(end);
     Ok(rest)
