@@ -1,5 +1,5 @@
 -- Characters written over their own spelling.
-use Rattle.std.proofs.Common.{◌≡◌, ℕ, zero, suc, ◌+◌, ◌-◌, ◌≤◌, List, [], ◌∷◌, ◌++◌, length, take, drop, get_or, refl, sym, ap, ◌∙◌, arith, append_assoc, length-append, length-drop}
+use Rattle.std.proofs.Common.{◌≡◌, set, ℕ, zero, suc, ◌+◌, ◌-◌, ◌<◌, ◌≤◌, List, [], ◌∷◌, ◌++◌, length, take, drop, get_or, refl, sym, ap, ◌∙◌, arith, append_assoc, length-append, length-drop}
 use Rattle.std.specs.Prelude.{slice_range}
 use Rattle.std.proofs.lemmas.List.{take-append-drop, drop_at, take_at, drop-drop, length-take-le, get_or-drop}
 
@@ -18,6 +18,15 @@ take_front (suc n) (c ∷ q) y h = ap (λ l. c ∷ l) (take_front n q y (omega (
 -- b with f written at `to`
 abbrev pub written : List ℕ → ℕ → List ℕ → List ℕ
 written b to f = take to b ++ (f ++ drop (to + length f) b)
+
+-- one byte written
+pub set_is : (b : List ℕ) (to v : ℕ) → to < length b → set b to v ≡ take to b ++ (v ∷ drop (to + 1) b)
+set_is [] to v h = absurd (omega (arith, h))
+set_is (c ∷ b) zero v h = refl
+set_is (c ∷ b) (suc to) v h = ap (λ l. c ∷ l) (set_is b to v (omega (arith, h))) ∙ ap (λ n. c ∷ (take to b ++ (v ∷ drop n (c ∷ b)))) shifted
+  where
+    shifted : suc (to + 1) ≡ suc to + 1
+    shifted = omega arith
 
 front_len : (b : List ℕ) (to : ℕ) → to ≤ length b → length (take to b) ≡ to
 front_len b to h = length-take-le to b h

@@ -2,6 +2,7 @@
 
 mod blank;
 mod buffers;
+mod digit;
 mod escape;
 mod nodes;
 mod number;

@@ -96,6 +96,10 @@ fn put(bytes: &mut [u8], to: usize, character: char) -> usize
     ensures next { result ≡ to + length (encode_utf8 character) }
     ensures new { bytes.new ≡ take to bytes.old ++ (encode_utf8 character ++ drop (to + length (encode_utf8 character)) bytes.old) }
 {
+    if character.is_ascii() {
+        bytes[to] = character as u8;
+        return to + 1;
+    }
     let mut buffer = [0; 4];
     let text = character.encode_utf8(&mut buffer);
     let next = to + text.len();
