@@ -117,11 +117,8 @@ pub(crate) fn number(bytes: &[u8]) -> Result<(StaticNode, usize), ErrorKind>
     ensures err { OnErr result (parse.number_at bytes.now ≡ None) }
     ensures kind { IfErr result (λ e. e ≢ ErrorKind.InvalidUtf8) }
 {
-    if bytes[0] == b'-' {
-        numeral(bytes, 1, true)
-    } else {
-        numeral(bytes, 0, false)
-    }
+    let is_negative = bytes[0] == b'-';
+    numeral(bytes, usize::from(is_negative), is_negative)
 }
 
 #[tactic(auto, using(crate::proofs::Numbers::numeral_is))]
