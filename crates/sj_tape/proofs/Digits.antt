@@ -1,7 +1,8 @@
 -- Digits, as many as there are, and what a word holds of them.
-use Rattle.std.proofs.Common.{◌≡◌, ◌≢◌, Some, ℕ, suc, ◌+◌, ◌-◌, ◌*◌, ◌%◌, ◌^◌, ◌<◌, ◌≤◌, Bool, true, false, List, [], ◌∷◌, length, take, drop, get_or, cond, lit<, fold, refl, sym, ap, subst, ◌∙◌, arith, zero-mul}
+use Rattle.std.proofs.Common.{◌≡◌, ◌≢◌, Some, None, Option, MatchOption, ℕ, zero, suc, ◌++◌, mul-le-mul_right, length-drop, take-add, ◌+◌, ◌-◌, ◌*◌, ◌%◌, ◌^◌, ◌<◌, ◌≤◌, Bool, true, false, List, [], ◌∷◌, length, take, drop, get_or, cond, lit<, fold, refl, sym, ap, subst, ◌∙◌, arith, zero-mul}
 use Rattle.std.specs.Prelude.{slice_range}
 use Rattle.std.specs.List.{prefix_len}
+use Rattle.std.specs.Option.{SomeIff}
 use Rattle.std.specs.Char.{is_ascii_digit, digit_value}
 use Rattle.std.specs.Str.Parse.{AllDigits, digits_value, digits_value_after}
 use Rattle.std.proofs.Math.Nat.{pow-zero, pow-succ', pow-le-pow_right}
@@ -9,12 +10,12 @@ use Rattle.std.proofs.lemmas.Str.{digit_value_digit}
 use Rattle.std.proofs.lemmas.Str.Parse.{digit_from_value}
 use Rattle.std.proofs.lemmas.Int.Digits.{digits_value-lt}
 use Rattle.std.proofs.lemmas.Bool.Decides.{nat_tests}
-use Rattle.std.proofs.lemmas.List.{length-take-le, get_or-drop, drop-drop}
-use Rattle.std.proofs.lemmas.List.Sums.{prefix_len_passes, prefix_len-le-length}
+use Rattle.std.proofs.lemmas.List.{length-take-le, get_or-drop, drop-drop, take_all}
+use Rattle.std.proofs.lemmas.List.Sums.{fold-append, prefix_len_passes, prefix_len-le-length}
 use Rattle.sj_text_core.specs.Tree.{Tree}
 use Rattle.sj_text_core.specs.Grammar.{value_of, number_of}
 use Rattle.sj_tape.specs.Parse.{is_digit, digits_len, goes_on, numeral_at}
-use Rattle.sj_tape.proofs.Numbers.{step, numeral_is}
+use Rattle.sj_tape.proofs.Numbers.{step, numeral_is, value_of_more}
 
 digit_is : (c : ℕ) → is_ascii_digit c ≡ is_digit c
 digit_is c = grind (arith, nat_tests)
@@ -122,3 +123,68 @@ numeral_reads minus b start e t h n some plain ends k =
   where
     first_at : (b : List ℕ) (start : ℕ) → get_or (drop start b) 0 0 ≡ get_or b start 0
     first_at b start = get_or-drop start b 0 0 ∙ ap (λ n. get_or b n 0) (omega arith)
+
+-- each of the digits is counted
+pub all_count : (ds : List ℕ) → AllDigits 10 ds → prefix_len is_ascii_digit ds ≡ length ds
+all_count [] h = refl
+all_count (c ∷ ds) h = ap (λ t. cond t (1 + prefix_len is_ascii_digit ds) 0) (passes c (digit_from_value c h.0)) ∙ ap (λ n. 1 + n) (all_count ds h.1) ∙ omega arith
+  where
+    passes : (c : ℕ) → (48 ≤ c) × (c ≤ 57) → is_ascii_digit c ≡ true
+    passes c h = inside c h.0 h.1
+      where
+        inside : (c : ℕ) → 48 ≤ c → c ≤ 57 → is_ascii_digit c ≡ true
+        inside c l m = grind (arith, nat_tests)
+
+all_take : (ds : List ℕ) (n : ℕ) → AllDigits 10 ds → AllDigits 10 (take n ds)
+all_take ds zero h = tt
+all_take [] (suc n) h = tt
+all_take (c ∷ ds) (suc n) h = (h.0, all_take ds n h.1)
+
+all_drop : (ds : List ℕ) (n : ℕ) → AllDigits 10 ds → AllDigits 10 (drop n ds)
+all_drop ds zero h = h
+all_drop [] (suc n) h = tt
+all_drop (c ∷ ds) (suc n) h = all_drop ds n h.1
+
+-- each byte of a part is a digit
+pub each_of : (ds : List ℕ) → AllDigits 10 ds → (k : ℕ) → k < length ds → (48 ≤ get_or ds k 0) × (get_or ds k 0 ≤ 57)
+each_of [] h k l = absurd (omega (arith, l))
+each_of (c ∷ ds) h zero l = digit_from_value c h.0
+each_of (c ∷ ds) h (suc k) l = each_of ds h.1 k (omega (arith, l))
+
+pub part_digits : (ds : List ℕ) (i j : ℕ) → AllDigits 10 ds → (k : ℕ) → k < length (slice_range ds i j) → (48 ≤ get_or (slice_range ds i j) k 0) × (get_or (slice_range ds i j) k 0 ≤ 57)
+part_digits ds i j h = each_of (slice_range ds i j) (all_take (drop i ds) (j - i) (all_drop ds i h))
+
+-- a word of digits
+pub word_is : (ds : List ℕ) (e n : ℕ) → AllDigits 10 ds → e ≡ 0 + prefix_len is_ascii_digit (drop 0 ds) → n ≡ (0 * 10 ^ (e - 0) + digits_value 10 (slice_range ds 0 e)) % 2 ^ 64 → length ds ≤ 19 → n ≡ value_of ds
+word_is ds e n h at is few =
+    let k : e ≡ length ds = omega (arith, at, all_count ds h) in
+    let r : slice_range ds 0 e ≡ ds = take_all (e - 0) ds (omega (arith, k)) in
+    value_few ds n h few ((run_value ds 0 e n (omega arith) at is).0 ∙ ap (λ l. value_of l % 2 ^ 64) r)
+
+-- digits in two words
+pub two_words : (ds : List ℕ) (mid a b t : ℕ) → 19 ≤ mid → mid ≤ length ds → a ≡ value_of (take 19 ds) → t ≡ 10 ^ (mid - 19) → b ≡ value_of (slice_range ds 19 mid) → a * t + b ≡ value_of (take mid ds)
+two_words ds mid a b t low high e f g =
+    let tail = slice_range ds 19 mid in
+    let len : length tail ≡ mid - 19 = length-take-le (mid - 19) (drop 19 ds) (omega (arith, high, length-drop 19 ds)) in
+    let parts : take mid ds ≡ take 19 ds ++ tail = ap (λ n. take n ds) (omega (arith, low)) ∙ take-add 19 (mid - 19) ds in
+    let v : value_of (take mid ds) ≡ value_of (take 19 ds) * 10 ^ length tail + value_of tail = ap (λ l. value_of l) parts ∙ (fold-append step 0 (take 19 ds) tail ∙ value_after tail (value_of (take 19 ds))) in
+    let w : a * t ≡ value_of (take 19 ds) * 10 ^ length tail = (λ i. e i * f i) ∙ ap (λ n. value_of (take 19 ds) * 10 ^ n) (sym len) in
+    omega (arith, v, w, g)
+
+-- one digit more
+pub one_more_digit : (ds : List ℕ) (i n : ℕ) → length ds ≡ i + 1 → n ≡ value_of (take i ds) → n * 10 + (get_or ds i 0 - 48) ≡ value_of ds
+one_more_digit ds i n h e = omega (arith, ap (λ (m : ℕ). m * 10) e, value_of_more ds i (omega (arith, h)), ap (λ l. value_of l) (take_all (i + 1) ds (omega (arith, h))))
+
+-- 40 digits pass 128 bits where the first is no zero
+pub value_many : (ds : List ℕ) → ((k : ℕ) → k < length ds → (48 ≤ get_or ds k 0) × (get_or ds k 0 ≤ 57)) → get_or ds 0 0 ≢ 48 → 39 < length ds → 2 ^ 128 ≤ value_of ds
+value_many [] h z n = absurd (omega (arith, n))
+value_many (c ∷ ds) h z n =
+    let v : value_of (c ∷ ds) ≡ (0 * 10 + (c - 48)) * 10 ^ length ds + value_of ds = value_after ds (0 * 10 + (c - 48)) in
+    let big : 10 ^ 39 ≤ 10 ^ length ds = pow-le-pow_right {n = 10} (lit< tt) {i = 39} {j = length ds} (omega (arith, n)) in
+    let one : 1 * 10 ^ length ds ≤ (0 * 10 + (c - 48)) * 10 ^ length ds = mul-le-mul_right (10 ^ length ds) (omega (arith, z, (h 0 (omega arith)).0)) in
+    omega (arith, v, one, big)
+
+-- a checked sum by what it is to be
+pub checked : (o : Option ℕ) (s v : ℕ) → s ≡ v → SomeIff o (s < 2 ^ 128) s → MatchOption o (2 ^ 128 ≤ v) (λ n. n ≡ v)
+checked None s v e h = omega (arith, e, h)
+checked (Some x) s v e h = h.1 ∙ e

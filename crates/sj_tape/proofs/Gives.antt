@@ -20,10 +20,6 @@ ends_drop b t n h e =
     let k : (h.0 ++ take n b) ++ t ≡ h.0 ++ b = append_assoc h.0 (take n b) t ∙ ap (λ l. h.0 ++ l) (ap (λ l. take n b ++ l) e ∙ take-append-drop n b) in
     (h.0 ++ take n b, subst (λ l. IsUtf8 l) (sym k) h.1)
 
--- UTF-8 is all of its own end
-pub ends_all : (b : List ℕ) → IsUtf8 b → EndsUtf8 b
-ends_all b u = ([], u)
-
 -- behind a quote the end of UTF-8 is UTF-8
 pub behind_quote : (b t : List ℕ) → EndsUtf8 b → get_or b 0 0 ≡ 34 → t ≡ drop 1 b → IsUtf8 t
 behind_quote [] t h q e = absurd (omega (arith, q))
@@ -52,10 +48,6 @@ text_gives f g b t l old new h q e k = record {
 -- a value that begins with neither a quote nor a byte behind the digits is a number
 pub number_is : (f g : List ℕ → Read Tree) (b : List ℕ) → 0 < length b → get_or b 0 0 ≤ 57 → get_or b 0 0 ≢ 34 → value_by f g b ≡ number_at b
 number_is f g b h k q = other_at f g b 0 h q (omega (arith, k)) (omega (arith, k)) (omega (arith, k)) (omega (arith, k)) (omega (arith, k))
-
--- and nothing where there is no text behind the quote
-pub text_fails : (f g : List ℕ → Read Tree) (b t : List ℕ) → 0 < length b → get_or b 0 0 ≡ 34 → t ≡ drop 1 b → text_at t ≡ None → value_by f g b ≡ None
-text_fails f g b t h q e k = text_is f g b 0 h q ∙ ap (λ o. option_map {U = Tree × List ℕ} (λ p. (text p.0, p.1)) o) (ap (λ x. text_at x) (sym e) ∙ k)
 
 -- an array by its items
 pub list_is : (read : List ℕ → Read Tree) (b t r : List ℕ) (first : ℕ) (trees : List Tree) → drop first b ≡ after_blank b → get_or b first 0 ≢ 93 → t ≡ drop first b

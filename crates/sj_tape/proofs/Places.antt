@@ -3,7 +3,7 @@ use Rattle.std.proofs.Common.{◌≡◌, ℕ, ◌+◌, ◌-◌, ◌<◌, ◌≤�
 use Rattle.std.specs.Char.{encode_utf8}
 use Rattle.std.proofs.lemmas.List.{drop_more, drop_all, drop-drop}
 use Rattle.sj_tape.specs.Parse.{escape_at, with_front, text_at}
-use Rattle.sj_tape.proofs.Escapes.{IsPlain, text_skip, text_nil, text_quote, text_backslash, text_plain, text_control, with_escape}
+use Rattle.sj_tape.proofs.Escapes.{text_skip, text_nil, text_quote, text_backslash, text_control, with_escape}
 
 at_byte : (b : List ℕ) (i c : ℕ) → i < length b → get_or b i 0 ≡ c → drop i b ≡ c ∷ drop (i + 1) b
 at_byte b i c h e = drop_more b i 0 h ∙ ap (λ x. x ∷ drop (i + 1) b) e
@@ -15,10 +15,6 @@ place_end b i h = ap (λ l. text_at l) (drop_all i b h) ∙ text_nil 0
 -- the quote at a place
 pub place_quote : (b : List ℕ) (i : ℕ) → i < length b → get_or b i 0 ≡ 34 → text_at (drop i b) ≡ Some ([], drop (i + 1) b)
 place_quote b i h e = ap (λ l. text_at l) (at_byte b i 34 h e) ∙ text_quote (drop (i + 1) b)
-
--- a plain byte at a place
-pub place_plain : (b : List ℕ) (i : ℕ) → i < length b → IsPlain (get_or b i 0) → text_at (drop i b) ≡ with_front (get_or b i 0 ∷ []) (text_at (drop (i + 1) b))
-place_plain b i h p = ap (λ l. text_at l) (drop_more b i 0 h) ∙ text_plain (get_or b i 0) (drop (i + 1) b) p
 
 -- a control byte at a place
 pub place_control : (b : List ℕ) (i : ℕ) → i < length b → get_or b i 0 < 32 → text_at (drop i b) ≡ None

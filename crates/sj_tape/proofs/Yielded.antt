@@ -1,7 +1,6 @@
 -- What an iterator over parts gives, by the trees alone.
-use Rattle.std.proofs.Common.{◌≡◌, ℕ, List, Option, Some, None, Bor}
+use Rattle.std.proofs.Common.{ℕ, List, Option, Some, None, Bor}
 use Rattle.core.specs.Iterator.{YieldsFirstBy}
-use Rattle.sj_text_core.specs.Tree.{Tree}
 use Rattle.sj_tape.specs.Value.{tree, part}
 use Rattle.sj_tape.specs.declared.value.Value.{Value}
 use Rattle.sj_tape.specs.declared.array.Iter.{Iter}

@@ -6,7 +6,7 @@ ghost use Rattle.sj_text_core.specs.Grammar.{value_of, number_of};
 ghost use Rattle.sj_text_core.specs.Scalars.{static_tree};
 
 use crate::reader::blank::byte_at;
-use core::dec2flt::read_digits;
+use core::dec2flt::{read_digits, ten_to};
 use sj_text_core::{ErrorKind, StaticNode};
 
 /// The first place from `at` on that is no digit, and the last 64 bits of what the digits write.
@@ -23,23 +23,38 @@ fn digits(bytes: &[u8], at: usize) -> (usize, u64)
     read_digits(bytes, at, 0)
 }
 
-#[tactic(auto, using(crate::proofs::Numbers::too_large))]
-/// The number that digits write, if it is below 2 ^ 128.
+/// The number that at most 19 digits write.
+#[inline(always)]
+fn word(digits: &[u8]) -> u64
+    requires digits { EachIndex digits.now (λ k. (48 ≤ slice_index digits.now k) × (slice_index digits.now k ≤ 57)) }
+    requires few { length digits.now ≤ 19 }
+    ensures { result ≡ value_of digits.now }
+{
+    let (_, value) = read_digits(digits, 0, 0);
+    value
+}
+
+/// The number that 19 digits or more write, the first of them no zero, if it is below 2 ^ 128.
+/// Such a number has 39 digits at most.
 fn large(digits: &[u8]) -> Option<u128>
-    requires { EachIndex digits.now (λ k. (48 ≤ slice_index digits.now k) × (slice_index digits.now k ≤ 57)) }
+    requires digits { EachIndex digits.now (λ k. (48 ≤ slice_index digits.now k) × (slice_index digits.now k ≤ 57)) }
+    requires first { get_or digits.now 0 0 ≢ 48 }
+    requires many { 19 ≤ length digits.now }
     ensures { MatchOption result (2 ^ 128 ≤ value_of digits.now) (λ n. n ≡ value_of digits.now) }
 {
-    let mut n: u128 = 0;
-    for digit in digits {
-        let Some(tens) = n.checked_mul(10) else {
-            return None;
-        };
-        let Some(next) = tens.checked_add(u128::from(*digit - b'0')) else {
-            return None;
-        };
-        n = next;
+    if digits.len() > 39 {
+        return None;
     }
-    Some(n)
+    let middle = digits.len().min(38);
+    let high = u128::from(word(&digits[..19])) * u128::from(ten_to((middle - 19) as u64));
+    let n = high + u128::from(word(&digits[19..middle]));
+    if digits.len() <= 38 {
+        return Some(n);
+    }
+    match n.checked_mul(10) {
+        None => None,
+        Some(tens) => tens.checked_add(u128::from(digits[38] - b'0')),
+    }
 }
 
 /// The number with its carrier, where one has it.
@@ -94,6 +109,7 @@ fn few(is_negative: bool, n: u64) -> StaticNode
 fn many(digits: &[u8], is_negative: bool, low: u64) -> Option<StaticNode>
     requires digits { EachIndex digits.now (λ k. (48 ≤ slice_index digits.now k) × (slice_index digits.now k ≤ 57)) }
     requires low { low ≡ value_of digits.now % 2 ^ 64 }
+    requires first { get_or digits.now 0 0 ≢ 48 }
     ensures { option_map static_tree result ≡ number_of is_negative (value_of digits.now) }
 {
     if digits.len() <= 19 {
