@@ -68,11 +68,12 @@ reads() {
     "call: read, $3"$'\nagain read, '"$3"$'\n'
 }
 
-outline_of_repeat='{'
-for ((i = 0; i < 32; i++)); do
-  printf -v key 'k%02d.,' $i
-  outline_of_repeat+=$key
+print_of_repeat='{"k00":0'
+for ((i = 1; i < 32; i++)); do
+  printf -v member ',"k%02d":%d' $i $i
+  print_of_repeat+=$member
 done
+print_of_repeat+='}'
 
 for call in to_tape to_tape_with_buffers; do
   reads $call example '6 nodes'
@@ -80,11 +81,11 @@ for call in to_tape to_tape_with_buffers; do
   reads $call escapes '3 nodes'
 done
 for call in owned owned_with_buffers borrowed borrowed_with_buffers; do
-  reads $call example '{some[key,value,.,,'
-  reads $call repeat "$outline_of_repeat k00 is 0"
+  reads $call example '{"some":["key","value",2]}'
+  reads $call repeat "$print_of_repeat"
   [ $call = owned ] && owned=$requests
   [ $call = borrowed ] && borrowed=$requests
-  reads $call escapes '{q"ka/bA,'
+  reads $call escapes '{"q\"k":"a/bA"}'
 done
 each buffers $'call: AllocError\nagain made\n' $'call: made\nagain made\n'
 

@@ -1,5 +1,6 @@
 //! Why nothing, or not all, was told.
 
+use sj_text_core::WriteError;
 use std::alloc::{AllocError, AllocFailed};
 use std::io;
 use thiserror::Error;
@@ -34,6 +35,12 @@ impl From<AllocError> for Fault {
 
 impl<T: Drop> From<AllocFailed<T>> for Fault {
     fn from(_error: AllocFailed<T>) -> Fault {
+        Fault::OutOfMemory
+    }
+}
+
+impl From<WriteError> for Fault {
+    fn from(_error: WriteError) -> Fault {
         Fault::OutOfMemory
     }
 }

@@ -77,7 +77,11 @@ fn insert_new(rt: &(impl Print + AllocGlobal), members: u8) -> Result<(), Fault>
                 .last()
                 .is_some_and(|last| last.as_str() == key.as_str());
             say_kept(rt, "key and value", is_key && value == members)?;
-            say_kept(rt, "map", is_numbered(&map, &before, buckets_at(before.len())))?;
+            say_kept(
+                rt,
+                "map",
+                is_numbered(&map, &before, buckets_at(before.len())),
+            )?;
             if map.insert(key, value).is_err() {
                 return Err(Fault::OutOfMemory);
             }

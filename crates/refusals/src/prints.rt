@@ -2,10 +2,10 @@
 
 use crate::fault::Fault;
 use crate::say::{say, say_bytes, say_call};
-use sj_text_core::{
-    BaseGenerator, DumpGenerator, PrettyGenerator, PrettyWriterGenerator, StaticNode,
-    WriterGenerator,
+use sj_print::{
+    BaseGenerator, DumpGenerator, PrettyGenerator, PrettyWriterGenerator, WriterGenerator,
 };
+use sj_text_core::StaticNode;
 use std::alloc::AllocError;
 
 /// How many spaces a level has in pretty prints.

@@ -3,10 +3,10 @@
 use crate::fault::Fault;
 use crate::say::{say, say_bytes, say_call, say_made};
 use crate::texts::text_of;
+use sj_document::{BorrowedValue, Document, OwnedValue};
 use sj_object::{KeyText, deserialize, deserialize_with_buffers};
-use sj_document::{BorrowedValue, Document, OwnedValue, outline};
 use sj_tape::{Buffers, Tape, to_tape, to_tape_with_buffers};
-use sj_text_core::{ErrorKind, StaticNode};
+use sj_text_core::{ErrorKind, Writable};
 use std::borrow::CowStr;
 
 /// What a text is read by.
@@ -88,7 +88,7 @@ fn tell_tape(
     }
 }
 
-/// Tells the outline of the document, and the value of `k00` where it is there.
+/// Tells the print of the document.
 fn tell_document<T: KeyText + Drop>(
     rt: &(impl Print + AllocGlobal),
     read: Result<Document<T>, ErrorKind>,
@@ -97,11 +97,8 @@ fn tell_document<T: KeyText + Drop>(
         Ok(value) => {
             say(rt, "read, ")?;
             let mut out = Vec::new(rt.alloc());
-            outline(&value, &mut out)?;
+            value.write(&mut out)?;
             say_bytes(rt, out.as_slice())?;
-            if let Some(Document::Static(StaticNode::U64(number))) = value.get("k00") {
-                say(rt, format!(in rt.alloc(); " k00 is {number}")?.as_str())?;
-            }
             say(rt, "\n")
         }
         Err(kind) => tell_kind(rt, kind),

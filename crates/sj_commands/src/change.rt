@@ -88,7 +88,7 @@ fn pop<T: KeyText + Drop>(value: &mut Document<T>) -> Result<Reply<T>, AllocErro
 fn remove<T: KeyText + Drop>(value: &mut Document<T>, key: &str) -> Result<Reply<T>, AllocError>
     ensures { Answered T.text_of [] (command.remove key.now) (tree T.text_of value.old) (tree T.text_of value.new) result }
 {
-    match value.remove_member(key) {
+    match value.remove(key) {
         Ok(Some(before)) => Ok(Reply::Old(before)),
         Ok(None) => Ok(Reply::Nothing),
         Err(_) => Ok(Reply::NotAnObject),

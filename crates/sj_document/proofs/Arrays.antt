@@ -1,5 +1,5 @@
 -- The items of a document, and edits at their end.
-use Rattle.std.proofs.Common.{◌≡◌, ℕ, zero, suc, ◌+◌, ◌<◌, ◌≤◌, ◌++◌, List, [], ◌∷◌, map, length, Option, Some, None, option_map, Vec, Global, Bor, refl, sym, ap, ◌∙◌, arith}
+use Rattle.std.proofs.Common.{◌≡◌, ℕ, zero, suc, ◌+◌, ◌<◌, ◌≤◌, ◌++◌, List, [], ◌∷◌, map, length, Option, Some, None, option_map, Vec, Global, refl, sym, ap, ◌∙◌, arith}
 use Rattle.std.specs.Option.{option_to_list, MatchOption}
 use Rattle.std.specs.Vec.{vec_len}
 use Rattle.std.specs.List.{HoldsAt}
@@ -55,9 +55,10 @@ module _ {T : Type 0} (t : T → List ℕ) where
   none_nth (v ∷ vs) zero h = absurd (omega arith)
   none_nth (v ∷ vs) (suc i) h = none_nth vs i (omega arith)
 
-  pub get_nth : (vs : List (Document T)) (i : ℕ) (r : Option (Bor (Document T))) → MatchOption r (length vs ≤ i) (λ x. (i < length vs) × HoldsAt (λ y. x.now ≡ y) vs i) → option_map (λ v. tree v.now) r ≡ nth_item i (items_seen vs)
-  get_nth vs i None h = none_nth vs i h
-  get_nth vs i (Some x) h = some_nth vs i x.now h.0 h.1
+  -- what a reference to the item at that place shows
+  pub get_nth : {R : Type 0} (now : R → Document T) (vs : List (Document T)) (i : ℕ) (r : Option R) → MatchOption r (length vs ≤ i) (λ x. (i < length vs) × HoldsAt (λ y. now x ≡ y) vs i) → option_map (λ v. tree (now v)) r ≡ nth_item i (items_seen vs)
+  get_nth now vs i None h = none_nth vs i h
+  get_nth now vs i (Some x) h = some_nth vs i (now x) h.0 h.1
 
 pub array_is : (t : Tree) (is : Items) → Some is ≡ as_items t → t ≡ list is
 array_is null is e = cc

@@ -1,12 +1,13 @@
 -- A document, level by level, and the tree that it means.
 use Rattle.std.proofs.Common.{◌≡◌, ℕ, List, map, Option, Some, None, option_map, Box, Vec, Global, Bor, MutBor, refl, ap, ◌∙◌, rules}
-use Rattle.std.specs.Option.{option_copied, option_copied_mut}
+use Rattle.std.specs.Option.{IsSome, option_copied, option_copied_mut}
 use Rattle.sj_text_core.specs.Tree.{Tree, null, boolean, int, text, list, obj, items_from, Members}
 use Rattle.sj_object.specs.declared.hasher.NotSoRandomState.{NotSoRandomState}
 use Rattle.sj_object.specs.HashMap.{Contents}
 use Rattle.sj_object.specs.Members.{entry_members}
 use Rattle.sj_object.proofs.Shown.{entry_members-map}
-use Rattle.sj_document.specs.Document.{tree, object_of}
+use Rattle.sj_text_core.specs.Reads.{as_members}
+use Rattle.sj_document.specs.Document.{tree}
 use Rattle.sj_document.specs.declared.value.Document.{Document, Array, Object, the_lemmas}
 
 abbrev pub Map : Type 0 → Type 0
@@ -27,10 +28,14 @@ module _ {T : Type 0} (t : T → List ℕ) where
   tree_of_mut None = refl
   tree_of_mut (Some v) = refl
 
-pub object_is : (t : Tree) (ms : Members) → Some ms ≡ object_of t → t ≡ obj ms
+pub object_is : (t : Tree) (ms : Members) → Some ms ≡ as_members t → t ≡ obj ms
 object_is null ms e = cc
 object_is (boolean b) ms e = cc
 object_is (int n c) ms e = cc
 object_is (text s) ms e = cc
 object_is (list is) ms e = cc
 object_is (obj ns) ms e = cc
+
+pub some_before : {A B : Type 0} (f : A → B) (o : Option A) → IsSome (option_map f o) → IsSome o
+some_before f None h = h
+some_before f (Some x) h = h

@@ -1,10 +1,9 @@
 -- A walk over the items of a document, one after another.
-use Rattle.std.proofs.Common.{◌≡◌, ℕ, zero, suc, ◌+◌, ◌<◌, ◌≤◌, List, [], ◌∷◌, ◌++◌, map, length, get_or, take, drop, sym, ap, ◌∙◌, arith, add-one, append_assoc, drop-cons, Result, Ok, Err, true≢false, false}
+use Rattle.std.proofs.Common.{◌≡◌, ℕ, zero, suc, ◌+◌, ◌<◌, ◌≤◌, List, [], ◌∷◌, ◌++◌, map, length, get_or, take, sym, ap, ◌∙◌, arith, Result, Ok, Err, true≢false, false}
 use Rattle.std.specs.Result.{OnOk, is_err}
 use Rattle.std.proofs.lemmas.List.{map-append, take_more}
 use Rattle.sj_text_core.specs.Tree.{depth, items_depth, items_from}
 use Rattle.sj_document.specs.Document.{tree}
-use Rattle.sj_document.specs.Outline.{outline_of, items_outline}
 use Rattle.sj_document.specs.declared.value.Document.{Document}
 
 pub done_ok : {A E : Type 0} {P : Type 0} (r : Result A E) → is_err r ≡ false → OnOk r P → P
@@ -22,14 +21,3 @@ module _ {T : Type 0} (t : T → List ℕ) where
   copied_next vs us ws i x w h e before same pushed =
       ap (map (tree t)) pushed ∙ map-append (tree t) us (w ∷ []) ∙ (λ j. before j ++ same j ∷ []) ∙ (λ j. map (tree t) (take i vs) ++ tree t (e j) ∷ [])
       ∙ sym (map-append (tree t) (take i vs) (get_or vs i x ∷ [])) ∙ ap (map (tree t)) (sym (take_more vs i x h))
-
-  abbrev printed : List (Document T) → List ℕ
-  printed vs = items_outline (items_from (map (tree t) vs))
-
-  pub printed_next : (vs : List (Document T)) (a b : List ℕ) (i : ℕ) (x : Document T) → i < length vs → x ≡ get_or vs i x → b ≡ (a ++ outline_of (tree t x)) ++ 44 ∷ []
-      → b ++ printed (drop (i + 1) vs) ≡ a ++ printed (drop i vs)
-  printed_next vs a b i x h e pushed =
-      let rest = printed (drop (i + 1) vs) in
-      let one = outline_of (tree t x) in
-      (λ j. pushed j ++ rest) ∙ append_assoc (a ++ one) (44 ∷ []) rest ∙ append_assoc a one (44 ∷ rest)
-      ∙ ap (λ l. a ++ l) (sym (ap printed (drop-cons vs i x h) ∙ (λ j. outline_of (tree t (sym e j)) ++ 44 ∷ printed (drop (sym (add-one i) j) vs))))

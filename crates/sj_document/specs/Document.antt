@@ -1,8 +1,9 @@
 -- The tree that a document means, where t gives the text of a key or a string.
 use Rattle.std.specs.Prelude.{ℕ, Bool, true, ◌&&◌, List, Option, Some, None}
 use Rattle.std.specs.List.{list_all}
-use Rattle.sj_text_core.specs.Tree.{Tree, text, list, obj, items_from, Members}
+use Rattle.sj_text_core.specs.Tree.{Tree, text, list, obj, items_from}
 use Rattle.sj_text_core.specs.Scalars.{static_tree}
+use Rattle.sj_text_core.specs.Print.{compact}
 use Rattle.sj_text_core.specs.Edits.{put, cut, push, front, last}
 use Rattle.sj_object.specs.Members.{entry_members}
 use Rattle.sj_text_core.specs.declared.error.AccessError.{AccessError}
@@ -33,11 +34,6 @@ module _ {T : Type 0} (is_made : T → Bool) where
   abbrev pub all_texts : Document T → Bool
   all_texts = fold-Document T Bool level_passes
 
--- the members of an object
-abbrev pub object_of : Tree → Option Members
-object_of (obj ms) = Some ms
-object_of t = None
-
 -- an object with the value at the text; anything else stays
 abbrev pub with_member : List ℕ → Tree → Tree → Tree
 with_member k u (obj ms) = obj (put k u ms)
@@ -67,3 +63,8 @@ last_item t = None
 abbrev pub why_of : {A : Type 0} → AccessError → Option A → AccessError
 why_of wrong None = wrong
 why_of wrong (Some x) = OutOfMemory
+
+-- what a reader is shown: a text as it is, all else as its compact print
+abbrev pub shown : Tree → List ℕ
+shown (text s) = s
+shown t = compact t

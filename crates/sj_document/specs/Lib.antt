@@ -1,4 +1,3 @@
 pub mod Document
-pub mod Outline
 pub mod Rows
 pub mod SameWith

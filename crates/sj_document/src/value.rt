@@ -1,16 +1,32 @@
-//! The type, and its reads.
+//! `Document`, its names, and what makes an empty one.
 
-ghost use Rattle.std.specs.Prelude.{◌≡◌, option_map, OnSome, IsTrue};
-ghost use Rattle.sj_text_core.specs.Tree.{obj};
-ghost use Rattle.sj_text_core.specs.Find.{find};
-ghost use Rattle.sj_text_core.specs.Keep.{IsKept};
-ghost use Rattle.sj_object.specs.Members.{entry_members};
+ghost use Rattle.std.specs.Prelude.{◌≡◌, IfOk};
+ghost use Rattle.sj_text_core.specs.Tree.{null, list, obj, no_items, no_members};
 
+mod access;
+mod build;
+mod cmp;
+mod copy;
+mod edit;
+mod from;
+mod index;
+mod path;
+mod scalar;
+mod serialize;
+mod typed;
+
+pub use build::{borrowed_from_tape, owned_from_tape};
+pub use cmp::same;
+pub use copy::CopyText;
+pub use path::replace_at;
 use sj_object::{HashMap, KeyText, ObjectHasher};
 use sj_text_core::StaticNode;
+use std::alloc::{AllocError, Global};
 use std::borrow::CowStr;
 
-/// A document whose keys and strings are `T`.
+/// A document whose keys and texts are `T`.
+///
+/// It means a tree in which no object has two members of one key, at any depth.
 #[derive(Debug, Drop)]
 pub enum Document<T: KeyText> {
     Static(StaticNode),
@@ -19,6 +35,7 @@ pub enum Document<T: KeyText> {
     Object(Box<Object<T>>),
 }
 
+/// The members of an object, in the order of their insertion.
 pub type Object<T> = HashMap<T, Document<T>, ObjectHasher>;
 
 /// A document that owns its texts.
@@ -28,47 +45,56 @@ pub type OwnedValue = Document<String>;
 pub type BorrowedValue<'v> = Document<CowStr<'v>>;
 
 impl<T: KeyText> Document<T> {
-    ghost use Rattle.std.specs.Borrow.{LendsSo, sem};
-    ghost use Rattle.sj_document.specs.Document.{tree, object_of};
-    ghost use Rattle.sj_document.specs.Rows.{document_row, object_row};
+    ghost use Rattle.sj_document.specs.Document.{tree};
 
-    /// No object in the document has two members of one text, at any depth.
-    pub fn is_kept(&self) -> bool
-        ensures kept { IsKept (tree T.text_of self.now) }
-        ensures value { IsTrue result }
+    /// A null.
+    pub fn null() -> Self
+        ensures { tree T.text_of result ≡ null }
     {
-        true
+        Document::Static(StaticNode::Null)
+    }
+}
+
+impl<T: KeyText + Drop> Document<T> {
+    ghost use Rattle.sj_document.specs.Document.{tree};
+
+    /// An empty array.
+    pub fn array(alloc: Global) -> Result<Self, AllocError>
+        ensures { IfOk result (λ v. tree T.text_of v ≡ list no_items) }
+    {
+        Ok(Document::Array(Box::new(alloc, Vec::new(alloc))?))
     }
 
-    /// The value of the key; None on a non-object.
-    pub fn get(&self, key: &str) -> Option<&Document<T>>
-        ensures { option_map (λ v. tree T.text_of v.now) result ≡ find key.now (tree T.text_of self.now) }
+    /// An empty array with room for that many items.
+    pub fn array_with_capacity(alloc: Global, capacity: usize) -> Result<Self, AllocError>
+        ensures { IfOk result (λ v. tree T.text_of v ≡ list no_items) }
     {
-        match self {
-            Document::Object(members) => members.get(key),
-            _ => None,
-        }
+        let items = Vec::with_capacity(alloc, capacity)?;
+        Ok(Document::Array(Box::new(alloc, items)?))
     }
 
-    /// The map of an object, to write. The document is then the object of what it last was.
-    pub fn as_object_mut(&mut self) -> Option<&mut Object<T>>
-        ensures* writes_back { sem 𝓛 (LendsSo (document_row T.row T.KeyText) (object_row T.row T.KeyText) self.entry result
-            (λ n w. OnSome result (tree T.text_of n ≡ obj (entry_members (tree T.text_of) w.entries))) (λ n. tree T.text_of n ≡ tree T.text_of self.old)) }
-        ensures value { option_map (λ m. entry_members (tree T.text_of) m.now.entries) result ≡ object_of (tree T.text_of self.old) }
+    /// An empty object.
+    pub fn object(alloc: Global) -> Result<Self, AllocError>
+        ensures { IfOk result (λ v. tree T.text_of v ≡ obj no_members) }
     {
-        match self {
-            Document::Object(members) => Some(members),
-            _ => None,
-        }
+        Self::object_with_capacity(alloc, 0)
     }
 
-    /// The value of the key, to write. What the document is then is not said.
-    pub fn get_mut(&mut self, key: &str) -> Option<&mut Document<T>>
-        ensures value { option_map (λ v. tree T.text_of v.now) result ≡ find key.now (tree T.text_of self.old) }
+    /// An empty object with room for that many members.
+    pub fn object_with_capacity(alloc: Global, capacity: usize) -> Result<Self, AllocError>
+        ensures { IfOk result (λ v. tree T.text_of v ≡ obj no_members) }
     {
-        match self {
-            Document::Object(members) => members.get_mut(key),
-            _ => None,
-        }
+        let members = HashMap::with_capacity_and_hasher(alloc, capacity, ObjectHasher::default())?;
+        Ok(Document::Object(Box::new(alloc, members)?))
+    }
+}
+
+impl<T: KeyText> Default for Document<T> {
+    ghost use Rattle.sj_document.specs.Document.{tree};
+
+    ghost is_default = { λ v. tree T.text_of v ≡ null };
+
+    fn default() -> Self {
+        Document::null()
     }
 }

@@ -6,7 +6,7 @@ use Rattle.sj_text_core.specs.declared.repeats.Repeats.{Repeats}
 use Rattle.sj_text_core.specs.declared.repeats.Repeats.TheVariants.{First}
 use Rattle.sj_tape.specs.Members.{chosen}
 use Rattle.sj_tape.specs.Parts.{listed, paired}
-use Rattle.sj_object.specs.Entries.{Entry, entries_of}
+use Rattle.sj_object.specs.Entries.{Entry, entries_of, texts, keys, values}
 use Rattle.sj_object.specs.Members.{entry_members}
 
 pub listed-from : (ts : List Tree) → listed (items_from ts) ≡ ts
@@ -41,3 +41,15 @@ parts-items f (v ∷ vs) = ap (λ (l : List (Repeats × Tree)). (First, f v) ∷
 pub parts-members : {K V : Type 0} (t : K → List ℕ) (f : V → Tree) (ps : List (K × V)) → map {B = List ℕ × (Repeats × Tree)} (λ (p : K × V). (t p.0, (First, f p.1))) ps ≡ chosen First (paired (entry_members f (entries_of t ps)))
 parts-members t f [] = refl
 parts-members t f (p ∷ ps) = ap (λ (l : List (List ℕ × (Repeats × Tree))). (t p.0, (First, f p.1)) ∷ l) (parts-members t f ps)
+
+pub keys-texts : {K V : Type 0} (t : K → List ℕ) (ps : List (K × V)) → map t (keys (entries_of t ps)) ≡ texts (entries_of t ps)
+keys-texts t [] = refl
+keys-texts t (p ∷ ps) = ap (λ l. t p.0 ∷ l) (keys-texts t ps)
+
+pub texts-members : {K V : Type 0} (f : V → Tree) (es : List (Entry K V)) → texts es ≡ map (λ (p : List ℕ × Tree). p.0) (paired (entry_members f es))
+texts-members f [] = refl
+texts-members f (e ∷ es) = ap (λ l. e.0.1 ∷ l) (texts-members f es)
+
+pub values-members : {K V : Type 0} (f : V → Tree) (es : List (Entry K V)) → map {B = Repeats × Tree} (λ v. (First, f v)) (values es) ≡ map (λ (p : List ℕ × (Repeats × Tree)). p.1) (chosen First (paired (entry_members f es)))
+values-members f [] = refl
+values-members f (e ∷ es) = ap (λ (l : List (Repeats × Tree)). (First, f e.1) ∷ l) (values-members f es)

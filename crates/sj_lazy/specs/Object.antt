@@ -11,6 +11,10 @@ use Rattle.sj_lazy.specs.declared.object.Object.{Object}
 use Rattle.sj_lazy.specs.declared.object.Object.TheVariants as object
 use Rattle.sj_lazy.specs.declared.object.Iter.{Iter}
 use Rattle.sj_lazy.specs.declared.object.Iter.TheVariants as iter
+use Rattle.sj_lazy.specs.declared.object.Keys.{Keys}
+use Rattle.sj_lazy.specs.declared.object.Keys.TheVariants as keys
+use Rattle.sj_lazy.specs.declared.object.Values.{Values}
+use Rattle.sj_lazy.specs.declared.object.Values.TheVariants as values
 
 -- the members of an object, of a tape repeats too
 abbrev pub members : Object → Members
@@ -30,3 +34,13 @@ object_choice (object.Value m) = First
 abbrev pub parts_ahead : Iter → List (List ℕ × (Repeats × Tree))
 parts_ahead (iter.Tape it) = tape.parts_ahead it
 parts_ahead (iter.Value it) = map (λ p. (cow_str_bytes p.0, (First, document_tree cow_str_bytes p.1))) it
+
+-- the keys that an iterator has left
+abbrev pub keys_ahead : Keys → List (List ℕ)
+keys_ahead (keys.Tape it) = tape.keys_ahead it
+keys_ahead (keys.Value it) = map cow_str_bytes it
+
+-- the lazy values that an iterator has left
+abbrev pub values_ahead : Values → List (Repeats × Tree)
+values_ahead (values.Tape it) = tape.value_parts_ahead it
+values_ahead (values.Value it) = map (λ d. (First, document_tree cow_str_bytes d)) it

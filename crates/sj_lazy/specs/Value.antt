@@ -6,7 +6,7 @@ use Rattle.std.specs.declared.borrow.CowStr.{CowStr}
 use Rattle.std.specs.declared.alloc.Global.{Global}
 use Rattle.sj_text_core.specs.Tree.{Tree}
 use Rattle.sj_tape.specs.declared.value.Value.{Value as TapeValue}
-use Rattle.sj_text_core.specs.Repeats.{keep_by}
+use Rattle.sj_text_core.specs.Repeats.{find_by, keep_by, by_first}
 use Rattle.sj_text_core.specs.declared.repeats.Repeats.{Repeats}
 use Rattle.sj_text_core.specs.declared.repeats.Repeats.TheVariants.{First}
 use Rattle.sj_tape.specs.Value.{tree as tape_tree, choice as tape_choice}
@@ -88,3 +88,11 @@ kept = lazy_kept part_kept lent_tree cow_str_bytes
 -- a lazy value as its readers see it
 abbrev pub part : Lazy TapeValue (Bor (Document Text)) Text → Repeats × Tree
 part v = (choice v, tree v)
+
+-- the value of the member of a text that counts
+abbrev pub found : Lazy TapeValue (Bor (Document Text)) Text → List ℕ → Option Tree
+found v k = find_by (choice v) k (tree v)
+
+-- a lazy value as comparisons see it: the tree whose first members are those that count
+abbrev pub seen : Lazy TapeValue (Bor (Document Text)) Text → Tree
+seen v = by_first (choice v) (tree v)

@@ -2,10 +2,7 @@
 #![tactic(auto)]
 
 pub mod array;
-mod edit;
 pub mod object;
-mod read;
-mod typed;
 mod upgrade;
 mod value;
 

@@ -1,27 +1,29 @@
 //! Objects of a lazy document.
 
-ghost use Rattle.std.specs.Prelude.{◌≡◌, ◌↔◌, IsTrue, IfSome, option_map};
+ghost use Rattle.std.specs.Prelude.{◌≡◌, ◌↔◌, ℕ, List, IsTrue, IfSome, map, option_map};
+ghost use Rattle.std.specs.Cow.{cow_str_bytes};
+ghost use Rattle.sj_object.specs.Entries.{texts};
 ghost use Rattle.sj_text_core.specs.Repeats.{find_member_by};
 ghost use Rattle.sj_tape.specs.Members.{chosen};
-ghost use Rattle.sj_text_core.specs.Tree.{members_len, no_members};
+ghost use Rattle.sj_text_core.specs.Tree.{Tree, members_len, no_members};
 ghost use Rattle.sj_tape.specs.Parts.{paired};
 
 use crate::value::{Lazy, Shared, Value, of_lent, of_tape};
-use sj_object::{Iter as MapIter, KeyText};
 use sj_document::{BorrowedValue, Object as Map};
+use sj_object::{Iter as MapIter, KeyText, Keys as MapKeys, Values as MapValues};
 use sj_tape::Object as TapeObject;
-use sj_tape::object::Iter as TapeIter;
+use sj_tape::object::{Iter as TapeIter, Keys as TapeKeys, Values as TapeValues};
 use std::borrow::CowStr;
 
 /// The members of an object.
-#[derive(Clone, Copy)]
+#[derive(Clone, Copy, Debug)]
 pub enum Object<'b, 't, 'i> {
     Tape(TapeObject<'t, 'i>),
     Value(&'b Map<CowStr<'i>>),
 }
 
 impl<'b, 't, 'i> Object<'b, 't, 'i> {
-    ghost use Rattle.sj_lazy.specs.Object.{members, members_ahead, parts_ahead, object_choice};
+    ghost use Rattle.sj_lazy.specs.Object.{members, members_ahead, parts_ahead, keys_ahead, values_ahead, object_choice};
     ghost use Rattle.sj_lazy.specs.Value.{tree, choice};
 
     /// The value of the key; None where there is none.
@@ -62,6 +64,35 @@ impl<'b, 't, 'i> Object<'b, 't, 'i> {
             Object::Value(members) => Iter::Value(members.iter()),
         }
     }
+
+    /// The keys in order; of a tape repeats too.
+    pub fn keys(&self) -> Keys<'b, 't, 'i>
+        ensures { keys_ahead result ≡ map (λ (p : List ℕ × Tree). p.0) (paired (members self.now)) }
+    {
+        match self {
+            Object::Tape(members) => Keys::Tape(members.keys()),
+            Object::Value(members) => Keys::Value(keys_of(*members)),
+        }
+    }
+
+    /// The values in order; of a tape those of repeats too.
+    pub fn values(&self) -> Values<'b, 't, 'i>
+        ensures { values_ahead result ≡ map (λ p. p.1) (chosen (object_choice self.now) (paired (members self.now))) }
+    {
+        match self {
+            Object::Tape(members) => Values::Tape(members.values()),
+            Object::Value(members) => Values::Value(members.values()),
+        }
+    }
+}
+
+/// The keys of a map, whose texts are those of its members.
+fn keys_of<'b, 'i>(members: &'b Map<CowStr<'i>>) -> MapKeys<'b, CowStr<'i>, BorrowedValue<'i>>
+    ensures { map cow_str_bytes result ≡ texts members.now.entries }
+{
+    // That each text is its key's is told by the pairs.
+    let _pairs = members.iter();
+    members.keys()
 }
 
 /// The members of an object in order, as keys and lazy values.
@@ -92,6 +123,57 @@ impl<'b, 't, 'i> Iterator for Iter<'b, 't, 'i> {
                 let (key, value) = members.next()?;
                 Some((key.text(), Lazy::Value(Shared::Borrowed(value))))
             }
+        }
+    }
+}
+
+/// The keys of an object in order.
+#[derive(Drop)]
+pub enum Keys<'b, 't, 'i> {
+    Tape(TapeKeys<'t, 'i>),
+    Value(MapKeys<'b, CowStr<'i>, BorrowedValue<'i>>),
+}
+
+impl<'b, 't, 'i> Iterator for Keys<'b, 't, 'i> {
+    type Item = &'b str;
+
+    ghost use Rattle.std.specs.Iterator.{YieldsFirstBy, item_count};
+    ghost use Rattle.sj_lazy.specs.Object.{keys_ahead};
+
+    ghost next_gives = { YieldsFirstBy (λ k. k.now) keys_ahead };
+
+    ghost remaining = { item_count keys_ahead };
+
+    fn next(&mut self) -> Option<&'b str> {
+        match self {
+            Keys::Tape(keys) => Some(keys.next()?),
+            Keys::Value(keys) => Some(keys.next()?.text()),
+        }
+    }
+}
+
+/// The values of an object in order, as lazy values.
+#[derive(Drop)]
+pub enum Values<'b, 't, 'i> {
+    Tape(TapeValues<'t, 'i>),
+    Value(MapValues<'b, CowStr<'i>, BorrowedValue<'i>>),
+}
+
+impl<'b, 't, 'i> Iterator for Values<'b, 't, 'i> {
+    type Item = Value<'b, 't, 'i>;
+
+    ghost use Rattle.std.specs.Iterator.{YieldsFirstBy, item_count};
+    ghost use Rattle.sj_lazy.specs.Object.{values_ahead};
+    ghost use Rattle.sj_lazy.specs.Value.{part};
+
+    ghost next_gives = { YieldsFirstBy part values_ahead };
+
+    ghost remaining = { item_count values_ahead };
+
+    fn next(&mut self) -> Option<Value<'b, 't, 'i>> {
+        match self {
+            Values::Tape(values) => Some(Lazy::Tape(values.next()?)),
+            Values::Value(values) => Some(Lazy::Value(Shared::Borrowed(values.next()?))),
         }
     }
 }

@@ -12,8 +12,8 @@ ghost use Rattle.std.specs.Prelude.{map};
 ghost use Rattle.sj_object.specs.Members.{entry_members};
 
 use crate::value::{Lazy, Shared};
-use sj_object::KeyText;
 use sj_document::{BorrowedValue, CopyText, Document, Object, borrowed_from_tape};
+use sj_object::KeyText;
 use sj_tape::Value as TapeValue;
 use sj_text_core::AccessError;
 use std::alloc::{AllocError, Global};

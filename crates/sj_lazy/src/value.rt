@@ -9,9 +9,16 @@ ghost use Rattle.sj_tape.specs.Value.{tree as tape_tree, choice as tape_choice};
 ghost use Rattle.sj_lazy.specs.Value.{tree, choice, kept, lent_tree};
 ghost use Rattle.sj_text_core.specs.Repeats.{keep_by};
 
+mod access;
+mod cmp;
+mod edit;
+mod scalar;
+mod serialize;
+mod typed;
+
 use crate::upgrade::{Lent, Upgrade};
-use sj_object::KeyText;
 use sj_document::{BorrowedValue, CopyText, Document};
+use sj_object::KeyText;
 use sj_tape::Value as TapeValue;
 use sj_text_core::Repeats;
 use std::alloc::{AllocError, Global};
@@ -86,6 +93,16 @@ impl<'b, 't, 'i> Value<'b, 't, 'i> {
         ensures form { on_tape result ≡ true }
     {
         Lazy::Tape(TapeValue::null())
+    }
+}
+
+impl<'b, 't, 'i> Default for Value<'b, 't, 'i> {
+    ghost use Rattle.sj_lazy.specs.Value.{on_tape};
+
+    ghost is_default = { λ v. (tree v ≡ null) × (on_tape v ≡ true) };
+
+    fn default() -> Self {
+        Lazy::null()
     }
 }
 

@@ -2,7 +2,7 @@
 use Rattle.std.proofs.Common.{◌≡◌, ℕ, zero, suc, ◌+◌, List, [], ◌∷◌, ◌++◌, length, Option, Some, None, IfSome, refl, sym, ap, ◌∙◌, arith}
 use Rattle.std.proofs.lemmas.List.{length_push}
 use Rattle.sj_object.specs.Entries.{Entry, entries_of}
-use Rattle.sj_object.specs.Edits.{put, value_at, set_value_at}
+use Rattle.sj_object.specs.Edits.{put, value_at, set_value_at, length-set_value_at}
 use Rattle.sj_object.proofs.Repeats.{entries_of-append}
 use Rattle.sj_object.proofs.Position.{IsAbsent, IsFound, set_value_at-last, value_at-last}
 use Rattle.sj_object.proofs.Hashed.{entries-length}
@@ -24,13 +24,8 @@ module _ {K V : Type 0} (t : K → List ℕ) (ps qs : List (K × V)) (k : K) (v 
 pub made_length : {K V : Type 0} (t : K → List ℕ) (ps : List (K × V)) (k : K) (w : V) → IsAbsent t (t k) ps → length ps + 1 ≡ length (put (k, t k) w (entries_of t ps))
 made_length t ps k w a = let h = ap length (a.put_last k w refl) in omega (arith, h, entries-length t (ps ++ (k, w) ∷ []), length_push ps (k, w))
 
-set_value_at-length : {K V : Type 0} (i : ℕ) (w : V) (es : List (Entry K V)) → length (set_value_at i w es) ≡ length es
-set_value_at-length i w [] = refl
-set_value_at-length zero w (e ∷ es) = refl
-set_value_at-length (suc i) w (e ∷ es) = let h = set_value_at-length i w es in omega (arith, h)
-
 pub there_length : {K V : Type 0} (t : K → List ℕ) (ps : List (K × V)) (i : ℕ) (k : K) (w : V) → IsFound t (t k) ps i → length (put (k, t k) w (entries_of t ps)) ≡ length (entries_of t ps)
-there_length t ps i k w f = ap length (sym (f.there w k refl)) ∙ set_value_at-length i w (entries_of t ps)
+there_length t ps i k w f = ap length (sym (f.there w k refl)) ∙ length-set_value_at i w (entries_of t ps)
 
 pub if_none : {A : Type 0} (P : A → Type 0) (o : Option A) → o ≡ None → IfSome o P
 if_none P None e = tt

@@ -17,7 +17,7 @@ use Rattle.sj_object.specs.Texts.{no_repeats}
 use Rattle.sj_object.specs.Entries.{Entry, texts, entries_of}
 use Rattle.sj_object.specs.Chains.{is_in}
 use Rattle.sj_object.specs.declared.map.index.Index.{Index}
-use Rattle.sj_object.specs.Index.{IsIndexOf, IsTable, NeedsHash, HasRoom, buckets_in, buckets_of, buckets_for}
+use Rattle.sj_object.specs.Index.{IsIndexOf, IsTable, NeedsHash, HasRoom, HasRoom-prop, buckets_in, buckets_of, buckets_for}
 use Rattle.sj_object.specs.Steps.{chain, walk, found_on}
 use Rattle.sj_object.proofs.Walked.{Agrees, count}
 use Rattle.sj_object.proofs.Position.{IsFound}
@@ -136,8 +136,14 @@ no_buckets (h ∷ hs) e = absurd (omega arith)
 
 -- fields that agree in what is data are the same
 pub same_inside : {K V S : Type 0} {G : text.Ghosts K} {E : eq.Ghosts K} {H : hasher.Ghosts S} (m : Inside K V S G E H) (d : no_repeats (texts (entries_of G.text_of m.pairs.items)) ≡ true)
-    → ◌≡◌ {A = Inside K V S G E H} (record { pairs = m.pairs; hasher = m.hasher; index = m.index; distinct = d }) m
-same_inside {K} {V} {S} {G} m d = λ i. record { pairs = m.pairs; hasher = m.hasher; index = m.index; distinct = Coded-set coded_bool (no_repeats (texts (entries_of G.text_of m.pairs.items))) true d m.distinct i }
+    (r : HasRoom (length (entries_of G.text_of m.pairs.items)) (buckets_of m.index)) → ◌≡◌ {A = Inside K V S G E H} (record { pairs = m.pairs; hasher = m.hasher; index = m.index; distinct = d; room = r }) m
+same_inside {K} {V} {S} {G} m d r = λ i. record {
+  pairs = m.pairs;
+  hasher = m.hasher;
+  index = m.index;
+  distinct = Coded-set coded_bool (no_repeats (texts (entries_of G.text_of m.pairs.items))) true d m.distinct i;
+  room = HasRoom-prop (length (entries_of G.text_of m.pairs.items)) (buckets_of m.index) r m.room i;
+}
 
 pub needs_hash : (m : ℕ) (hs : List ℕ) → 0 < length hs → NeedsHash m (buckets_in hs)
 needs_hash m [] l = absurd (omega arith)
@@ -154,9 +160,16 @@ has_room hs i h = by_heads i.heads.items refl where
   by_heads (g ∷ gs) e =
       let n : length i.heads.items ≡ length (g ∷ gs) = ap length e in
       let p : 0 < length i.heads.items = omega (arith, n) in
-      omega (arith, n, (h.table p).room, (h.table p).linked.count, ap length (h.same p))
+      (omega arith, omega (arith, n, (h.table p).room, (h.table p).linked.count, ap length (h.same p)))
+
+pub room_of : {K V : Type 0} (t : K → List ℕ) (ps : List (K × V)) (hs : List ℕ) (i : Index) → IsIndexOf hs i → length hs ≡ length ps → HasRoom (length (entries_of t ps)) (buckets_of i)
+room_of t ps hs i h e = subst (λ n. HasRoom n (buckets_of i)) (e ∙ sym (entries-length t ps)) (has_room hs i h)
+
+pub room_fewer : (n m : ℕ) (o : Option ℕ) → n ≤ m → HasRoom m o → HasRoom n o
+room_fewer n m None l h = omega (arith, l, h)
+room_fewer n m (Some k) l h = (h.0, omega (arith, l, h.1))
 
 -- where there is room, the buckets stay
 pub buckets_kept : (n m : ℕ) (o : Option ℕ) → m ≡ n → HasRoom n o → o ≡ buckets_for m o
 buckets_kept n m None e h = let y : nat_le m 32 ≡ true = grind (arith, nat_tests) in λ j. if sym y j then None else Some 64
-buckets_kept n m (Some k) e h = let y : nat_le m k ≡ true = grind (arith, nat_tests) in λ j. if sym y j then Some k else Some (2 * k)
+buckets_kept n m (Some k) e h = let l : n ≤ k = h.1 in let y : nat_le m k ≡ true = grind (arith, nat_tests) in λ j. if sym y j then Some k else Some (2 * k)

@@ -3,9 +3,11 @@ pub mod Position
 pub mod Lent
 pub mod Chains
 pub mod Walked
+pub mod Words
 pub mod Hashed
 pub mod Added
 pub mod Shown
 pub mod Kept
 pub mod Walks
 pub mod Piles
+pub mod rows

@@ -1,11 +1,12 @@
 -- What the calls of a map answer and leave, on its entries.
-use Rattle.std.specs.Prelude.{◌≡◌, ℕ, zero, suc, Bool, true, false, if◌then◌else◌, List, [], ◌∷◌, length, Option, Some, None, refl, bytes_eq}
-use mathlib.Core.Path.{ap, ◌∙◌}
+use Rattle.std.specs.Prelude.{◌≡◌, ◌≤◌, ◌+◌, ℕ, zero, suc, Bool, true, false, if◌then◌else◌, List, [], ◌∷◌, length, Option, Some, None, refl, bytes_eq}
+use Rattle.std.proofs.Common.{arith}
+use mathlib.Core.Path.{ap, ◌∙◌, sym, subst}
 use Rattle.sj_text_core.specs.Keep.{is_seen}
 use Rattle.sj_object.specs.Texts.{no_repeats, or_false, or_of_false, not_and, not_and_of, bytes_eq-sym}
 use Rattle.sj_object.specs.Entries.{Entry, texts}
 use Rattle.sj_object.specs.HashMap.{Contents}
-use Rattle.sj_object.specs.Index.{buckets_for}
+use Rattle.sj_object.specs.Index.{buckets_for, HasRoom, HasRoom-more}
 
 module _ {K V : Type 0} where
   -- the value of the first entry with the text
@@ -31,13 +32,20 @@ module _ {K V : Type 0} where
   texts-if : (b : Bool) (e : Entry K V) (w : V) (es fs : List (Entry K V)) → texts fs ≡ texts es → texts (if b then (e.0, w) ∷ es else e ∷ fs) ≡ e.0.1 ∷ texts es
   texts-if b e w es fs h = elim b as (λ c. texts (if c then (e.0, w) ∷ es else e ∷ fs) ≡ e.0.1 ∷ texts es) [ true ↦ refl | _ ↦ ap (λ l. e.0.1 ∷ l) h ]
 
+  length-if : (b : Bool) (e : Entry K V) (w : V) (es fs : List (Entry K V)) → length fs ≡ length es → length (if b then (e.0, w) ∷ es else e ∷ fs) ≡ suc (length es)
+  length-if b e w es fs h = elim b as (λ c. length (if c then (e.0, w) ∷ es else e ∷ fs) ≡ suc (length es)) [ true ↦ refl | _ ↦ ap suc h ]
+
+  pub length-set_value : (k : List ℕ) (w : V) (es : List (Entry K V)) → length (set_value k w es) ≡ length es
+  length-set_value k w [] = refl
+  length-set_value k w (e ∷ es) = length-if (bytes_eq k e.0.1) e w es (set_value k w es) (length-set_value k w es)
+
   pub texts-set_value : (k : List ℕ) (w : V) (es : List (Entry K V)) → texts (set_value k w es) ≡ texts es
   texts-set_value k w [] = refl
   texts-set_value k w (e ∷ es) = texts-if (bytes_eq k e.0.1) e w es (set_value k w es) (texts-set_value k w es)
 
 -- the map with w in the place of the value at the text
 abbrev pub with_value : {K V S : Type 0} → Contents K V S → List ℕ → V → Contents K V S
-with_value m k w = record { entries = set_value k w m.entries; hasher = m.hasher; buckets = m.buckets; distinct = ap no_repeats (texts-set_value k w m.entries) ∙ m.distinct }
+with_value m k w = record { entries = set_value k w m.entries; hasher = m.hasher; buckets = m.buckets; distinct = ap no_repeats (texts-set_value k w m.entries) ∙ m.distinct; room = subst (λ n. HasRoom n m.buckets) (sym (length-set_value k w m.entries)) m.room }
 
 module _ {K V : Type 0} where
   -- the value of the i-th entry
@@ -57,6 +65,18 @@ module _ {K V : Type 0} where
   texts-set_value_at zero w (e ∷ es) = refl
   texts-set_value_at (suc i) w (e ∷ es) = ap (λ l. e.0.1 ∷ l) (texts-set_value_at i w es)
 
+  pub length-set_value_at : (i : ℕ) (w : V) (es : List (Entry K V)) → length (set_value_at i w es) ≡ length es
+  length-set_value_at i w [] = refl
+  length-set_value_at zero w (e ∷ es) = refl
+  length-set_value_at (suc i) w (e ∷ es) = ap suc (length-set_value_at i w es)
+
+  pub length-put : (q : K × List ℕ) (w : V) (es : List (Entry K V)) → length (put q w es) ≤ length es + 1
+  length-put q w [] = omega arith
+  length-put q w (e ∷ es) = by_test (bytes_eq q.1 e.0.1) (length-put q w es) where
+    by_test : (b : Bool) → length (put q w es) ≤ length es + 1 → length (if b then (e.0, w) ∷ es else e ∷ put q w es) ≤ length (e ∷ es) + 1
+    by_test true h = omega arith
+    by_test false h = omega (arith, h)
+
   unseen-put : (x : List ℕ) (q : K × List ℕ) (w : V) (es : List (Entry K V)) → bytes_eq x q.1 ≡ false → is_seen x (texts es) ≡ false → is_seen x (texts (put q w es)) ≡ false
   unseen-put x q w [] n u = or_of_false _ _ n refl
   unseen-put x q w (e ∷ es) n u = let r = or_false (bytes_eq x e.0.1) _ u in by_test (bytes_eq q.1 e.0.1) r.0 (unseen-put x q w es n r.1) where
@@ -73,8 +93,8 @@ module _ {K V : Type 0} where
 
 -- the map with w in the place of the i-th value
 abbrev pub with_value_at : {K V S : Type 0} → Contents K V S → ℕ → V → Contents K V S
-with_value_at m i w = record { entries = set_value_at i w m.entries; hasher = m.hasher; buckets = m.buckets; distinct = ap no_repeats (texts-set_value_at i w m.entries) ∙ m.distinct }
+with_value_at m i w = record { entries = set_value_at i w m.entries; hasher = m.hasher; buckets = m.buckets; distinct = ap no_repeats (texts-set_value_at i w m.entries) ∙ m.distinct; room = subst (λ n. HasRoom n m.buckets) (sym (length-set_value_at i w m.entries)) m.room }
 
 -- the map after an insert
 abbrev pub with_entry : {K V S : Type 0} → Contents K V S → K × List ℕ → V → Contents K V S
-with_entry m q w = record { entries = put q w m.entries; hasher = m.hasher; buckets = buckets_for (length (put q w m.entries)) m.buckets; distinct = no_repeats-put q w m.entries m.distinct }
+with_entry m q w = record { entries = put q w m.entries; hasher = m.hasher; buckets = buckets_for (length (put q w m.entries)) m.buckets; distinct = no_repeats-put q w m.entries m.distinct; room = HasRoom-more (length (put q w m.entries)) (length m.entries) m.buckets (length-put q w m.entries) m.room }

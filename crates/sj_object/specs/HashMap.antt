@@ -1,7 +1,8 @@
--- A map as contracts see it: its members in order, no two of one text, beside its hasher and its buckets.
-use Rattle.std.specs.Prelude.{◌≡◌, ℕ, true, List, Option}
+-- A map as contracts see it: its members in order, no two of one text, beside its hasher and its buckets, which are as many as the members want.
+use Rattle.std.specs.Prelude.{◌≡◌, ℕ, true, List, Option, length}
 use Rattle.sj_object.specs.Texts.{no_repeats}
 use Rattle.sj_object.specs.Entries.{Entry, texts}
+use Rattle.sj_object.specs.Index.{HasRoom, HasRoom-prop}
 use mathlib.Core.HLevel.{is_prop→PathP}
 use base.Stored.{Coded, coded×, coded_list, coded_ℕ, coded_bool, coded_via, Coded-set}
 use Rattle.std.specs.Coded.{coded_option}
@@ -11,6 +12,7 @@ pub record Contents (K V S : Type 0) : Type 0 where
   pub hasher : S
   pub buckets : Option ℕ
   pub distinct : no_repeats (texts entries) ≡ true
+  pub room : HasRoom (length entries) buckets
 
 abbrev Parts : Type 0 → Type 0 → Type 0 → Type 0
 Parts K V S = List (Entry K V) × (S × Option ℕ)
@@ -26,6 +28,7 @@ module _ {K V S : Type 0} where
     hasher = (e i).1.0;
     buckets = (e i).1.1;
     distinct = is_prop→PathP (λ j. no_repeats (texts (e j).0) ≡ true) (λ j. Coded-set coded_bool _ _) m.distinct n.distinct i;
+    room = is_prop→PathP (λ j. HasRoom (length (e j).0) (e j).1.1) (λ j. HasRoom-prop (length (e j).0) (e j).1.1) m.room n.room i;
   }
 
   abbrev pub contents_code : Coded K → Coded V → Coded S → Coded (Contents K V S)

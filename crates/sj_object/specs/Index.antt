@@ -1,5 +1,7 @@
 -- The index of a map's members by their hashes. A map of up to 32 members that never had more is a plain list, and its index is empty.
-use Rattle.std.specs.Prelude.{◌≡◌, ◌<◌, ◌≤◌, ◌*◌, ◌^◌, ℕ, List, [], ◌∷◌, length, Option, Some, None, if◌then◌else◌, nat_le, ⊤}
+use Rattle.std.specs.Prelude.{◌≡◌, ◌+◌, ◌<◌, ◌≤◌, ◌*◌, ◌^◌, ℕ, Bool, true, false, List, [], ◌∷◌, length, Option, Some, None, if◌then◌else◌, nat_le, ⊤, refl}
+use Rattle.std.proofs.Common.{arith}
+use Rattle.std.proofs.lemmas.Bool.Decides.{nat_tests}
 use denote.Struct.Props.{props}
 use Rattle.sj_object.specs.declared.map.index.Index.{Index}
 use Rattle.sj_object.specs.Chains.{IsLinked}
@@ -35,7 +37,22 @@ buckets_for members (Some n) = if nat_le members n then Some n else Some (2 * n)
 -- a plain list has at most 32 members, and a hashed map at least as many buckets as members
 abbrev pub HasRoom : ℕ → Option ℕ → Type 0
 HasRoom members None = members ≤ 32
-HasRoom members (Some n) = members ≤ n
+HasRoom members (Some n) = (0 < n) × (members ≤ n)
+
+pub HasRoom-prop : (members : ℕ) (o : Option ℕ) → IsProp (HasRoom members o)
+HasRoom-prop members None = hlevel props
+HasRoom-prop members (Some n) = hlevel props
+
+-- there is room for one member more, once there are buckets for it
+pub HasRoom-more : (n m : ℕ) (o : Option ℕ) → n ≤ m + 1 → HasRoom m o → HasRoom n (buckets_for n o)
+HasRoom-more n m None l h = by_test (nat_le n 32) refl where
+  by_test : (c : Bool) → nat_le n 32 ≡ c → HasRoom n (if c then None else Some 64)
+  by_test true e = grind (arith, nat_tests)
+  by_test false e = (omega arith, omega arith)
+HasRoom-more n m (Some k) l h = by_test (nat_le n k) refl h where
+  by_test : (c : Bool) → nat_le n k ≡ c → HasRoom m (Some k) → HasRoom n (if c then Some k else Some (2 * k))
+  by_test true e r = let f : n ≤ k = grind (arith, nat_tests) in (r.0, f)
+  by_test false e r = (omega (arith, r.0), omega (arith, r.0, r.1))
 
 -- whether the hash of a member to come is read: there are buckets, or it makes some
 abbrev pub NeedsHash : ℕ → Option ℕ → Type 0

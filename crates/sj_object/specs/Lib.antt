@@ -8,6 +8,7 @@ pub mod Steps
 pub mod Chains
 pub mod Index
 pub mod Lends
+pub mod Laws
 pub mod Builder
 pub mod Piles
 pub mod formers

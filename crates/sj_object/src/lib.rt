@@ -5,6 +5,7 @@ mod build;
 mod builder;
 mod hasher;
 mod key;
+pub mod laws;
 mod map;
 mod read;
 

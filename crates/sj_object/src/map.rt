@@ -3,7 +3,7 @@
 ghost use Rattle.std.specs.Prelude.{◌≡◌, ◌↔◌, [], length, true, None, IsTrue, IfOk};
 ghost use Rattle.sj_object.specs.Texts.{no_repeats};
 ghost use Rattle.sj_object.specs.Entries.{texts, keys, values, entries_of};
-ghost use Rattle.sj_object.specs.Index.{HasRoom};
+ghost use Rattle.sj_object.specs.Index.{HasRoom, HasRoom-prop, buckets_of};
 
 mod chain;
 mod debug;
@@ -13,6 +13,7 @@ mod insert;
 mod iter;
 mod or_insert;
 mod remove;
+mod same;
 mod search;
 
 use crate::hasher::KeyHasher;
@@ -34,6 +35,7 @@ pub struct HashMap<K: KeyText, V, S: KeyHasher> {
     hasher: S,
     index: Index,
     ghost distinct: { no_repeats (texts (entries_of K.text_of pairs.items)) ≡ true },
+    ghost room: { HasRoom (length (entries_of K.text_of pairs.items)) (buckets_of index) } by { HasRoom-prop _ _ },
 }
 
 impl<K: KeyText, V, S: KeyHasher> Model for HashMap<K, V, S> {
@@ -46,7 +48,7 @@ impl<K: KeyText, V, S: KeyHasher> Model for HashMap<K, V, S> {
 
     ghost coded = { contents_code K.code V.code S.code };
 
-    ghost view = { λ m. record { entries = entries_of K.text_of m.pairs.items; hasher = m.hasher; buckets = buckets_of m.index; distinct = m.distinct } };
+    ghost view = { λ m. record { entries = entries_of K.text_of m.pairs.items; hasher = m.hasher; buckets = buckets_of m.index; distinct = m.distinct; room = m.room } };
 
     ghost invariant = { λ m. IsIndexOf (map (λ p. S.hash_of m.hasher (K.text_of p.0)) m.pairs.items) m.index };
 }

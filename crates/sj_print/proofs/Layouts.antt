@@ -2,7 +2,7 @@
 use Rattle.std.proofs.Common.{◌≡◌, ℕ, ◌+◌, ◌-◌, ◌*◌, ◌^◌, min, List, [], ◌∷◌, ◌++◌, Option, Some, None, codes, replicate, refl, ap, ◌∙◌, append_assoc}
 use Rattle.sj_text_core.specs.Tree.{Tree, list, obj, Items, item, Members, member}
 use Rattle.sj_text_core.specs.Print.{quoted, compact, compact_items, compact_members, pretty, pretty_items, pretty_members, new_line}
-use Rattle.sj_text_core.proofs.Utf8.{IsUtf8-line}
+use Rattle.sj_print.proofs.Utf8.{IsUtf8-line}
 use Rattle.sj_print.specs.Layouts.{laid, laid_items, laid_members, deeper, gap, colon}
 use Rattle.sj_print.specs.Outputs.{Appends, Lays}
 use Rattle.sj_print.specs.declared.layout.Layout.TheVariants.{Pretty}
@@ -39,6 +39,6 @@ pub laid-member : (s : Option ℕ) (k : List ℕ) (t : Tree) (ms : Members) → 
 laid-member None k t ms = refl
 laid-member (Some n) k t ms = ap (λ l. 44 ∷ l) (five (new_line n) (quoted k) (codes ": ") (pretty n t) (pretty_members n ms))
 
-pub lays_gap : {O : Type 0} (holds : ℕ → List ℕ → O → List ℕ → Type 0) (a b : O) (spaces : ℕ) → ((k : ℕ) → spaces ≡ min k (2 ^ 64 - 1) → Appends holds a b (10 ∷ replicate k 32)) → Lays holds a b (Pretty spaces) gap
+pub lays_gap : {S O : Type 0} (holds : S → O → List ℕ → Type 0) (a b : O) (spaces : ℕ) → ((k : ℕ) → spaces ≡ min k (2 ^ 64 - 1) → Appends holds a b (10 ∷ replicate k 32)) → Lays holds a b (Pretty spaces) gap
 lays_gap holds a b spaces f None l = absurd l
 lays_gap holds a b spaces f (Some n) l = appends_text holds a b (new_line n) (f (2 * n) l) (IsUtf8-line (2 * n))

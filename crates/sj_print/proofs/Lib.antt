@@ -1,4 +1,9 @@
+pub mod Runs
+pub mod Lanes
+pub mod Escapes
+pub mod Utf8
 pub mod Puts
 pub mod Layouts
 pub mod Walks
 pub mod Ends
+pub mod rows

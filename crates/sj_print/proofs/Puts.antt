@@ -4,20 +4,20 @@ use Rattle.std.proofs.lemmas.Str.{IsUtf8-append}
 use Rattle.sj_print.specs.Outputs.{Appends, AppendsText}
 
 -- what was put, with the rest makes the whole
-pub record Towards {O : Type 0} (holds : ℕ → List ℕ → O → List ℕ → Type 0) (old new : O) (rest whole : List ℕ) : Type 0 where
+pub record Towards {S O : Type 0} (holds : S → O → List ℕ → Type 0) (old new : O) (rest whole : List ℕ) : Type 0 where
   pub done : List ℕ
   pub put : Appends holds old new done
   pub makes : done ++ rest ≡ whole
 
-module _ {O : Type 0} (holds : ℕ → List ℕ → O → List ℕ → Type 0) where
+module _ {S O : Type 0} (holds : S → O → List ℕ → Type 0) where
   pub appends_nothing : (a : O) → Appends holds a a []
-  appends_nothing a n start b h = subst (holds n start a) (sym (append-nil b)) h
+  appends_nothing a start b h = subst (holds start a) (sym (append-nil b)) h
 
   pub appends_both : (a b c : O) (p q : List ℕ) → Appends holds a b p → Appends holds b c q → Appends holds a c (p ++ q)
-  appends_both a b c p q f g n start x h = subst (holds n start c) (append_assoc x p q) (g n start (x ++ p) (f n start x h))
+  appends_both a b c p q f g start x h = subst (holds start c) (append_assoc x p q) (g start (x ++ p) (f start x h))
 
   pub appends_text : (a b : O) (p : List ℕ) → Appends holds a b p → IsUtf8 p → AppendsText holds a b p
-  appends_text a b p f u n start x h = (IsUtf8-append x p h.0 u, f n start x h.1)
+  appends_text a b p f u start x h = (IsUtf8-append x p h.0 u, f start x h.1)
 
   pub begin : (a b : O) (part rest whole : List ℕ) → Appends holds a b part → part ++ rest ≡ whole → Towards holds a b rest whole
   begin a b part rest whole f e = record { done = part; put = f; makes = e }

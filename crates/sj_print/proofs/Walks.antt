@@ -15,7 +15,7 @@ no_member_left : (s : Option ℕ) → laid_members s no_members ≡ []
 no_member_left None = refl
 no_member_left (Some n) = refl
 
-module _ {O : Type 0} (holds : ℕ → List ℕ → O → List ℕ → Type 0) (s : Option ℕ) where
+module _ {S O : Type 0} (holds : S → O → List ℕ → Type 0) (s : Option ℕ) where
   abbrev d : Option ℕ
   d = deeper s
 

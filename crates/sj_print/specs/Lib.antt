@@ -1,3 +1,5 @@
 pub mod Layouts
 pub mod Levels
 pub mod Outputs
+pub mod Generators
+pub mod Runs

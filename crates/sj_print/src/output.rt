@@ -8,17 +8,25 @@ ghost use Rattle.sj_print.specs.Outputs.{Appends, AppendsText, Lays};
 
 mod bytes;
 mod count;
+mod growing;
+mod line;
+mod plain;
 mod quote;
 
 use crate::layout::Layout;
 pub use count::Count;
+pub(crate) use growing::append_quoted;
+pub(crate) use line::append_line;
 use quote::put_runs;
 use sj_text_core::StaticNode;
 
 /// What a print goes to: the bytes themselves, where there is room for them, or how many they are.
 pub trait Output {
-    /// The output holds these bytes behind a start, where the two are at most so many.
-    ghost holds: { ℕ → List ℕ → Self → List ℕ → Type 0 };
+    /// What an output begins with, and what it counts on.
+    ghost Start: { Type 0 };
+
+    /// The output holds these bytes behind its start.
+    ghost holds: { Start → Self → List ℕ → Type 0 };
 
     /// Appends the bytes.
     fn put_bytes(&mut self, bytes: &[u8])
@@ -46,16 +54,7 @@ pub trait Output {
     final fn put_static(&mut self, node: StaticNode)
         ensures { AppendsText holds self.old self.new (compact (static_tree node)) }
     {
-        let mut digits = itoa::Buffer::new();
-        match node {
-            StaticNode::Null => self.put("null"),
-            StaticNode::Bool(true) => self.put("true"),
-            StaticNode::Bool(false) => self.put("false"),
-            StaticNode::I64(n) => self.put(digits.format(n)),
-            StaticNode::U64(n) => self.put(digits.format(n)),
-            StaticNode::I128(n) => self.put(digits.format(n)),
-            StaticNode::U128(n) => self.put(digits.format(n)),
-        }
+        self.put(node.text_in(&mut itoa::Buffer::new()));
     }
 
     /// Appends what the layout has between tokens.

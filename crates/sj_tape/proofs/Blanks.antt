@@ -3,7 +3,7 @@ use Rattle.std.proofs.Common.{◌≡◌, ℕ, suc, ◌+◌, ◌<◌, Bool, true,
 use Rattle.std.specs.List.{prefix_len}
 use Rattle.std.proofs.lemmas.List.{drop-drop, drop_more}
 use Rattle.std.proofs.lemmas.Bool.Decides.{nat_tests}
-use Rattle.sj_tape.specs.Parse.{is_space, after_blank}
+use Rattle.sj_text_core.specs.Parse.{is_space, after_blank}
 
 after_run : (l : List ℕ) → drop (prefix_len is_space l) l ≡ after_blank l
 after_run [] = refl

@@ -2,8 +2,8 @@
 use Rattle.std.proofs.Common.{◌≡◌, ◌⊎◌, ℕ, zero, suc, Bool, true, false, cond, List, [], ◌∷◌, ◌++◌, Some, None, refl, sym, ap, subst, ◌∙◌, append_assoc, append-nil, inl, inr, ⊎_elim}
 use Rattle.std.proofs.lemmas.Option.{none-some, option_and_then_some, some_pair_parts}
 use Rattle.sj_text_core.specs.Grammar.{IsBlank}
-use Rattle.sj_tape.specs.Parse.{Read, after_blank, separator_at, separator_or, with_first, parts_at}
-use Rattle.sj_tape.proofs.Steps.{blank_off, separator_is}
+use Rattle.sj_text_core.specs.Parse.{Read, after_blank, separator_at, separator_or, with_first, parts_at}
+use Rattle.sj_text_core.proofs.parse.Steps.{blank_off, separator_is}
 
 -- a spelling was taken off the front
 pub record Front {X : Type 0} (P : X → List ℕ → Type 0) (b : List ℕ) (x : X) (r : List ℕ) : Type 0 where

@@ -5,12 +5,12 @@ use Rattle.sj_text_core.specs.Grammar.{Spelling, Spells, IsReadable}
 use Rattle.sj_text_core.specs.Nodes.{Mark, flat, tree_of, IsPreorder}
 use Rattle.sj_text_core.specs.Code.{tree_of-flat}
 use Rattle.std.proofs.lemmas.Option.{none-some, same_Some, option_and_then_some}
-use Rattle.sj_tape.specs.Parse.{tree_at, value_at, after_blank, last}
-use Rattle.sj_tape.proofs.Steps.{Blank, blank_off}
+use Rattle.sj_text_core.specs.Parse.{tree_at, value_at, after_blank, last}
+use Rattle.sj_text_core.proofs.parse.Steps.{Blank, blank_off}
 use Rattle.sj_tape.proofs.Fronts.{Front}
 use Rattle.sj_tape.proofs.Sound.{Deep, value_sound}
 use Rattle.sj_tape.proofs.Texts.{lift}
-use Rattle.sj_tape.proofs.Complete.{read_again, after_blank-append, solid_stays, spelling_solid, ends_blank}
+use Rattle.sj_text_core.proofs.parse.One.{complete}
 use Rattle.sj_tape.specs.Gives.{Scans}
 
 last_is : (t u : Tree) (b : List ℕ) → last t b ≡ Some u → (t ≡ u) × (b ≡ [])
@@ -34,15 +34,6 @@ sound d b t u e =
     option_and_then_some _ (value_at d (after_blank b)) t e (λ p e1 e2.
     let k = last_is p.0 t (after_blank p.1) e2 in
     tree_of_value d b (blank_off b) p.0 t p.1 u (value_sound d (after_blank b) p.0 p.1 e1) k.0 k.1)
-
--- what is spelled in the limit is read
-pub complete : (d : ℕ) (b : List ℕ) (t : Tree) → Spells b t → depth t ≤ d → tree_at d b ≡ Some t
-complete d b t s h =
-    let e : b ≡ s.before ++ (s.word ++ (s.after ++ [])) = s.is ∙ ap (λ l. s.before ++ (s.word ++ l)) (sym (append-nil s.after)) in
-    let first : after_blank b ≡ s.word ++ (s.after ++ []) = ap (λ l. after_blank l) e ∙ (after_blank-append s.before (s.word ++ (s.after ++ [])) s.blank_before ∙ solid_stays s.word (s.after ++ []) (spelling_solid t s.word s.spelled)) in
-    ap (λ l. option_and_then (λ p. last p.0 (after_blank p.1)) (value_at d l)) first
-    ∙ (ap (λ o. option_and_then (λ p. last p.0 (after_blank p.1)) o) (read_again t d s.word (s.after ++ []) s.spelled h (ends_blank s.after [] s.blank_after (record { digits = refl; plain = refl })))
-    ∙ ap (λ l. last t l) (after_blank-append s.after [] s.blank_after))
 
 -- no other tree is spelled
 pub only : (d : ℕ) (b : List ℕ) (t u : Tree) → IsUtf8 b → tree_at d b ≡ Some t → Spells b u → u ≡ t

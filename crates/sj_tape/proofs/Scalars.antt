@@ -11,11 +11,8 @@ use Rattle.sj_text_core.specs.Scalars.{static_tree}
 use Rattle.sj_text_core.specs.declared.static_node.StaticNode.{StaticNode}
 use Rattle.sj_text_core.specs.declared.static_node.StaticNode.TheVariants.{Null, I64, U64, I128, U128}
 use Rattle.sj_text_core.specs.declared.static_node.StaticNode.TheVariants as nodes
-use Rattle.sj_tape.specs.Parse.{Read, value_by, word_at, number_at, text_at}
-
--- a value that begins with none of these is a number
-pub value_by_other : (f g : List ℕ → Read Tree) (c : ℕ) (b : List ℕ) → c ≢ 34 → c ≢ 91 → c ≢ 123 → c ≢ 110 → c ≢ 116 → c ≢ 102 → value_by f g (c ∷ b) ≡ number_at (c ∷ b)
-value_by_other f g c b h1 h2 h3 h4 h5 h6 = grind (arith, common_steps, nat_tests)
+use Rattle.sj_text_core.proofs.parse.Values.{value_by_other}
+use Rattle.sj_text_core.specs.Parse.{Read, value_by, word_at, number_at, text_at}
 
 -- the same at a place
 pub other_at : (f g : List ℕ → Read Tree) (b : List ℕ) (i : ℕ) → i < length b → get_or b i 0 ≢ 34 → get_or b i 0 ≢ 91 → get_or b i 0 ≢ 123 → get_or b i 0 ≢ 110 → get_or b i 0 ≢ 116 → get_or b i 0 ≢ 102

@@ -5,7 +5,7 @@ use Rattle.std.proofs.lemmas.List.{drop_at, take_at, get_or_at}
 use Rattle.sj_text_core.specs.Tree.{Tree, null, boolean, int, text, list, obj, Items, no_items, item, Members, no_members, member}
 use Rattle.sj_text_core.specs.Grammar.{IsString, Spaced, Spelling, SpellsItems, MoreItems, SpellsMembers, MoreMembers}
 use Rattle.sj_tape.proofs.Bytewise as raw
-use Rattle.sj_tape.proofs.Strings.{string_is}
+use Rattle.sj_text_core.proofs.parse.Strings.{string_is}
 
 -- an ASCII byte cuts UTF-8 in two
 pub cut : (a b : List ℕ) (c : ℕ) → c < 128 → IsUtf8 (a ++ (c ∷ b)) → IsUtf8 a × IsUtf8 b

@@ -5,25 +5,12 @@ use Rattle.std.proofs.lemmas.Grind.{common_steps}
 use Rattle.std.proofs.lemmas.Bool.Decides.{nat_tests}
 use Rattle.sj_text_core.specs.Tree.{Tree, list, obj}
 use Rattle.sj_text_core.specs.Nodes.{Mark, flat, array, object}
-use Rattle.sj_tape.specs.Parse.{Read, parts_at, all_parts_at, after_blank, list_at, obj_at, value_at, value_by, nothing_at, tree_at, last}
+use Rattle.sj_text_core.proofs.parse.Values.{in_list, in_obj, value_is}
+use Rattle.sj_text_core.specs.Parse.{Read, parts_at, all_parts_at, after_blank, list_at, obj_at, value_at, value_by, nothing_at, tree_at, last}
 use Rattle.sj_text_core.specs.Tree.{items_from, members_from}
 use Rattle.std.proofs.Common.{Result, Ok, Err, IfErr}
 use Rattle.sj_text_core.specs.declared.error.ErrorKind.{ErrorKind}
 use Rattle.sj_tape.proofs.Parts.{item_flats, member_flats, items_len-from, members_len-from}
-
-abbrev pub in_list : ℕ → List ℕ → Read Tree
-in_list zero = nothing_at
-in_list (suc d) = list_at (value_at d)
-
-abbrev pub in_obj : ℕ → List ℕ → Read Tree
-in_obj zero = nothing_at
-in_obj (suc d) = obj_at (value_at d)
-
--- a value by what may follow a bracket
-pub value_is : (d : ℕ) (b : List ℕ) → value_at d b ≡ value_by (in_list d) (in_obj d) b
-unfolding value_at
-value_is zero b = refl
-value_is (suc d) b = refl
 
 -- no value past the end
 pub value_at_end : (d : ℕ) (b : List ℕ) (i : ℕ) → length b ≤ i → value_at d (drop i b) ≡ None

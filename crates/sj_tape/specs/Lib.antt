@@ -1,5 +1,5 @@
 pub mod Marks
-pub mod Parse
+pub mod Gives
 pub mod Room
 pub mod Run
 pub mod Parts
@@ -8,5 +8,18 @@ pub mod Value
 pub mod Items
 pub mod Members
 pub mod Lookup
-pub mod Laws
-pub mod Gives
+pub use Rattle.sj_text_core.specs.Tree
+pub use Rattle.sj_text_core.specs.Grammar
+pub use Rattle.sj_text_core.specs.Find
+pub use Rattle.sj_text_core.specs.Keep
+pub use Rattle.sj_text_core.specs.Repeats
+pub use Rattle.sj_text_core.specs.Edits
+pub use Rattle.sj_text_core.specs.Same
+pub use Rattle.sj_text_core.specs.Agree
+pub use Rattle.sj_text_core.specs.Print
+pub use Rattle.sj_print.specs.Generators
+pub use Rattle.sj_text_core.specs.Nodes
+pub use Rattle.sj_text_core.specs.Scalars
+pub use Rattle.sj_text_core.specs.Reads
+pub use Rattle.sj_text_core.specs.Nulls
+pub use Rattle.sj_text_core.specs.Code

@@ -1,6 +1,6 @@
 -- Runs of bytes that a vector test passes over.
 use Rattle.std.specs.Prelude.{ℕ, Bool, not, ◌||◌, ◌==◌, nat_lt}
-use Rattle.sj_tape.specs.Parse.{is_space}
+use Rattle.sj_text_core.specs.Parse.{is_space}
 
 -- a byte at which the plain part of a text stops
 abbrev pub is_stop : ℕ → Bool

@@ -1,7 +1,9 @@
 -- What a part of a tape means.
-use Rattle.std.specs.Prelude.{Option, Some, None}
+use Rattle.std.specs.Prelude.{ℕ, List, Option, Some, None}
 use Rattle.sj_text_core.specs.Tree.{Tree, null, boolean, int, text, list, obj}
 use Rattle.sj_text_core.specs.Nodes.{tree_of}
+use Rattle.sj_text_core.specs.Print.{compact}
+use Rattle.sj_text_core.specs.Repeats.{find_by}
 use Rattle.sj_text_core.specs.declared.repeats.Repeats.{Repeats}
 use Rattle.sj_tape.specs.Marks.{marks}
 use Rattle.sj_tape.specs.declared.value.Value.{Value}
@@ -18,6 +20,10 @@ choice v = v.repeats
 abbrev pub part : Value → Repeats × Tree
 part v = (choice v, tree v)
 
+-- the value of the member with the text that counts in the part
+abbrev pub found : Value → List ℕ → Option Tree
+found v k = find_by (choice v) k (tree v)
+
 -- the tree itself, where it is a null, a truth value or a whole number
 abbrev pub as_scalar : Tree → Option Tree
 as_scalar null = Some null
@@ -26,3 +32,12 @@ as_scalar (int n c) = Some (int n c)
 as_scalar (text s) = None
 as_scalar (list is) = None
 as_scalar (obj ms) = None
+
+-- the bytes that a scalar or a text is displayed as; of containers none are promised
+abbrev pub displayed : Tree → Option (List ℕ)
+displayed null = Some (compact null)
+displayed (boolean b) = Some (compact (boolean b))
+displayed (int n c) = Some (compact (int n c))
+displayed (text s) = Some s
+displayed (list is) = None
+displayed (obj ms) = None

@@ -3,8 +3,6 @@
 #![tactic(auto)]
 
 pub mod array;
-mod compare;
-pub mod laws;
 mod node;
 pub mod object;
 mod preorder;
@@ -20,5 +18,13 @@ pub use array::Array;
 pub use node::Node;
 pub use object::Object;
 pub use reader::{Buffers, DEPTH_LIMIT, to_tape, to_tape_with_buffers};
+pub use sj_print::{
+    BaseGenerator, DumpGenerator, PrettyGenerator, PrettyWriterGenerator, WriterGenerator,
+};
+pub use sj_text_core::{
+    AccessError, BadTape, ErrorKind, ExtendedValueType, Meaning, Refused, Repeats, SameAs,
+    SameWith, StaticNode, TryMake, TryTypeError, TypedValue, ValueAsScalar, ValueType, Writable,
+    WriteError,
+};
 pub use tape::Tape;
 pub use value::Value;

@@ -1,11 +1,7 @@
--- The steps of the loop that puts a text between quotes.
-use Rattle.std.proofs.Common.{◌≡◌, ℕ, suc, ◌+◌, ◌-◌, ◌<◌, ◌≤◌, Bool, true, false, not, cond, ◌==◌, ◌||◌, List, [], ◌∷◌, ◌++◌, length, take, drop, get_or, flat_map, refl, sym, ap, ◌∙◌, arith, append_assoc, drop-drop}
-use Rattle.std.proofs.lemmas.Bool.{ne_eqb, le-ltb, or_parts, not-true, eqb-false, ltb-false}
-use Rattle.std.proofs.lemmas.List.{drop_more, drop_all, get_or-drop, length-drop, take-append-le, length-take}
-use Rattle.std.proofs.lemmas.List.Sums.{prefix_len_stops}
-use Rattle.std.specs.List.{prefix_len}
+-- Bytes that stand for themselves between quotes.
+use Rattle.std.proofs.Common.{◌≡◌, ℕ, suc, ◌<◌, ◌≤◌, List, [], ◌∷◌, ◌++◌, length, get_or, flat_map, refl, sym, ap, ap₂, ◌∙◌, arith, append_assoc}
+use Rattle.std.proofs.lemmas.Bool.{ne_eqb, le-ltb}
 use Rattle.sj_text_core.specs.Print.{escaped}
-use Rattle.sj_text_core.specs.Runs.{is_plain, is_stop}
 
 -- a byte that needs no escape
 pub escaped_plain : (x : ℕ) → (x ≡ 34 → ⊥) → (x ≡ 92 → ⊥) → 32 ≤ x → escaped x ≡ x ∷ []
@@ -22,68 +18,13 @@ escaped_plain x q b l =
       le-ltb x 32 l,
     )
 
-run_byte : (p : Bool) (x n : ℕ) (xs : List ℕ) → p ≡ is_plain x → flat_map escaped xs ≡ take n xs ++ flat_map escaped (drop n xs)
-    → flat_map escaped (x ∷ xs) ≡ take (cond p (1 + n) 0) (x ∷ xs) ++ flat_map escaped (drop (cond p (1 + n) 0) (x ∷ xs))
-run_byte false x n xs e ih = refl
-run_byte true x n xs e ih =
-    let next : suc n ≡ 1 + n = omega arith in
-    let none = or_parts ((x == 34) || (x == 92)) _ (not-true _ (sym e)) in
-    let tests = or_parts (x == 34) _ none.0 in
-    (λ i. escaped_plain x (eqb-false x 34 tests.0) (eqb-false x 92 tests.1) (ltb-false x 32 none.1) i ++ ih i)
-    ∙ ap (λ k. take k (x ∷ xs) ++ flat_map escaped (drop k (x ∷ xs))) next
+pub escaped-append : (xs ys : List ℕ) → flat_map escaped (xs ++ ys) ≡ flat_map escaped xs ++ flat_map escaped ys
+escaped-append [] ys = refl
+escaped-append (x ∷ xs) ys = ap (λ l. escaped x ++ l) (escaped-append xs ys) ∙ sym (append_assoc (escaped x) _ _)
 
--- the plain bytes in front stand for themselves
-escaped_run : (xs : List ℕ) → flat_map escaped xs ≡ take (prefix_len is_plain xs) xs ++ flat_map escaped (drop (prefix_len is_plain xs) xs)
-escaped_run [] = refl
-escaped_run (x ∷ xs) = run_byte (is_plain x) x (prefix_len is_plain xs) xs refl (escaped_run xs)
-
--- up to the end of a run of plain bytes
-pub escaped_to_stop : (d : List ℕ) (i stop : ℕ) (close : List ℕ) → stop ≡ i + prefix_len is_plain (drop i d)
-    → flat_map escaped (drop i d) ++ close ≡ take (stop - i) (drop i d) ++ (flat_map escaped (drop stop d) ++ close)
-escaped_to_stop d i stop close is =
-    let n : prefix_len is_plain (drop i d) ≡ stop - i = omega arith in
-    ap (λ l. l ++ close) (escaped_run (drop i d) ∙ ap (λ l. take (prefix_len is_plain (drop i d)) (drop i d) ++ flat_map escaped l) (drop-drop _ i d ∙ ap (λ k. drop k d) (sym is))
-    ∙ ap (λ k. take k (drop i d) ++ flat_map escaped (drop stop d)) n)
-    ∙ append_assoc (take (stop - i) (drop i d)) (flat_map escaped (drop stop d)) close
-
--- over one byte
-pub escaped_at : (d : List ℕ) (i : ℕ) (close : List ℕ) → i < length d → flat_map escaped (drop i d) ++ close ≡ escaped (get_or d i 0) ++ (flat_map escaped (drop (i + 1) d) ++ close)
-escaped_at d i close h = ap (λ l. flat_map escaped l ++ close) (drop_more d i 0 h) ∙ append_assoc (escaped (get_or d i 0)) (flat_map escaped (drop (i + 1) d)) close
-
--- at the end
-pub escaped_end : (d : List ℕ) (i : ℕ) (close : List ℕ) → length d ≤ i → flat_map escaped (drop i d) ++ close ≡ close
-escaped_end d i close h = ap (λ l. flat_map escaped l ++ close) (drop_all i d h)
-
--- a part that was written leaves the whole the same
-pub moved : (old new part rest left whole : List ℕ) → new ≡ old ++ part → left ≡ part ++ rest → old ++ left ≡ whole → new ++ rest ≡ whole
-moved old new part rest left whole wrote split e = ap (λ l. l ++ rest) wrote ∙ append_assoc old part rest ∙ ap (λ l. old ++ l) (sym split) ∙ e
-
--- the byte at which a run of plain bytes stops needs an escape
-pub stops_at : (d : List ℕ) (i stop : ℕ) → stop ≡ i + prefix_len is_plain (drop i d) → stop < length d → is_stop (get_or d stop 0) ≡ true
-stops_at d i stop is within =
-    let n = prefix_len is_plain (drop i d) in
-    let here : n < length (drop i d) = omega (arith, length-drop i d) in
-    let fails : is_plain (get_or d stop 0) ≡ false = ap (λ k. is_plain (get_or d k 0)) is ∙ ap is_plain (sym (get_or-drop i d n 0)) ∙ prefix_len_stops is_plain (drop i d) 0 here in
-    flipped _ fails
-  where
-    flipped : (b : Bool) → not b ≡ false → b ≡ true
-    flipped true e = refl
-    flipped false e = sym e
-
--- the steps of the loop: what is written and what is left make the whole
-pub past_stop : (d whole old run new : List ℕ) (i stop : ℕ) → stop ≡ i + prefix_len is_plain (drop i d) → stop < length d
-    → old ++ (flat_map escaped (drop i d) ++ 34 ∷ []) ≡ whole → run ≡ old ++ take (stop - i) (drop i d) → new ≡ run ++ escaped (get_or d stop 0)
-    → new ++ (flat_map escaped (drop (stop + 1) d) ++ 34 ∷ []) ≡ whole
-past_stop d whole old run new i stop is within e ran wrote =
-    moved run new _ _ _ whole wrote (escaped_at d stop (34 ∷ []) within) (moved old run _ _ _ whole ran (escaped_to_stop d i stop (34 ∷ []) is) e)
-
-pub past_end : (d whole old run new : List ℕ) (i stop : ℕ) → stop ≡ i + prefix_len is_plain (drop i d) → stop ≡ length d
-    → old ++ (flat_map escaped (drop i d) ++ 34 ∷ []) ≡ whole → run ≡ old ++ take (stop - i) (drop i d) → new ≡ run ++ 34 ∷ [] → new ≡ whole
-past_end d whole old run new i stop is end e ran wrote =
-    wrote ∙ ap (λ l. run ++ l) (sym (escaped_end d stop (34 ∷ []) (omega arith))) ∙ moved old run _ _ _ whole ran (escaped_to_stop d i stop (34 ∷ []) is) e
-
--- what stood in front stays there
-pub front_stays : (base old part new : List ℕ) → take (length base) old ≡ base → new ≡ old ++ part → take (length base) new ≡ base
-front_stays base old part new front wrote =
-    let within : length base ≤ length old = omega (arith, ap length front, length-take (length base) old) in
-    ap (take (length base)) wrote ∙ take-append-le (length base) old part within ∙ front
+-- bytes past 127 stand for themselves
+pub escaped_high : (xs : List ℕ) → ((k : ℕ) → k < length xs → 128 ≤ get_or xs k 0) → flat_map escaped xs ≡ xs
+escaped_high [] h = refl
+escaped_high (x ∷ xs) h =
+    let high : 128 ≤ x = h 0 (omega arith) in
+    ap₂ (λ (a b : List ℕ). a ++ b) (escaped_plain x (λ e. omega arith) (λ e. omega arith) (omega arith)) (escaped_high xs (λ k below. h (suc k) (omega arith)))

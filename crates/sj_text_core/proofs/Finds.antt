@@ -25,7 +25,7 @@ kept_by : (b : Bool) (t : Tree) (r : Option Tree) → (if b then Some (keep t) e
 kept_by true t r = refl
 kept_by false t r = refl
 
-find-kept_after : (k : List ℕ) (seen : List (List ℕ)) (ms : Members) → find_member k (keep_members seen ms) ≡ (if is_seen k seen then None else option_map keep (find_member k ms))
+pub find-kept_after : (k : List ℕ) (seen : List (List ℕ)) (ms : Members) → find_member k (keep_members seen ms) ≡ (if is_seen k seen then None else option_map keep (find_member k ms))
 find-kept_after k seen no_members = none_either (is_seen k seen) where
   none_either : (b : Bool) → ◌≡◌ {A = Option Tree} None (if b then None else None)
   none_either true = refl

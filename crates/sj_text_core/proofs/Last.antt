@@ -19,7 +19,7 @@ put_behind true false t u r s h e = e
 put_behind false true t u r s h e = refl
 put_behind false false t u r s h e = e
 
-find-put : (k l : List ℕ) (t : Tree) (ms : Members) → find_member k (put l t ms) ≡ (if bytes_eq k l then Some t else find_member k ms)
+pub find-put : (k l : List ℕ) (t : Tree) (ms : Members) → find_member k (put l t ms) ≡ (if bytes_eq k l then Some t else find_member k ms)
 find-put k l t no_members = refl
 find-put k l t (member m u ms) = by_test (bytes_eq l m) refl (find-put k l t ms)
   where

@@ -4,12 +4,12 @@ pub mod Characters
 pub mod Proper
 pub mod rows
 pub mod Escapes
-pub mod Lanes
-pub mod Runs
-pub mod Utf8
 pub mod Last
 pub mod Equality
 pub mod Finds
+pub mod Single
 pub mod Comparing
 pub mod Equal
+pub mod Recarried
 pub mod Printed
+pub mod parse

@@ -17,8 +17,7 @@ use Rattle.sj_text_core.specs.Keep.{keep}
 use Rattle.sj_text_core.specs.Same.{Same}
 use Rattle.sj_text_core.proofs.Equality.{same-trans}
 use Rattle.sj_text_core.proofs.Finds.{same-keep, same-recarry, within-recarry}
-use Rattle.sj_text_core.proofs.Escapes.{escaped_plain}
-use Rattle.sj_text_core.proofs.Utf8.{escaped-append, escaped_high}
+use Rattle.sj_text_core.proofs.Escapes.{escaped_plain, escaped-append, escaped_high}
 
 -- decimals
 record Decimal (n : ℕ) (ds : List ℕ) : Type 0 where
@@ -329,30 +328,6 @@ mutual
 -- the pretty text too
 pub pretty-spells : (t : Tree) (level : ℕ) → IsProper t → Spells (pretty level t) (recarry t)
 pretty-spells t level h = bare (λ w. Spelling (recarry t) w) (pretty level t) (pretty_spelled t h level)
-
-mutual
-  compact-recarry : (t : Tree) → compact (recarry t) ≡ compact t
-  compact-recarry null = refl
-  compact-recarry (boolean true) = refl
-  compact-recarry (boolean false) = refl
-  compact-recarry (int n c) = refl
-  compact-recarry (text s) = refl
-  compact-recarry (list no_items) = refl
-  compact-recarry (list (item t is)) = λ i. 91 ∷ ((compact-recarry t i ++ compact_items-recarry is i) ++ 93 ∷ [])
-  compact-recarry (obj no_members) = refl
-  compact-recarry (obj (member k t ms)) = λ i. 123 ∷ (quoted k ++ (58 ∷ ((compact-recarry t i ++ compact_members-recarry ms i) ++ 125 ∷ [])))
-
-  compact_items-recarry : (is : Items) → compact_items (recarry_items is) ≡ compact_items is
-  compact_items-recarry no_items = refl
-  compact_items-recarry (item t is) = λ i. 44 ∷ (compact-recarry t i ++ compact_items-recarry is i)
-
-  compact_members-recarry : (ms : Members) → compact_members (recarry_members ms) ≡ compact_members ms
-  compact_members-recarry no_members = refl
-  compact_members-recarry (member k t ms) = λ i. 44 ∷ (quoted k ++ (58 ∷ (compact-recarry t i ++ compact_members-recarry ms i)))
-
--- carriers are not printed
-pub compact-same : (t u : Tree) → recarry t ≡ recarry u → compact t ≡ compact u
-compact-same t u e = sym (compact-recarry t) ∙ ap compact e ∙ compact-recarry u
 
 spelled_by : (t : Tree) (b : List ℕ) → IsProper t → (b ≡ compact t) ⊎ (b ≡ pretty 0 t) → Spells b (recarry t)
 spelled_by t b h e = ⊎_elim (λ e. subst (λ b. Spells b (recarry t)) (sym e) (compact-spells t h)) (λ e. subst (λ b. Spells b (recarry t)) (sym e) (pretty-spells t 0 h)) e

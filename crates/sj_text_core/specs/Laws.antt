@@ -2,15 +2,26 @@
 use Rattle.std.specs.Prelude.{◌≡◌, ◌⊎◌, ℕ, List, IsUtf8, option_map}
 use Rattle.sj_text_core.specs.Tree.{Tree, IsProper, IsWithin}
 use Rattle.sj_text_core.specs.Grammar.{Spells}
-use Rattle.sj_text_core.specs.Keep.{keep}
+use Rattle.sj_text_core.specs.Find.{find}
+use Rattle.sj_text_core.specs.Keep.{keep, IsSingle}
+use Rattle.sj_text_core.specs.Repeats.{find_by, keep_by}
+use Rattle.sj_text_core.specs.declared.repeats.Repeats.{Repeats}
 use Rattle.sj_text_core.specs.Paths.{Step, tree_at}
 use Rattle.sj_text_core.specs.Print.{compact, pretty, recarry}
 use Rattle.sj_text_core.specs.Same.{Same}
 use Rattle.sj_text_core.specs.Nodes.{flat, tree_of}
 
--- what is kept is kept
+-- what is kept is kept, by either choice
 abbrev pub KeepsOnce : Type 0
-KeepsOnce = (t : Tree) → keep (keep t) ≡ keep t
+KeepsOnce = (c : Repeats) (t : Tree) → keep_by c (keep_by c t) ≡ keep_by c t
+
+-- in what is kept no object has two members of one text, at any depth
+abbrev pub KeepsSingle : Type 0
+KeepsSingle = (c : Repeats) (t : Tree) → IsSingle (keep_by c t)
+
+-- a tree without repeats is kept as it is
+abbrev pub SingleIsKept : Type 0
+SingleIsKept = (c : Repeats) (t : Tree) → IsSingle t → keep_by c t ≡ t
 
 -- a list of nodes is the preorder of at most one tree
 abbrev pub IsPreorderOfOne : Type 0
@@ -19,6 +30,10 @@ IsPreorderOfOne = (t u : Tree) → flat t ≡ flat u → t ≡ u
 -- the tree of a preorder is the tree that was listed
 abbrev pub TreeIsListed : Type 0
 TreeIsListed = (t : Tree) → tree_of (flat t) ≡ t
+
+-- a text spells at most one tree
+abbrev pub SpellsOne : Type 0
+SpellsOne = (b : List ℕ) (t u : Tree) → Spells b t → Spells b u → t ≡ u
 
 -- what is spelled is a proper tree
 abbrev pub SpellsProper : Type 0
@@ -56,6 +71,10 @@ WithinRecarried = (t : Tree) → IsWithin t → IsWithin (recarry t)
 abbrev pub FindsKept : Type 0
 FindsKept = (p : List Step) (t : Tree) → tree_at p (keep t) ≡ option_map keep (tree_at p t)
 
+-- the first member of a text in what is kept is the member that counts, kept; or there is none in both
+abbrev pub FindsKeyKept : Type 0
+FindsKeyKept = (c : Repeats) (k : List ℕ) (t : Tree) → find k (keep_by c t) ≡ option_map (keep_by c) (find_by c k t)
+
 -- the compact text of a proper tree spells it, with the carriers of the print
 abbrev pub CompactSpells : Type 0
 CompactSpells = (t : Tree) → IsProper t → Spells (compact t) (recarry t)
@@ -66,7 +85,11 @@ PrettySpells = (t : Tree) (level : ℕ) → IsProper t → Spells (pretty level 
 
 -- carriers are not printed
 abbrev pub PrintedAlike : Type 0
-PrintedAlike = (t u : Tree) → recarry t ≡ recarry u → compact t ≡ compact u
+PrintedAlike = (t u : Tree) → recarry t ≡ recarry u → (compact t ≡ compact u) × ((level : ℕ) → pretty level t ≡ pretty level u)
+
+-- proper trees with one text, compact or pretty at a level, differ in carriers alone
+abbrev pub PrintedApart : Type 0
+PrintedApart = (t u : Tree) → IsProper t → IsProper u → (compact t ≡ compact u → recarry t ≡ recarry u) × ((level : ℕ) → pretty level t ≡ pretty level u → recarry t ≡ recarry u)
 
 -- both texts of a proper tree within the limit are read back to a tree that is the same, kept or not (section 9)
 abbrev pub ReadsBack : Type 0

@@ -1,5 +1,6 @@
 pub mod Tree
 pub mod Grammar
+pub mod Parse
 pub mod Find
 pub mod Keep
 pub mod Edits
@@ -15,8 +16,6 @@ pub mod Reads
 pub mod Laws
 pub mod ScalarValues
 pub mod Nulls
-pub mod Generators
-pub mod Runs
 pub mod Repeats
 pub mod Agree
 pub mod Equal

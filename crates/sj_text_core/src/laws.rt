@@ -1,12 +1,27 @@
 //! What holds of the definitions: each function's contract is a law, and its body is empty.
 
-ghost use Rattle.sj_text_core.specs.Laws.{KeepsOnce, IsPreorderOfOne, TreeIsListed, SpellsProper, SpellsUtf8};
-ghost use Rattle.sj_text_core.specs.Laws.{SameAsItself, SameBothWays, SameOnwards, SameKept, SameRecarried, WithinRecarried, FindsKept};
-ghost use Rattle.sj_text_core.specs.Laws.{CompactSpells, PrettySpells, PrintedAlike, ReadsBack};
+ghost use Rattle.sj_text_core.specs.Laws.{KeepsOnce, KeepsSingle, SingleIsKept, IsPreorderOfOne, TreeIsListed, SpellsOne, SpellsProper, SpellsUtf8};
+ghost use Rattle.sj_text_core.specs.Laws.{SameAsItself, SameBothWays, SameOnwards, SameKept, SameRecarried, WithinRecarried, FindsKept, FindsKeyKept};
+ghost use Rattle.sj_text_core.specs.Laws.{CompactSpells, PrettySpells, PrintedAlike, PrintedApart, ReadsBack};
 
-/// Keeping the first member of each key twice is keeping it once.
+/// Keeping the first or the last member of each key twice is keeping it once.
 pub fn keeps_once()
     ensures { KeepsOnce }
+{}
+
+/// A kept tree has no object with two members of one key, at any depth.
+pub fn keeps_single()
+    ensures { KeepsSingle }
+{}
+
+/// A tree whose objects repeat no key is kept as it is.
+pub fn single_is_kept()
+    ensures { SingleIsKept }
+{}
+
+/// A text spells at most one tree.
+pub fn spells_one()
+    ensures { SpellsOne }
 {}
 
 /// A list of nodes is the preorder of at most one tree.
@@ -64,6 +79,11 @@ pub fn finds_kept()
     ensures { FindsKept }
 {}
 
+/// A key leads in a kept tree to the member that counts, kept.
+pub fn finds_key_kept()
+    ensures { FindsKeyKept }
+{}
+
 /// The compact text of a proper tree spells it, with the carriers of the print.
 pub fn compact_spells()
     ensures { CompactSpells }
@@ -74,9 +94,14 @@ pub fn pretty_spells()
     ensures { PrettySpells }
 {}
 
-/// Trees that differ in carriers alone have one text.
+/// Trees that differ in carriers alone have one compact and one pretty text.
 pub fn printed_alike()
     ensures { PrintedAlike }
+{}
+
+/// Proper trees with one text, compact or pretty, differ in carriers alone.
+pub fn printed_apart()
+    ensures { PrintedApart }
 {}
 
 /// Both texts of a proper tree within the limit read back as a tree that is the same.

@@ -2,7 +2,6 @@
 #![tactic(auto)]
 
 mod error;
-mod generator;
 pub mod laws;
 mod meaning;
 mod refused;
@@ -18,10 +17,6 @@ mod value_type;
 mod writable;
 
 pub use error::{AccessError, BadTape, ErrorKind, WriteError};
-pub use generator::{
-    BaseGenerator, DumpGenerator, PrettyGenerator, PrettyWriterGenerator, WriterGenerator,
-    append_line, hex_digit, plain_end,
-};
 pub use meaning::Meaning;
 pub use refused::Refused;
 pub use repeats::Repeats;

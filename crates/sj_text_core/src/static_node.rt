@@ -19,7 +19,24 @@ pub enum StaticNode {
 
 impl StaticNode {
     ghost use Rattle.std.specs.Prelude.{◌≡◌, option_map, Some};
+    ghost use Rattle.sj_text_core.specs.Print.{compact};
+    ghost use Rattle.sj_text_core.specs.Scalars.{static_tree};
     ghost use Rattle.sj_text_core.specs.ScalarValues.{number_in, sign_and_size};
+
+    /// `null`, `true`, `false`, or the number in decimal, with its digits in the buffer.
+    pub fn text_in<'b>(self, digits: &'b mut itoa::Buffer) -> &'b str
+        ensures { result.now ≡ compact (static_tree self) }
+    {
+        match self {
+            StaticNode::Null => "null",
+            StaticNode::Bool(true) => "true",
+            StaticNode::Bool(false) => "false",
+            StaticNode::I64(n) => digits.format(n),
+            StaticNode::U64(n) => digits.format(n),
+            StaticNode::I128(n) => digits.format(n),
+            StaticNode::U128(n) => digits.format(n),
+        }
+    }
 
     /// Whether the number is negative, and its absolute value.
     fn sign_and_size(self) -> Option<(bool, u128)>
@@ -81,14 +98,7 @@ impl fmt::Display for StaticNode {
     ghost output = { λ n. Some (compact (static_tree n)) };
 
     fn fmt<W: fmt::Write>(&self, f: &mut fmt::Formatter<W>) -> fmt::Result {
-        match self {
-            StaticNode::Null => write!(f, "null"),
-            StaticNode::Bool(b) => write!(f, "{b}"),
-            StaticNode::I64(n) => write!(f, "{n}"),
-            StaticNode::U64(n) => write!(f, "{n}"),
-            StaticNode::I128(n) => write!(f, "{n}"),
-            StaticNode::U128(n) => write!(f, "{n}"),
-        }
+        f.write_str(self.text_in(&mut itoa::Buffer::new()))
     }
 }
 

@@ -3,6 +3,5 @@
 mod comparisons;
 mod faults;
 mod parts;
-mod prints;
 mod reads;
 mod steps;

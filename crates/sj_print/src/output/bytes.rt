@@ -1,21 +1,21 @@
 //! The bytes of a print, where there is room for them.
 
-ghost use Rattle.std.specs.Prelude.{◌≡◌, ◌+◌, ◌≤◌, ◌++◌, length};
+ghost use Rattle.std.specs.Prelude.{◌≡◌, ℕ, ◌+◌, ◌≤◌, List, ◌++◌, length};
 ghost use Rattle.std.specs.Vec.{vec_capacity};
 
-use super::Output;
-use sj_text_core::append_line;
+use super::{Output, append_line};
 
 impl Output for Vec<u8> {
-    ghost holds = { λ n start v b. length start + length b ≤ n → (v.items ≡ start ++ b) × (n ≤ vec_capacity v) };
+    // the bytes in front, and the room
+    ghost Start = { List ℕ × ℕ };
+
+    ghost holds = { λ start v b. length start.0 + length b ≤ start.1 → (v.items ≡ start.0 ++ b) × (start.1 ≤ vec_capacity v) };
 
     fn put_bytes(&mut self, bytes: &[u8]) {
         let _ = self.extend_from_slice(bytes);
     }
 
     fn put_line(&mut self, spaces: usize) {
-        if spaces < usize::MAX {
-            let _ = append_line(self, spaces);
-        }
+        let _ = append_line(self, spaces);
     }
 }

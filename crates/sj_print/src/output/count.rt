@@ -1,6 +1,6 @@
 //! How many bytes a print has.
 
-ghost use Rattle.std.specs.Prelude.{◌≡◌, ◌+◌, ◌-◌, ◌^◌, min, length};
+ghost use Rattle.std.specs.Prelude.{◌≡◌, ℕ, ◌+◌, ◌-◌, ◌^◌, min, length};
 
 use super::Output;
 
@@ -11,7 +11,10 @@ pub struct Count {
 }
 
 impl Output for Count {
-    ghost holds = { λ _ start c b. min c.total (2 ^ 64) ≡ min (length start + length b) (2 ^ 64) };
+    // how many bytes are in front
+    ghost Start = { ℕ };
+
+    ghost holds = { λ start c b. min c.total (2 ^ 64) ≡ min (start + length b) (2 ^ 64) };
 
     fn put_bytes(&mut self, bytes: &[u8]) {
         self.total = self.total.saturating_add(bytes.len() as u128);

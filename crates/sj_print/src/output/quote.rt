@@ -1,12 +1,20 @@
 //! Texts between quotes.
 
-ghost use Rattle.std.specs.Prelude.{IsTrue};
-ghost use Rattle.sj_text_core.specs.Print.{escaped, quoted};
-ghost use Rattle.sj_text_core.specs.Runs.{is_stop};
+ghost use Rattle.std.specs.Prelude.{◌≡◌, ◌<◌, IsTrue};
+ghost use Rattle.sj_text_core.specs.Print.{hex_digit, escaped, quoted};
+ghost use Rattle.sj_print.specs.Runs.{is_stop};
 ghost use Rattle.sj_print.specs.Outputs.{Appends};
 
 use super::Output;
-use sj_text_core::{hex_digit, plain_end};
+use super::plain::plain_end;
+
+/// The digit, in lower case.
+fn hex_digit(n: u8) -> u8
+    requires { n < 16 }
+    ensures { result ≡ hex_digit n }
+{
+    if n < 10 { b'0' + n } else { b'a' - 10 + n }
+}
 
 /// Appends the escape of a quote, a backslash or a control byte.
 fn put_escape<O: Output>(out: &mut O, byte: u8)

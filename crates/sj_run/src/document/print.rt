@@ -6,7 +6,7 @@ ghost use Rattle.sj_text_core.specs.Tree.{list, obj};
 ghost use Rattle.sj_run.specs.Document.{document_tree, items_tree, members_tree, IsBegunBy};
 
 use super::Document;
-use sj_text_core::{BaseGenerator, DumpGenerator, WriterGenerator};
+use sj_print::{BaseGenerator, DumpGenerator, WriterGenerator};
 use std::alloc::{AllocError, Global};
 
 #[cycle(print)]

@@ -1,7 +1,7 @@
 //! Whole numbers.
 
 ghost use Rattle.std.specs.Prelude.{◌≡◌, ◌≢◌, ◌+◌, ◌-◌, ◌<◌, ◌≤◌, ◌%◌, ◌^◌, ℕ, Some, None, length, get_or, drop, IfOk, IfErr, OnErr, MatchOption, option_map, EachIndex, slice_index, slice_range};
-ghost use Rattle.sj_tape.specs.Parse as parse;
+ghost use Rattle.sj_text_core.specs.Parse as parse;
 ghost use Rattle.sj_text_core.specs.Grammar.{value_of, number_of};
 ghost use Rattle.sj_text_core.specs.Scalars.{static_tree};
 
@@ -137,7 +137,7 @@ pub(crate) fn number(bytes: &[u8]) -> Result<(StaticNode, usize), ErrorKind>
     numeral(bytes, usize::from(is_negative), is_negative)
 }
 
-#[tactic(auto, using(crate::proofs::Numbers::numeral_is))]
+#[tactic(auto, using(sj_text_core::proofs::parse::Numbers::numeral_is))]
 /// The digits that stand at `at`, and the place after them.
 #[inline(always)]
 fn numeral(bytes: &[u8], at: usize, is_negative: bool) -> Result<(StaticNode, usize), ErrorKind>

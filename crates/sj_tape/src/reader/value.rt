@@ -5,7 +5,7 @@ ghost use Rattle.std.specs.Prelude.{◌≡◌, ◌≢◌, ◌<◌, ◌≤◌, So
 ghost use Rattle.sj_text_core.specs.Scalars.{static_tree};
 ghost use Rattle.sj_tape.specs.Gives.{EndsUtf8, Gives, GivesItems, GivesMember, GivesMembers, Scans};
 ghost use Rattle.sj_tape.specs.Marks.{marks};
-ghost use Rattle.sj_tape.specs.Parse as parse;
+ghost use Rattle.sj_text_core.specs.Parse as parse;
 
 use crate::node::Node;
 use crate::reader::blank::{byte_at, skip};

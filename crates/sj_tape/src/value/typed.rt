@@ -1,49 +1,285 @@
-//! Typed reads of parts of a tape.
+//! Typed reads of members.
+
+ghost use Rattle.std.specs.Prelude.{◌≡◌, option_map, IfOk, IfSome};
+ghost use Rattle.std.specs.Result.{result_map_both};
+ghost use Rattle.sj_text_core.specs.Reads.{as_boolean, as_signed, as_unsigned, as_text, as_items, as_members, kind_of, read_as, member_as, try_member_as};
+ghost use Rattle.sj_tape.specs.Items.{items, array_choice};
+ghost use Rattle.sj_tape.specs.Members.{members, object_choice};
+ghost use Rattle.sj_tape.specs.Value.{tree, choice, found};
 
 use super::Value;
-use crate::node::Node;
-use sj_text_core::{Meaning, StaticNode, TypedValue, ValueAsScalar, ValueType};
+use crate::array::Array;
+use crate::object::Object;
+use sj_text_core::{ExtendedValueType, TryTypeError, ValueAsScalar, ValueType};
 
-impl<'t, 'i> Meaning for Value<'t, 'i> {
-    ghost use Rattle.sj_tape.specs.Value.{tree as tree_of_value};
-
-    ghost tree = { tree_of_value };
-}
-
-impl<'t, 'i> TypedValue for Value<'t, 'i> {
-    fn value_type(&self) -> ValueType {
-        match self.nodes[0] {
-            Node::Static(scalar) => scalar.value_type(),
-            Node::String(_) => ValueType::String,
-            Node::Array { .. } => ValueType::Array,
-            Node::Object { .. } => ValueType::Object,
-        }
-    }
-}
-
-impl<'t, 'i> ValueAsScalar for Value<'t, 'i> {
-    fn as_bool(&self) -> Option<bool> {
-        match self.nodes[0] {
-            Node::Static(StaticNode::Bool(truth)) => Some(truth),
-            _ => None,
-        }
+/// Reads of the member with a key that counts, by `get` and the reads of its value. `get_T` is None
+/// where there is no such member, where its value is no `T`, and on a non-object. `try_get_T` is a
+/// fault on a non-object (an object was expected) and where the value is no `T` (a `T` was
+/// expected), and `Ok(None)` where there is no such member.
+impl<'t, 'i> Value<'t, 'i> {
+    /// The truth value of the member with that key.
+    pub fn get_bool(&self, key: &str) -> Option<bool>
+        ensures { result ≡ member_as as_boolean (found self.now key.now) }
+    {
+        self.get(key)?.as_bool()
     }
 
-    fn as_str(&self) -> Option<&str> {
-        self.into_string()
-    }
-
-    fn as_i128(&self) -> Option<i128> {
-        match self.nodes[0] {
-            Node::Static(scalar) => scalar.as_i128(),
-            _ => None,
+    /// As `get_bool`, with faults.
+    pub fn try_get_bool(&self, key: &str) -> Result<Option<bool>, TryTypeError>
+        ensures { result ≡ try_member_as as_boolean ValueType.Bool (tree self.now) (found self.now key.now) }
+    {
+        match self.try_get(key)? {
+            Some(value) => Ok(Some(value.try_as_bool()?)),
+            None => Ok(None),
         }
     }
 
-    fn as_u128(&self) -> Option<u128> {
-        match self.nodes[0] {
-            Node::Static(scalar) => scalar.as_u128(),
-            _ => None,
+    /// The number of the member with that key.
+    pub fn get_i8(&self, key: &str) -> Option<i8>
+        ensures { result ≡ member_as (as_signed 8) (found self.now key.now) }
+    {
+        self.get(key)?.as_i8()
+    }
+
+    /// As `get_i8`, with faults.
+    pub fn try_get_i8(&self, key: &str) -> Result<Option<i8>, TryTypeError>
+        ensures { result ≡ try_member_as (as_signed 8) (ValueType.Extended ExtendedValueType.I8) (tree self.now) (found self.now key.now) }
+    {
+        match self.try_get(key)? {
+            Some(value) => Ok(Some(value.try_as_i8()?)),
+            None => Ok(None),
         }
+    }
+
+    /// The number of the member with that key.
+    pub fn get_i16(&self, key: &str) -> Option<i16>
+        ensures { result ≡ member_as (as_signed 16) (found self.now key.now) }
+    {
+        self.get(key)?.as_i16()
+    }
+
+    /// As `get_i16`, with faults.
+    pub fn try_get_i16(&self, key: &str) -> Result<Option<i16>, TryTypeError>
+        ensures { result ≡ try_member_as (as_signed 16) (ValueType.Extended ExtendedValueType.I16) (tree self.now) (found self.now key.now) }
+    {
+        match self.try_get(key)? {
+            Some(value) => Ok(Some(value.try_as_i16()?)),
+            None => Ok(None),
+        }
+    }
+
+    /// The number of the member with that key.
+    pub fn get_i32(&self, key: &str) -> Option<i32>
+        ensures { result ≡ member_as (as_signed 32) (found self.now key.now) }
+    {
+        self.get(key)?.as_i32()
+    }
+
+    /// As `get_i32`, with faults.
+    pub fn try_get_i32(&self, key: &str) -> Result<Option<i32>, TryTypeError>
+        ensures { result ≡ try_member_as (as_signed 32) (ValueType.Extended ExtendedValueType.I32) (tree self.now) (found self.now key.now) }
+    {
+        match self.try_get(key)? {
+            Some(value) => Ok(Some(value.try_as_i32()?)),
+            None => Ok(None),
+        }
+    }
+
+    /// The number of the member with that key.
+    pub fn get_i64(&self, key: &str) -> Option<i64>
+        ensures { result ≡ member_as (as_signed 64) (found self.now key.now) }
+    {
+        self.get(key)?.as_i64()
+    }
+
+    /// As `get_i64`, with faults.
+    pub fn try_get_i64(&self, key: &str) -> Result<Option<i64>, TryTypeError>
+        ensures { result ≡ try_member_as (as_signed 64) ValueType.I64 (tree self.now) (found self.now key.now) }
+    {
+        match self.try_get(key)? {
+            Some(value) => Ok(Some(value.try_as_i64()?)),
+            None => Ok(None),
+        }
+    }
+
+    /// The number of the member with that key.
+    pub fn get_i128(&self, key: &str) -> Option<i128>
+        ensures { result ≡ member_as (as_signed 128) (found self.now key.now) }
+    {
+        self.get(key)?.as_i128()
+    }
+
+    /// As `get_i128`, with faults.
+    pub fn try_get_i128(&self, key: &str) -> Result<Option<i128>, TryTypeError>
+        ensures { result ≡ try_member_as (as_signed 128) ValueType.I128 (tree self.now) (found self.now key.now) }
+    {
+        match self.try_get(key)? {
+            Some(value) => Ok(Some(value.try_as_i128()?)),
+            None => Ok(None),
+        }
+    }
+
+    /// The number of the member with that key.
+    pub fn get_u8(&self, key: &str) -> Option<u8>
+        ensures { result ≡ member_as (as_unsigned 8) (found self.now key.now) }
+    {
+        self.get(key)?.as_u8()
+    }
+
+    /// As `get_u8`, with faults.
+    pub fn try_get_u8(&self, key: &str) -> Result<Option<u8>, TryTypeError>
+        ensures { result ≡ try_member_as (as_unsigned 8) (ValueType.Extended ExtendedValueType.U8) (tree self.now) (found self.now key.now) }
+    {
+        match self.try_get(key)? {
+            Some(value) => Ok(Some(value.try_as_u8()?)),
+            None => Ok(None),
+        }
+    }
+
+    /// The number of the member with that key.
+    pub fn get_u16(&self, key: &str) -> Option<u16>
+        ensures { result ≡ member_as (as_unsigned 16) (found self.now key.now) }
+    {
+        self.get(key)?.as_u16()
+    }
+
+    /// As `get_u16`, with faults.
+    pub fn try_get_u16(&self, key: &str) -> Result<Option<u16>, TryTypeError>
+        ensures { result ≡ try_member_as (as_unsigned 16) (ValueType.Extended ExtendedValueType.U16) (tree self.now) (found self.now key.now) }
+    {
+        match self.try_get(key)? {
+            Some(value) => Ok(Some(value.try_as_u16()?)),
+            None => Ok(None),
+        }
+    }
+
+    /// The number of the member with that key.
+    pub fn get_u32(&self, key: &str) -> Option<u32>
+        ensures { result ≡ member_as (as_unsigned 32) (found self.now key.now) }
+    {
+        self.get(key)?.as_u32()
+    }
+
+    /// As `get_u32`, with faults.
+    pub fn try_get_u32(&self, key: &str) -> Result<Option<u32>, TryTypeError>
+        ensures { result ≡ try_member_as (as_unsigned 32) (ValueType.Extended ExtendedValueType.U32) (tree self.now) (found self.now key.now) }
+    {
+        match self.try_get(key)? {
+            Some(value) => Ok(Some(value.try_as_u32()?)),
+            None => Ok(None),
+        }
+    }
+
+    /// The number of the member with that key.
+    pub fn get_u64(&self, key: &str) -> Option<u64>
+        ensures { result ≡ member_as (as_unsigned 64) (found self.now key.now) }
+    {
+        self.get(key)?.as_u64()
+    }
+
+    /// As `get_u64`, with faults.
+    pub fn try_get_u64(&self, key: &str) -> Result<Option<u64>, TryTypeError>
+        ensures { result ≡ try_member_as (as_unsigned 64) ValueType.U64 (tree self.now) (found self.now key.now) }
+    {
+        match self.try_get(key)? {
+            Some(value) => Ok(Some(value.try_as_u64()?)),
+            None => Ok(None),
+        }
+    }
+
+    /// The number of the member with that key.
+    pub fn get_u128(&self, key: &str) -> Option<u128>
+        ensures { result ≡ member_as (as_unsigned 128) (found self.now key.now) }
+    {
+        self.get(key)?.as_u128()
+    }
+
+    /// As `get_u128`, with faults.
+    pub fn try_get_u128(&self, key: &str) -> Result<Option<u128>, TryTypeError>
+        ensures { result ≡ try_member_as (as_unsigned 128) ValueType.U128 (tree self.now) (found self.now key.now) }
+    {
+        match self.try_get(key)? {
+            Some(value) => Ok(Some(value.try_as_u128()?)),
+            None => Ok(None),
+        }
+    }
+
+    /// The number of the member with that key.
+    pub fn get_usize(&self, key: &str) -> Option<usize>
+        ensures { result ≡ member_as (as_unsigned 64) (found self.now key.now) }
+    {
+        self.get(key)?.as_usize()
+    }
+
+    /// As `get_usize`, with faults.
+    pub fn try_get_usize(&self, key: &str) -> Result<Option<usize>, TryTypeError>
+        ensures { result ≡ try_member_as (as_unsigned 64) (ValueType.Extended ExtendedValueType.Usize) (tree self.now) (found self.now key.now) }
+    {
+        match self.try_get(key)? {
+            Some(value) => Ok(Some(value.try_as_usize()?)),
+            None => Ok(None),
+        }
+    }
+
+    /// The text of the member with that key, for as long as the input lives.
+    pub fn get_str(&self, key: &str) -> Option<&'i str>
+        ensures { option_map (λ s. s.now) result ≡ member_as as_text (found self.now key.now) }
+    {
+        self.get(key)?.into_string()
+    }
+
+    /// As `get_str`, with faults.
+    pub fn try_get_str(&self, key: &str) -> Result<Option<&'i str>, TryTypeError>
+        ensures { result_map_both (option_map (λ s. s.now)) (λ e. e) result ≡ try_member_as as_text ValueType.String (tree self.now) (found self.now key.now) }
+    {
+        match self.try_get(key)? {
+            Some(value) => Ok(Some(value.try_into_string()?)),
+            None => Ok(None),
+        }
+    }
+
+    /// The items of the member with that key.
+    pub fn get_array(&self, key: &str) -> Option<Array<'t, 'i>>
+        ensures items { option_map items result ≡ member_as as_items (found self.now key.now) }
+        ensures choice { IfSome result (λ a. array_choice a ≡ choice self.now) }
+    {
+        self.get(key)?.as_array()
+    }
+
+    /// As `get_array`, with faults.
+    pub fn try_get_array(&self, key: &str) -> Result<Option<Array<'t, 'i>>, TryTypeError>
+        ensures items { result_map_both (option_map items) (λ e. e) result ≡ try_member_as as_items ValueType.Array (tree self.now) (found self.now key.now) }
+        ensures choice { IfOk result (λ found. IfSome found (λ a. array_choice a ≡ choice self.now)) }
+    {
+        match self.try_get(key)? {
+            Some(value) => Ok(Some(value.try_as_array()?)),
+            None => Ok(None),
+        }
+    }
+
+    /// The members of the member with that key.
+    pub fn get_object(&self, key: &str) -> Option<Object<'t, 'i>>
+        ensures members { option_map members result ≡ member_as as_members (found self.now key.now) }
+        ensures choice { IfSome result (λ o. object_choice o ≡ choice self.now) }
+    {
+        self.get(key)?.as_object()
+    }
+
+    /// As `get_object`, with faults.
+    pub fn try_get_object(&self, key: &str) -> Result<Option<Object<'t, 'i>>, TryTypeError>
+        ensures members { result_map_both (option_map members) (λ e. e) result ≡ try_member_as as_members ValueType.Object (tree self.now) (found self.now key.now) }
+        ensures choice { IfOk result (λ found. IfSome found (λ o. object_choice o ≡ choice self.now)) }
+    {
+        match self.try_get(key)? {
+            Some(value) => Ok(Some(value.try_as_object()?)),
+            None => Ok(None),
+        }
+    }
+
+    /// As `into_string`; of another part, that a text was expected and which kind it is.
+    fn try_into_string(self) -> Result<&'i str, TryTypeError>
+        ensures { result_map_both (λ s. s.now) (λ e. e) result ≡ read_as (as_text (tree self.entry)) ValueType.String (kind_of (tree self.entry)) }
+    {
+        self.into_string().ok_or(self.fault(ValueType::String))
     }
 }

@@ -1,11 +1,10 @@
--- Kinds, parts and layouts of small trees.
-use Rattle.std.proofs.Common.{◌≡◌, ℕ, pos, negsuc, false, [], ◌∷◌, refl, codes, Some, None, Err, arith}
+-- Kinds and parts of small trees.
+use Rattle.std.proofs.Common.{◌≡◌, ℕ, pos, negsuc, false, [], refl, codes, Some, None, Err}
 use Rattle.sj_text_core.specs.Tree.{u64, i128, null, boolean, int, text, list, obj, no_items, item, no_members, member}
 use Rattle.sj_text_core.specs.Reads.{kind_of, as_boolean, as_text, as_items, as_members, read_as}
 use Rattle.sj_text_core.specs.Nulls.{as_nothing}
 use Rattle.sj_text_core.specs.Scalars.{static_tree}
 use Rattle.sj_text_core.specs.ScalarValues.{scalar_value}
-use Rattle.sj_text_core.specs.Generators.{chosen, line, CanIndent}
 use Rattle.sj_text_core.specs.declared.value_type.ValueType.TheVariants as kind
 use Rattle.sj_text_core.specs.declared.static_node.StaticNode.TheVariants as static
 
@@ -57,22 +56,3 @@ static_tree-i128 = refl
 -- one value in two carriers
 scalar_value-carriers : scalar_value (static.I64 (pos 5)) ≡ scalar_value (static.U128 5)
 scalar_value-carriers = refl
-
-chosen-compact : chosen None (codes ": ") (codes ":") ≡ codes ":"
-chosen-compact = refl
-
-chosen-pretty : chosen (Some 2) (codes ": ") (codes ":") ≡ codes ": "
-chosen-pretty = refl
-
-line-compact : line None 3 ≡ []
-line-compact = refl
-
-line-pretty : line (Some 2) 2 ≡ 10 ∷ 32 ∷ 32 ∷ 32 ∷ 32 ∷ []
-line-pretty = refl
-
--- the last level that can be counted, and the one past it
-can_indent-last : CanIndent None 18446744073709551614
-can_indent-last = omega arith
-
-not_can_indent-past : CanIndent None 18446744073709551615 → ⊥
-not_can_indent-past h = absurd (omega (arith, h))

@@ -1,5 +1,7 @@
 -- `HashMap` as a type that may hold the type that holds it, by its values.
-use Rattle.std.specs.Prelude.{◌≡◌, ℕ, true, List, [], ◌∷◌, map, None}
+use Rattle.std.specs.Prelude.{◌≡◌, ℕ, true, List, [], ◌∷◌, map, length, Option, None}
+use Rattle.std.proofs.Common.{arith}
+use Rattle.std.proofs.lemmas.List.{length-map}
 use mathlib.Core.Path.{PathP, refl, sym, ap, ◌∙◌, subst}
 use mathlib.Core.HLevel.{is_prop→PathP}
 use mathlib.Core.Former.{Former, Count, Row, over, one_more, this, const, pair, list, children}
@@ -25,7 +27,7 @@ use Rattle.sj_object.specs.declared.hasher.KeyHasher as hasher
 use Rattle.sj_object.specs.Texts.{no_repeats}
 use Rattle.sj_object.specs.Entries.{Entry, texts, entries_of}
 use Rattle.sj_object.specs.HashMap.{Contents, same_contents}
-use Rattle.sj_object.specs.Index.{IsIndexOf, IsIndexOf-prop}
+use Rattle.sj_object.specs.Index.{HasRoom, HasRoom-prop, IsIndexOf, IsIndexOf-prop, buckets_of}
 use Rattle.sj_object.specs.declared.map.HashMap.TheInside.{Inside}
 use Rattle.sj_object.specs.declared.map.HashMap.TheView.{view, invariant}
 use Rattle.sj_object.specs.contracts.map.HashMap as C
@@ -43,43 +45,57 @@ pub texts-map : {K X Y : Type 0} (h : X → Y) (es : List (Entry K X)) → texts
 texts-map h [] = refl
 texts-map h (e ∷ es) = ap (λ l. e.0.1 ∷ l) (texts-map h es)
 
-abbrev Fits : {K X : Type 0} → List (Entry K X) → Type 0
-Fits es = no_repeats (texts es) ≡ true
+-- what entries have to be for so many buckets
+abbrev pub Fits : {K X : Type 0} → Option ℕ → List (Entry K X) → Type 0
+Fits o es = (no_repeats (texts es) ≡ true) × HasRoom (length es) o
+
+pub Fits-prop : {K X : Type 0} (o : Option ℕ) (es : List (Entry K X)) → IsProp (Fits o es)
+Fits-prop o es p q = λ i. (Coded-set coded_bool _ _ p.0 q.0 i, HasRoom-prop (length es) o p.1 q.1 i)
+
+pub Fits-map : {K X Y : Type 0} (o : Option ℕ) (h : X → Y) (es : List (Entry K X)) → Fits o es → Fits o (map (on_value h) es)
+Fits-map o h es p = (ap no_repeats (texts-map h es) ∙ p.0, subst (λ n. HasRoom n o) (sym (length-map es (on_value h))) p.1)
+
+-- entries that are the same once seen through h
+pub Fits-seen : {K X Y : Type 0} (o : Option ℕ) (h : X → Y) (es : List (Entry K X)) (fs : List (Entry K Y)) → map (on_value h) es ≡ fs → Fits o fs → Fits o es
+Fits-seen o h es fs e p = (ap no_repeats (sym (texts-map h es) ∙ ap texts e) ∙ p.0, subst (λ n. HasRoom n o) (sym (ap length e) ∙ length-map es (on_value h)) p.1)
 
 module _ {K S : Type 0} where
   module _ {X Y : Type 0} (m : Contents K X S) where
-    abbrev pub holding : (es : List (Entry K Y)) → Fits es → Contents K Y S
-    holding es ok = record { entries = es; hasher = m.hasher; buckets = m.buckets; distinct = ok }
+    abbrev pub holding : (es : List (Entry K Y)) → Fits m.buckets es → Contents K Y S
+    holding es ok = record { entries = es; hasher = m.hasher; buckets = m.buckets; distinct = ok.0; room = ok.1 }
 
-    pub Fits-along : (es fs : List (Entry K Y)) (e : es ≡ fs) (p : Fits es) (q : Fits fs) → PathP (λ i. Fits (e i)) p q
-    Fits-along es fs e = is_prop→PathP (λ i. Fits (e i)) (λ i. Coded-set coded_bool _ _)
+    pub Fits-along : (es fs : List (Entry K Y)) (e : es ≡ fs) (p : Fits m.buckets es) (q : Fits m.buckets fs) → PathP (λ i. Fits m.buckets (e i)) p q
+    Fits-along es fs e = is_prop→PathP (λ i. Fits m.buckets (e i)) (λ i. Fits-prop m.buckets (e i))
 
-    abbrev pub holding_along : (es fs : List (Entry K Y)) (e : es ≡ fs) (p : Fits es) (q : Fits fs) → holding es p ≡ holding fs q
+    abbrev pub holding_along : (es fs : List (Entry K Y)) (e : es ≡ fs) (p : Fits m.buckets es) (q : Fits m.buckets fs) → holding es p ≡ holding fs q
     holding_along es fs e p q = λ i. holding (e i) (Fits-along es fs e p q i)
 
   abbrev pub mapped : {X Y : Type 0} → (X → Y) → Contents K X S → Contents K Y S
-  mapped h m = holding m (map (on_value h) m.entries) (ap no_repeats (texts-map h m.entries) ∙ m.distinct)
+  mapped h m = holding m (map (on_value h) m.entries) (Fits-map m.buckets h m.entries (m.distinct, m.room))
+
+abbrev pub fitting : {K X S : Type 0} (m : Contents K X S) → Fits m.buckets m.entries
+fitting m = (m.distinct, m.room)
 
 module _ (g : Former {0}) (K S : Type 0) where
   abbrev entries : Former {0}
   entries = list (entry g (K × List ℕ))
 
-  pub texts_got : (X : Type 0) (a : Contents K g.Shape S) (n : Count) (v : Row X (entries.count a.entries n)) → texts (entries.get X a.entries n v).0 ≡ texts a.entries
-  texts_got X a n v = sym (texts-map (g.shape X) (entries.get X a.entries n v).0) ∙ (λ i. texts (entries.put-get X a.entries n v i).0)
+  pub fits_got : (X : Type 0) (a : Contents K g.Shape S) (n : Count) (v : Row X (entries.count a.entries n)) → Fits a.buckets (entries.get X a.entries n v).0
+  fits_got X a n v = Fits-seen a.buckets (g.shape X) (entries.get X a.entries n v).0 a.entries (λ i. (entries.put-get X a.entries n v i).0) (a.distinct, a.room)
 
   abbrev pub got : (X : Type 0) (a : Contents K g.Shape S) (n : Count) → Row X (entries.count a.entries n) → Contents K (g.Of X) S × Row X n
-  got X a n v = let r : List (Entry K (g.Of X)) × Row X n = entries.get X a.entries n v in (holding a r.0 (ap no_repeats (texts_got X a n v) ∙ a.distinct), r.1)
+  got X a n v = let r : List (Entry K (g.Of X)) × Row X n = entries.get X a.entries n v in (holding a r.0 (fits_got X a n v), r.1)
 
   pub got-put : (X : Type 0) (m : Contents K (g.Of X) S) (n : Count) (t : Row X n) → got X (mapped (g.shape X) m) n (entries.put X m.entries n t) ≡ (m, t)
-  got-put X m n t = λ i. (holding_along m _ _ (λ j. (entries.get-put X m.entries n t j).0) (got X (mapped (g.shape X) m) n (entries.put X m.entries n t)).0.distinct m.distinct i, (entries.get-put X m.entries n t i).1)
+  got-put X m n t = λ i. (holding_along m _ _ (λ j. (entries.get-put X m.entries n t j).0) (fitting (got X (mapped (g.shape X) m) n (entries.put X m.entries n t)).0) (fitting m) i, (entries.get-put X m.entries n t i).1)
 
   pub put-got : (X : Type 0) (a : Contents K g.Shape S) (n : Count) (v : Row X (entries.count a.entries n))
       → ◌≡◌ {A = (b : Contents K g.Shape S) × Row X (entries.count b.entries n)} (mapped (g.shape X) (got X a n v).0, entries.put X (got X a n v).0.entries n (got X a n v).1) (a, v)
-  put-got X a n v = λ i. (holding_along a _ _ (λ j. (entries.put-get X a.entries n v j).0) (mapped (g.shape X) (got X a n v).0).distinct a.distinct i, (entries.put-get X a.entries n v i).1)
+  put-got X a n v = λ i. (holding_along a _ _ (λ j. (entries.put-get X a.entries n v j).0) (fitting (mapped (g.shape X) (got X a n v).0)) (fitting a) i, (entries.put-get X a.entries n v i).1)
 
   pub got-map : (X Y : Type 0) (h : X → Y) (a : Contents K g.Shape S) (n : Count) (v : Row X (entries.count a.entries n))
       → got Y a n (over h (entries.count a.entries n) v) ≡ (mapped (g.map X Y h) (got X a n v).0, over h n (got X a n v).1)
-  got-map X Y h a n v = λ i. (holding_along a _ _ (λ j. (entries.get-map X Y h a.entries n v j).0) (got Y a n (over h (entries.count a.entries n) v)).0.distinct (mapped (g.map X Y h) (got X a n v).0).distinct i, (entries.get-map X Y h a.entries n v i).1)
+  got-map X Y h a n v = λ i. (holding_along a _ _ (λ j. (entries.get-map X Y h a.entries n v j).0) (fitting (got Y a n (over h (entries.count a.entries n) v)).0) (fitting (mapped (g.map X Y h) (got X a n v).0)) i, (entries.get-map X Y h a.entries n v i).1)
 
   abbrev pub the_former : Former {0}
   the_former = record {
@@ -101,7 +117,7 @@ the_weighed w K S =
     record { weight = λ X μ m. v.weight X μ m.entries; puts = λ X μ m. v.puts X μ m.entries }
 
 pub the_empty : (K S : Type 0) → K → S → Contents K ⊥ S
-the_empty K S k s = record { entries = []; hasher = s; buckets = None; distinct = refl }
+the_empty K S k s = record { entries = []; hasher = s; buckets = None; distinct = refl; room = omega arith }
 
 abbrev pub the_items : (K S X : Type 0) → Contents K X S → List X
 the_items K S X m = map (λ p. p.1) m.entries
@@ -131,45 +147,50 @@ module _ (K S : Type 0) (G : text.Ghosts K) (E : eq.Ghosts K) (H : hasher.Ghosts
   abbrev In : Type 0 → Type 0
   In X = Inside K X S G E H
 
-  abbrev Sound : {X : Type 0} → List (K × X) → Type 0
-  Sound ps = no_repeats (texts (entries_of G.text_of ps)) ≡ true
+  abbrev Sound : {X : Type 0} → Option ℕ → List (K × X) → Type 0
+  Sound o ps = Fits o (entries_of G.text_of ps)
 
-  texts_of-map : {X Y : Type 0} (h : X → Y) (ps : List (K × X)) → texts (entries_of G.text_of (map (on_value h) ps)) ≡ texts (entries_of G.text_of ps)
-  texts_of-map h ps = ap texts (entries_of-map G.text_of h ps) ∙ texts-map h (entries_of G.text_of ps)
+  abbrev sound : {X : Type 0} (m : In X) → Sound (buckets_of m.index) m.pairs.items
+  sound m = (m.distinct, m.room)
+
+  Sound-map : {X Y : Type 0} (o : Option ℕ) (h : X → Y) (ps : List (K × X)) → Sound o ps → Sound o (map (on_value h) ps)
+  Sound-map o h ps p = subst (Fits o) (sym (entries_of-map G.text_of h ps)) (Fits-map o h (entries_of G.text_of ps) p)
+
+  Sound-seen : {X Y : Type 0} (o : Option ℕ) (h : X → Y) (ps : List (K × X)) (qs : List (K × Y)) → map (on_value h) ps ≡ qs → Sound o qs → Sound o ps
+  Sound-seen o h ps qs e p = Fits-seen o h (entries_of G.text_of ps) (entries_of G.text_of qs) (sym (entries_of-map G.text_of h ps) ∙ ap (entries_of G.text_of) e) p
 
   module _ {X Y : Type 0} (m : In X) where
-    abbrev with_pairs : (ps : Vec (K × Y) Global) → Sound ps.items → In Y
-    with_pairs ps ok = record { pairs = ps; hasher = m.hasher; index = m.index; distinct = ok }
+    abbrev with_pairs : (ps : Vec (K × Y) Global) → Sound (buckets_of m.index) ps.items → In Y
+    with_pairs ps ok = record { pairs = ps; hasher = m.hasher; index = m.index; distinct = ok.0; room = ok.1 }
 
-    Sound-along : (ps qs : Vec (K × Y) Global) (e : ps ≡ qs) (p : Sound ps.items) (q : Sound qs.items) → PathP (λ i. Sound (e i).items) p q
-    Sound-along ps qs e = is_prop→PathP (λ i. Sound (e i).items) (λ i. Coded-set coded_bool _ _)
+    Sound-along : (ps qs : Vec (K × Y) Global) (e : ps ≡ qs) (p : Sound (buckets_of m.index) ps.items) (q : Sound (buckets_of m.index) qs.items) → PathP (λ i. Sound (buckets_of m.index) (e i).items) p q
+    Sound-along ps qs e = is_prop→PathP (λ i. Sound (buckets_of m.index) (e i).items) (λ i. Fits-prop (buckets_of m.index) (entries_of G.text_of (e i).items))
 
-    abbrev with_pairs_along : (ps qs : Vec (K × Y) Global) (e : ps ≡ qs) (p : Sound ps.items) (q : Sound qs.items) → with_pairs ps p ≡ with_pairs qs q
+    abbrev with_pairs_along : (ps qs : Vec (K × Y) Global) (e : ps ≡ qs) (p : Sound (buckets_of m.index) ps.items) (q : Sound (buckets_of m.index) qs.items) → with_pairs ps p ≡ with_pairs qs q
     with_pairs_along ps qs e p q = λ i. with_pairs (e i) (Sound-along ps qs e p q i)
 
   abbrev fields_mapped : {X Y : Type 0} → (X → Y) → In X → In Y
-  fields_mapped h m = with_pairs m (vec.mapped (on_value h) m.pairs) (ap no_repeats (texts_of-map h m.pairs.items) ∙ m.distinct)
+  fields_mapped h m = with_pairs m (vec.mapped (on_value h) m.pairs) (Sound-map (buckets_of m.index) h m.pairs.items (sound m))
 
   abbrev pairs : Former {0}
   pairs = vec.the_former (entry this K) Global
 
-  texts_of_got : (X : Type 0) (a : In (Unit {0})) (n : Count) (v : Row X (pairs.count a.pairs n))
-      → texts (entries_of G.text_of (pairs.get X a.pairs n v).0.items) ≡ texts (entries_of G.text_of a.pairs.items)
-  texts_of_got X a n v = sym (texts_of-map (λ x. tt) (pairs.get X a.pairs n v).0.items) ∙ (λ i. texts (entries_of G.text_of (pairs.put-get X a.pairs n v i).0.items))
+  sound_got : (X : Type 0) (a : In (Unit {0})) (n : Count) (v : Row X (pairs.count a.pairs n)) → Sound (buckets_of a.index) (pairs.get X a.pairs n v).0.items
+  sound_got X a n v = Sound-seen (buckets_of a.index) (λ x. tt) (pairs.get X a.pairs n v).0.items a.pairs.items (λ i. (pairs.put-get X a.pairs n v i).0.items) (sound a)
 
   abbrev fields_got : (X : Type 0) (a : In (Unit {0})) (n : Count) → Row X (pairs.count a.pairs n) → In X × Row X n
-  fields_got X a n v = let r : Vec (K × X) Global × Row X n = pairs.get X a.pairs n v in (with_pairs a r.0 (ap no_repeats (texts_of_got X a n v) ∙ a.distinct), r.1)
+  fields_got X a n v = let r : Vec (K × X) Global × Row X n = pairs.get X a.pairs n v in (with_pairs a r.0 (sound_got X a n v), r.1)
 
   fields_got-put : (X : Type 0) (m : In X) (n : Count) (t : Row X n) → fields_got X (fields_mapped (λ x. tt) m) n (pairs.put X m.pairs n t) ≡ (m, t)
-  fields_got-put X m n t = λ i. (with_pairs_along m _ _ (λ j. (pairs.get-put X m.pairs n t j).0) (fields_got X (fields_mapped (λ x. tt) m) n (pairs.put X m.pairs n t)).0.distinct m.distinct i, (pairs.get-put X m.pairs n t i).1)
+  fields_got-put X m n t = λ i. (with_pairs_along m _ _ (λ j. (pairs.get-put X m.pairs n t j).0) (sound (fields_got X (fields_mapped (λ x. tt) m) n (pairs.put X m.pairs n t)).0) (sound m) i, (pairs.get-put X m.pairs n t i).1)
 
   fields_put-got : (X : Type 0) (a : In (Unit {0})) (n : Count) (v : Row X (pairs.count a.pairs n))
       → ◌≡◌ {A = (b : In (Unit {0})) × Row X (pairs.count b.pairs n)} (fields_mapped (λ x. tt) (fields_got X a n v).0, pairs.put X (fields_got X a n v).0.pairs n (fields_got X a n v).1) (a, v)
-  fields_put-got X a n v = λ i. (with_pairs_along a _ _ (λ j. (pairs.put-get X a.pairs n v j).0) (fields_mapped (λ x. tt) (fields_got X a n v).0).distinct a.distinct i, (pairs.put-get X a.pairs n v i).1)
+  fields_put-got X a n v = λ i. (with_pairs_along a _ _ (λ j. (pairs.put-get X a.pairs n v j).0) (sound (fields_mapped (λ x. tt) (fields_got X a n v).0)) (sound a) i, (pairs.put-get X a.pairs n v i).1)
 
   fields_got-map : (X Y : Type 0) (h : X → Y) (a : In (Unit {0})) (n : Count) (v : Row X (pairs.count a.pairs n))
       → fields_got Y a n (over h (pairs.count a.pairs n) v) ≡ (fields_mapped h (fields_got X a n v).0, over h n (fields_got X a n v).1)
-  fields_got-map X Y h a n v = λ i. (with_pairs_along a _ _ (λ j. (pairs.get-map X Y h a.pairs n v j).0) (fields_got Y a n (over h (pairs.count a.pairs n) v)).0.distinct (fields_mapped h (fields_got X a n v).0).distinct i, (pairs.get-map X Y h a.pairs n v i).1)
+  fields_got-map X Y h a n v = λ i. (with_pairs_along a _ _ (λ j. (pairs.get-map X Y h a.pairs n v j).0) (sound (fields_got Y a n (over h (pairs.count a.pairs n) v)).0) (sound (fields_mapped h (fields_got X a n v).0)) i, (pairs.get-map X Y h a.pairs n v i).1)
 
   abbrev fields : Former {0}
   fields = record {

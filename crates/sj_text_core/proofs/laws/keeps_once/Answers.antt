@@ -1,5 +1,5 @@
-use Rattle.sj_text_core.proofs.Kept.{keep-keep}
+use Rattle.sj_text_core.proofs.Single.{keep_by-keep_by}
 use Rattle.sj_text_core.proofs.laws.keeps_once.Goals as goal
 
 pub returns : goal.returns
-returns c = λ t. keep-keep t
+returns c = λ r t. keep_by-keep_by r t

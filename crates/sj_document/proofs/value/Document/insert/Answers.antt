@@ -1,4 +1,5 @@
-use Rattle.std.proofs.Common.{◌≡◌, option_map, sym, ap, ◌∙◌, rules, Box, Global}
+use Rattle.std.proofs.Common.{◌≡◌, option_map, sym, subst, ap, ◌∙◌, rules, Box, Global}
+use Rattle.std.specs.Option.{IsSome}
 use Rattle.sj_text_core.specs.Tree.{obj}
 use Rattle.sj_text_core.specs.Find.{find}
 use Rattle.sj_object.specs.Edits.{lookup, put}
@@ -6,7 +7,7 @@ use Rattle.sj_object.specs.Members.{entry_members}
 use Rattle.sj_object.proofs.Shown.{lookup-entry_members, entry_members-put}
 use Rattle.sj_document.specs.Document.{tree, with_member}
 use Rattle.sj_document.specs.declared.value.Document.{Object, the_lemmas}
-use Rattle.sj_document.proofs.Trees.{Map, tree-Object}
+use Rattle.sj_document.proofs.Trees.{Map, tree-Object, some_before}
 use Rattle.sj_document.proofs.value.Document.insert.Goals as goal
 
 pub returns-in-Ok-clause-answer : goal.returns-in-Ok-clause-answer
@@ -25,3 +26,11 @@ returns-in-Ok-clause-after g c =
     ∙ ap (λ es. obj (entry_members (tree t) es)) (c.in-Ok.ensures.entries ∙ ap (λ m. put (c.args.key, k) c.args.value m.entries) (c.deref_mut.ensures.value ∙ ap (λ b. b.value) c.in-Object.members-is))
     ∙ ap obj (entry_members-put (tree t) (c.args.key, k) c.args.value c.in-Object.members.value.entries)
     ∙ sym (ap (with_member k (tree t c.args.value)) (ap (tree t) c.in-Object.is ∙ tree-Object t c.in-Object.members))
+
+pub returns-in-Err-clause-succeeds : goal.returns-in-Err-clause-succeeds
+returns-in-Err-clause-succeeds g c h =
+    let t = g.T.KeyText.text_of in
+    let k = t c.args.key in
+    let there = ap (find k) (ap (tree t) c.in-Object.is ∙ tree-Object t c.in-Object.members) ∙ sym (lookup-entry_members (tree t) k c.in-Object.members.value.entries)
+    ∙ sym (ap (λ m. option_map (tree t) (lookup k m.entries)) (c.deref_mut.ensures.value ∙ ap (λ b. b.value) c.in-Object.members-is)) in
+    c.in-Err.ensures.succeeds (some_before (tree t) _ (subst IsSome there h))

@@ -1,17 +1,23 @@
 use Rattle.std.proofs.Common.{◌≡◌, ◌+◌, ◌++◌, ◌∷◌, [], true, length, sym, ap, ◌∙◌, subst}
+use Rattle.std.proofs.lemmas.List.{length_push}
 use Rattle.sj_text_core.specs.Keep.{is_seen}
 use Rattle.sj_object.specs.Entries.{texts, entries_of}
 use Rattle.sj_object.specs.HashMap.{same_contents}
 use Rattle.sj_object.specs.Index.{IsIndexOf, NeedsHash, buckets_of, buckets_for}
 use Rattle.sj_object.proofs.Repeats.{no_repeats-push}
-use Rattle.sj_object.proofs.Hashed.{hashes, hashes-last, hashes-length, entries-length, IsIndexOf-last}
+use Rattle.sj_object.proofs.Hashed.{hashes, hashes-last, hashes-length, entries-length, IsIndexOf-last, room_of}
 use Rattle.sj_object.proofs.map.HashMap.append.Goals as goal
 
 pub invariant_of-self-inside : goal.invariant_of-self-inside
 invariant_of-self-inside g c =
     let t = g.K.KeyText.text_of in
     let e = c.push_reserved.ensures.items ∙ ap (λ l. l ++ (c.args.key, c.args.value) ∷ []) c.in-Ok.ensures.pairs in
-    (no_repeats-push t c.self.inside.pairs.items c.push_reserved.new.self.items true c.args.key c.args.value c.self.inside.distinct (ap (λ m. is_seen (t c.args.key) (texts m.entries)) c.self.view_is ∙ c.requires.absent) e, tt)
+    let H = g.S.KeyHasher.hash_of c.self.inside.hasher in
+    let ps = c.self.inside.pairs.items in
+    let n = length_push (hashes t H ps) c.args.hash ∙ ap (λ m. m + 1) (hashes-length t H ps) ∙ sym (ap length e ∙ length_push ps (c.args.key, c.args.value)) in (
+      no_repeats-push t c.self.inside.pairs.items c.push_reserved.new.self.items true c.args.key c.args.value c.self.inside.distinct (ap (λ m. is_seen (t c.args.key) (texts m.entries)) c.self.view_is ∙ c.requires.absent) e,
+      (room_of t c.push_reserved.new.self.items _ c.make_room.new.index c.in-Ok.ensures.ok n, tt),
+    )
 
 pub invariant_of-self : goal.invariant_of-self
 invariant_of-self g c =

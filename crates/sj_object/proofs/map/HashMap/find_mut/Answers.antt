@@ -1,9 +1,9 @@
-use Rattle.std.proofs.Common.{sym, ap, ◌∙◌, refl, arith, inr, subst, IsSome}
+use Rattle.std.proofs.Common.{sym, ap, ◌∙◌, refl, length, arith, inr, subst, IsSome}
 use Rattle.sj_object.specs.Texts.{no_repeats}
 use Rattle.sj_object.specs.Entries.{texts, entries_of}
 use Rattle.sj_object.specs.HashMap.{same_contents}
-use Rattle.sj_object.specs.Edits.{lookup, with_value, texts-set_value}
-use Rattle.sj_object.specs.Index.{IsIndexOf, buckets_of}
+use Rattle.sj_object.specs.Edits.{lookup, with_value, texts-set_value, length-set_value}
+use Rattle.sj_object.specs.Index.{IsIndexOf, HasRoom, buckets_of}
 use Rattle.sj_object.proofs.Position.{found, absent}
 use Rattle.sj_object.proofs.Hashed.{hashes, hashes-set, has_buckets}
 use Rattle.sj_object.proofs.Lent.{lent_same}
@@ -19,7 +19,10 @@ invariant_of-self-inside-lent g c w =
     let t = g.K.KeyText.text_of in
     let k = c.args.key.now in
     let f = found t k c.in-Some.is c.position_of.ensures refl c.deref.ensures.value in
-    (ap (λ es. no_repeats (texts es)) (f.set_at _ w c.index_mut-pair.ensures.value) ∙ ap no_repeats (texts-set_value k w (entries_of t c.self.inside.pairs.items)) ∙ c.self.inside.distinct, tt)
+    let m = c.self.inside in (
+      ap (λ es. no_repeats (texts es)) (f.set_at _ w c.index_mut-pair.ensures.value) ∙ ap no_repeats (texts-set_value k w (entries_of t c.self.inside.pairs.items)) ∙ c.self.inside.distinct,
+      (subst (λ n. HasRoom n (buckets_of m.index)) (sym (ap length (f.set_at _ w c.index_mut-pair.ensures.value) ∙ length-set_value k w (entries_of t c.self.inside.pairs.items))) m.room, tt),
+    )
 
 pub returns-in-Some : goal.returns-in-Some
 returns-in-Some g c =

@@ -2,8 +2,8 @@ use Rattle.std.proofs.Common.{◌≡◌, ◌<◌, length, refl, sym, ap, ◌∙�
 use Rattle.sj_object.specs.Texts.{no_repeats}
 use Rattle.sj_object.specs.Entries.{texts, entries_of}
 use Rattle.sj_object.specs.HashMap.{same_contents}
-use Rattle.sj_object.specs.Edits.{value_at, with_value_at, texts-set_value_at}
-use Rattle.sj_object.specs.Index.{IsIndexOf, buckets_of}
+use Rattle.sj_object.specs.Edits.{value_at, with_value_at, texts-set_value_at, length-set_value_at}
+use Rattle.sj_object.specs.Index.{IsIndexOf, HasRoom, buckets_of}
 use Rattle.sj_object.proofs.Position.{entries-set_value_at, value_at-get}
 use Rattle.sj_object.proofs.Hashed.{hashes-set, entries-length}
 use Rattle.sj_object.proofs.map.HashMap.lend.Goals as goal
@@ -12,7 +12,10 @@ pub invariant_of-self-inside-lent : goal.invariant_of-self-inside-lent
 invariant_of-self-inside-lent g c w =
     let t = g.K.KeyText.text_of in
     let i = c.args.position in
-    (ap (λ es. no_repeats (texts es)) (entries-set_value_at t c.self.inside.pairs.items i c.index_mut-pair.result.now w c.index_mut-pair.ensures.value) ∙ ap no_repeats (texts-set_value_at i w (entries_of t c.self.inside.pairs.items)) ∙ c.self.inside.distinct, tt)
+    let m = c.self.inside in (
+      ap (λ es. no_repeats (texts es)) (entries-set_value_at t c.self.inside.pairs.items i c.index_mut-pair.result.now w c.index_mut-pair.ensures.value) ∙ ap no_repeats (texts-set_value_at i w (entries_of t c.self.inside.pairs.items)) ∙ c.self.inside.distinct,
+      (subst (λ n. HasRoom n (buckets_of m.index)) (sym (ap length (entries-set_value_at t c.self.inside.pairs.items i c.index_mut-pair.result.now w c.index_mut-pair.ensures.value) ∙ length-set_value_at i w (entries_of t c.self.inside.pairs.items))) m.room, tt),
+    )
 
 pub invariant_of-self-lent : goal.invariant_of-self-lent
 invariant_of-self-lent g c w =

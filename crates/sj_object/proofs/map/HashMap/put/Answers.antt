@@ -2,9 +2,9 @@ use Rattle.std.proofs.Common.{◌++◌, ◌∷◌, [], Some, slice_set, sym, ap,
 use Rattle.sj_text_core.specs.Keep.{is_seen}
 use Rattle.sj_object.specs.Texts.{no_repeats}
 use Rattle.sj_object.specs.Entries.{texts, entries_of}
-use Rattle.sj_object.specs.Edits.{lookup, put, texts-set_value}
+use Rattle.sj_object.specs.Edits.{lookup, put, texts-set_value, length-set_value}
 use Rattle.sj_object.proofs.Repeats.{entries_of-append}
-use Rattle.sj_object.specs.Index.{IsIndexOf, NeedsHash}
+use Rattle.sj_object.specs.Index.{IsIndexOf, NeedsHash, HasRoom, buckets_of}
 use Rattle.sj_object.proofs.Hashed.{hashes, hashes-set, needs_hash, same_inside}
 use Rattle.sj_object.proofs.Position.{found, absent}
 use Rattle.sj_object.proofs.map.HashMap.put.Goals as goal
@@ -21,7 +21,10 @@ invariant_of-self-inside g c =
     let k = t c.args.key in
     let w = c.replace.new.dest in
     let f = found t k c.in-Some.is c.position_of.ensures c.text.ensures c.deref.ensures.value in
-    (ap (λ es. no_repeats (texts es)) (f.set_at _ w c.index_mut.ensures.value) ∙ ap no_repeats (texts-set_value k w (entries_of t c.self.inside.pairs.items)) ∙ c.self.inside.distinct, tt)
+    let m = c.self.inside in (
+      ap (λ es. no_repeats (texts es)) (f.set_at _ w c.index_mut.ensures.value) ∙ ap no_repeats (texts-set_value k w (entries_of t c.self.inside.pairs.items)) ∙ c.self.inside.distinct,
+      (subst (λ n. HasRoom n (buckets_of m.index)) (sym (ap length (f.set_at _ w c.index_mut.ensures.value) ∙ length-set_value k w (entries_of t c.self.inside.pairs.items))) m.room, tt),
+    )
 
 pub append-requires-clause-absent : goal.append-requires-clause-absent
 append-requires-clause-absent g c =
@@ -75,7 +78,7 @@ position_of-requires-clause-hash g c = λ l.
     ∙ (λ j. g.S.KeyHasher.hash_of (sym c.self.view_is j).hasher (sym c.text.ensures j))
 
 pub same-self : goal.same-self
-same-self g c = same_inside c.self.inside _
+same-self g c = same_inside c.self.inside _ _
 
 pub invariant_of-self : goal.invariant_of-self
 invariant_of-self g c =

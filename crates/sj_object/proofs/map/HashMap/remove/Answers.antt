@@ -1,10 +1,11 @@
-use Rattle.std.proofs.Common.{◌≡◌, ◌<◌, None, sym, ap, ◌∙◌, refl, arith, rules, subst, length}
+use Rattle.std.proofs.Common.{◌≡◌, ◌<◌, ◌≤◌, None, sym, ap, ◌∙◌, refl, arith, rules, subst, length}
 use Rattle.sj_object.specs.Texts.{no_repeats}
 use Rattle.sj_object.specs.Entries.{texts, entries_of}
 use Rattle.sj_object.specs.Edits.{lookup, cut}
-use Rattle.sj_object.specs.Index.{IsIndexOf}
-use Rattle.sj_object.proofs.Hashed.{hashes, hashes-remove, IsIndexOf-remove, buckets_same, same_inside}
+use Rattle.sj_object.specs.Index.{IsIndexOf, HasRoom, buckets_of}
+use Rattle.sj_object.proofs.Hashed.{hashes, hashes-remove, IsIndexOf-remove, buckets_same, same_inside, entries-length, room_fewer}
 use Rattle.std.proofs.lemmas.List.{length-map}
+use Rattle.std.proofs.lemmas.List.Edits.{length-remove}
 use Rattle.sj_object.proofs.Repeats.{no_repeats-cut}
 use Rattle.sj_object.proofs.Position.{found, absent}
 use Rattle.sj_object.proofs.map.HashMap.remove.Goals as goal
@@ -19,7 +20,13 @@ invariant_of-self-inside-2 g c =
     let t = g.K.KeyText.text_of in
     let k = c.args.key.now in
     let f = found t k c.in_ok-i.was c.position_of.ensures refl c.deref.ensures.value in
-    (ap (λ es. no_repeats (texts es)) (ap (entries_of t) c.remove-value.ensures.items ∙ f.cut_at) ∙ no_repeats-cut k (entries_of t c.self.inside.pairs.items) c.self.inside.distinct, tt)
+    let m = c.self.inside in
+    let ps = c.self.inside.pairs.items in
+    let qs = c.remove-value.new.self.items in
+    let n : length (entries_of t qs) ≤ length (entries_of t ps) = omega (arith, entries-length t qs, entries-length t ps, ap length c.remove-value.ensures.items, length-remove ps c.in_ok-i.i f.within) in (
+      ap (λ es. no_repeats (texts es)) (ap (entries_of t) c.remove-value.ensures.items ∙ f.cut_at) ∙ no_repeats-cut k (entries_of t c.self.inside.pairs.items) c.self.inside.distinct,
+      (subst (HasRoom (length (entries_of t qs))) (sym (buckets_same c.remove.new.self.heads.items m.index.heads.items c.remove.ensures.buckets)) (room_fewer (length (entries_of t qs)) (length (entries_of t ps)) (buckets_of m.index) n m.room), tt),
+    )
 
 pub returns-clause-answer : goal.returns-clause-answer
 returns-clause-answer g c =
@@ -47,7 +54,7 @@ pub position_of-requires-clause-index : goal.position_of-requires-clause-index
 position_of-requires-clause-index g c = subst (λ ps. IsIndexOf (hashes g.K.KeyText.text_of (g.S.KeyHasher.hash_of c.self.inside.hasher) ps) c.self.inside.index) (sym c.deref.ensures.value) c.self.invariant
 
 pub same-self : goal.same-self
-same-self g c = same_inside c.self.inside _
+same-self g c = same_inside c.self.inside _ _
 
 pub invariant_of-self : goal.invariant_of-self
 invariant_of-self g c =

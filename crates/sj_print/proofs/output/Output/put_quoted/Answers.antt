@@ -1,6 +1,6 @@
 use Rattle.std.proofs.Common.{subst}
 use Rattle.sj_text_core.specs.Print.{quoted}
-use Rattle.sj_text_core.proofs.Utf8.{IsUtf8-quoted}
+use Rattle.sj_print.proofs.Utf8.{IsUtf8-quoted}
 use Rattle.sj_print.specs.Outputs.{AppendsText}
 use Rattle.sj_print.proofs.Puts.{appends_text}
 use Rattle.sj_print.proofs.output.Output.put_quoted.Goals as goal

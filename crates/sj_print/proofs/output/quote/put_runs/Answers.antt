@@ -1,6 +1,6 @@
 use Rattle.std.proofs.Common.{◌<◌, ◌-◌, [], ◌∷◌, ◌++◌, length, drop, take, get_or, flat_map, arith}
 use Rattle.sj_text_core.specs.Print.{escaped}
-use Rattle.sj_text_core.proofs.Escapes.{stops_at, escaped_to_stop, escaped_at, escaped_end}
+use Rattle.sj_print.proofs.Escapes.{stops_at, escaped_to_stop, escaped_at, escaped_end}
 use Rattle.sj_print.proofs.Puts.{step, end}
 use Rattle.sj_print.proofs.output.quote.put_runs.Goals as goal
 

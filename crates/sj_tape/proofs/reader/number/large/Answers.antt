@@ -2,7 +2,7 @@ use Rattle.std.proofs.Common.{◌≡◌, get_or, take, length, refl, ap, ◌∙�
 use Rattle.std.proofs.lemmas.List.{take_all}
 use Rattle.sj_text_core.specs.Grammar.{value_of}
 use Rattle.sj_tape.proofs.Digits.{each_digit, part_digits, two_words, one_more_digit, value_many, checked}
-use Rattle.sj_tape.proofs.Numbers.{too_large}
+use Rattle.sj_text_core.proofs.parse.Numbers.{too_large}
 use Rattle.sj_tape.proofs.reader.number.large.Goals as goal
 
 pub returns-then-digits-gt39 : goal.returns-then-digits-gt39

@@ -1,6 +1,0 @@
-use Rattle.sj_document.specs.Document.{tree}
-use Rattle.sj_document.proofs.Compared.{answer_is}
-use Rattle.sj_document.proofs.equal.DocumentPartialEq.eq.Goals as goal
-
-pub returns-clause-answer : goal.returns-clause-answer
-returns-clause-answer g c = let t = tree g.T.KeyText.text_of in answer_is c.same.result (t c.args.self.now) (t c.args.other.now) c.same.ensures

@@ -1,0 +1,182 @@
+use Rattle.std.proofs.Common.{◌≡◌, ℕ, ◌+◌, ◌<◌, ◌^◌, ◌↔◌, List, map, sym, ap, ◌∙◌, arith, rules, length, IsTrue}
+use Rattle.std.proofs.lemmas.List.{drop-map}
+use Rattle.sj_text_core.specs.Tree.{Tree, obj, items_depth, items_from}
+use Rattle.sj_text_core.specs.Agree.{HasTexts, texts}
+use Rattle.sj_text_core.specs.Keep.{is_seen}
+use Rattle.sj_text_core.specs.Repeats.{keep_last, keep_last_items}
+use Rattle.sj_text_core.specs.declared.repeats.Repeats.TheVariants.{First, Last}
+use Rattle.sj_tape.specs.Items.{items, items_ahead, parts_ahead}
+use Rattle.sj_tape.specs.Members.{members, members_ahead, parts_ahead as pairs_ahead}
+use Rattle.sj_tape.specs.Parts.{listed, paired}
+use Rattle.sj_tape.specs.Value.{tree as tape_tree, part}
+use Rattle.sj_tape.proofs.Chosen.{item_step, member_step, members_end}
+use Rattle.sj_tape.proofs.Compared.{items_from-listed, length-listed, place_within, length-paired, drop_next, pair_within, allowed, denied}
+use Rattle.sj_tape.proofs.Counted.{part_choice, member_choice, parts, items_last, len_last, counted_again, counted_same, same_last, not_same_last, same_if_counted, has_if_counted}
+use Rattle.sj_object.specs.Members.{entry_members}
+use Rattle.sj_document.specs.Document.{tree}
+use Rattle.sj_document.proofs.Trees.{tree-Object}
+use Rattle.sj_document.proofs.Mixed.{members_is, lens_mixed, taken_mixed, joined_mixed, lens_next, found_at, absent_at}
+use Rattle.sj_document.proofs.value.cmp.tape.+last.Goals as goal
+
+pub last_as_tape-returns-in-Some-as_object : goal.last_as_tape-returns-in-Some-as_object
+last_as_tape-returns-in-Some-as_object g r c =
+    let u = g.T.KeyText.text_of in
+    let mine = members_is (tape_tree c.args.left) (members c.in-Some-as_object.members) c.in-Some-as_object.ensures.members in
+    let other = ap (tree u) c.in-Object.is ∙ tree-Object u c.in-Object.others ∙ ap (λ m. obj (entry_members (tree u) m.entries)) (sym c.deref-in-Some-as_object.ensures) in
+    rw (mine, other) c.last_members.ensures
+
+pub last_items-returns-then-len-others : goal.last_items-returns-then-len-others
+last_items-returns-then-len-others g r c =
+    let u = tree g.T.KeyText.text_of in
+    (λ f. absurd (cc), λ h. absurd (c.if-len-others.true (c.len.ensures ∙ sym (len_last (items c.args.left)) ∙ lens_mixed u (keep_last_items (items c.args.left)) c.args.right.now.items h ∙ sym (ap length c.as_slice-others.ensures.value))))
+
+pub last_items-loop-other-init : goal.last_items-loop-other-init
+last_items-loop-other-init g r c =
+    let first = ap items_from c.iter-items.ensures.items ∙ items_from-listed (items c.args.left) in
+    let kept = ap (λ (l : List Tree). items_from (map keep_last l)) c.iter-items.ensures.items ∙ sym (items_last (items c.args.left)) in
+    record {
+      on = λ h. rw (sym kept) h;
+      off = λ h. rw kept h;
+      lens = ap length c.iter-items.ensures.items ∙ length-listed (items c.args.left) ∙ sym c.len.ensures ∙ c.if-len-others.false;
+      within = omega (arith, ap items_depth first);
+      mine = c.iter-items.ensures.parts ∙ ap (λ e. parts e (listed (items c.args.left))) c.requires ∙ ap (parts Last) (sym c.iter-items.ensures.items);
+    }
+
+pub last_items-last_as_tape-requires : goal.last_items-last_as_tape-requires
+last_items-last_as_tape-requires g r c κs within =
+    let u = tree g.T.KeyText.text_of in
+    let step = item_step c.loop-other.items.repeats c.next.new.self.repeats (part c.in-Some.item) (items_ahead c.loop-other.items) (items_ahead c.next.new.self) c.in-Some.ensures.steps in
+    let own = part_choice Last (part c.in-Some.item) (parts_ahead c.next.new.self) (items_ahead c.loop-other.items) (items_ahead c.next.new.self) (sym c.loop-other.invariant.mine ∙ c.in-Some.ensures.steps) step in
+    (omega (arith, c.decreases, c.loop-other.invariant.within, ap (λ l. items_depth (items_from l)) step), (within, own.0))
+
+pub last_items-returns-then-not-last_as_tape : goal.last_items-returns-then-not-last_as_tape
+last_items-returns-then-not-last_as_tape g r c =
+    let u = tree g.T.KeyText.text_of in
+    let step = item_step c.loop-other.items.repeats c.next.new.self.repeats (part c.in-Some.item) (items_ahead c.loop-other.items) (items_ahead c.next.new.self) c.in-Some.ensures.steps in
+    let own = part_choice Last (part c.in-Some.item) (parts_ahead c.next.new.self) (items_ahead c.loop-other.items) (items_ahead c.next.new.self) (sym c.loop-other.invariant.mine ∙ c.in-Some.ensures.steps) step in
+    let mine = ap (λ (l : List Tree). map keep_last l) step in
+    let kept = keep_last (tape_tree c.in-Some.item) in (
+      λ f. absurd (cc),
+      λ h. absurd (denied c.last_as_tape.result _ c.last_as_tape.ensures c.if-not-last_as_tape.true
+          (taken_mixed u _ _ kept mine c.loop-other.other-index _ c.other-item.result c.loop-other-test.true c.other-item.is
+          (c.loop-other.invariant.off (rw c.as_slice-others.ensures.value h))).0),
+    )
+
+pub last_items-loop-other-preserved : goal.last_items-loop-other-preserved
+last_items-loop-other-preserved g r c =
+    let u = tree g.T.KeyText.text_of in
+    let step = item_step c.loop-other.items.repeats c.next.new.self.repeats (part c.in-Some.item) (items_ahead c.loop-other.items) (items_ahead c.next.new.self) c.in-Some.ensures.steps in
+    let own = part_choice Last (part c.in-Some.item) (parts_ahead c.next.new.self) (items_ahead c.loop-other.items) (items_ahead c.next.new.self) (sym c.loop-other.invariant.mine ∙ c.in-Some.ensures.steps) step in
+    let mine = ap (λ (l : List Tree). map keep_last l) step in
+    let kept = keep_last (tape_tree c.in-Some.item) in
+    let i = c.loop-other.invariant in
+    record {
+      on = λ h. i.on (joined_mixed u _ _ kept mine c.loop-other.other-index _ c.other-item.result c.loop-other-test.true c.other-item.is
+          (allowed c.last_as_tape.result _ c.last_as_tape.ensures c.if-not-last_as_tape.false, h));
+      off = λ h. (taken_mixed u _ _ kept mine c.loop-other.other-index _ c.other-item.result c.loop-other-test.true c.other-item.is (i.off h)).1;
+      lens = lens_next u _ _ (tape_tree c.in-Some.item) step c.loop-other.other-index _ c.other-item.result c.loop-other-test.true c.other-item.is i.lens;
+      within = omega (arith, i.within, ap (λ l. items_depth (items_from l)) step);
+      mine = own.1;
+    }
+
+pub last_members-overflow_add-seen : goal.last_members-overflow_add-seen
+last_members-overflow_add-seen g r c =
+    let i = c.loop-key.invariant in
+    let m = members c.args.left in
+    let k = c.in-Some.key.now in
+    let step = member_step c.loop-key.key-iterator.repeats c.next.new.self.repeats k (part c.in-Some.value) (members_ahead c.loop-key.key-iterator) (members_ahead c.next.new.self) c.in-Some.ensures.steps in
+    let below = place_within c.loop-key.seen (paired m) _ (members_ahead c.next.new.self) (i.ahead ∙ step) in
+    let f : c.args.left.len < 2 ^ 64 = search (rules, c.well_formed) in
+    omega (arith, below, f, length-paired (members c.args.left), c.args.left.counted)
+
+pub last_members-last_as_tape-requires : goal.last_members-last_as_tape-requires
+last_members-last_as_tape-requires g r c κs within =
+    let i = c.loop-key.invariant in
+    let m = members c.args.left in
+    let k = c.in-Some.key.now in
+    let step = member_step c.loop-key.key-iterator.repeats c.next.new.self.repeats k (part c.in-Some.value) (members_ahead c.loop-key.key-iterator) (members_ahead c.next.new.self) c.in-Some.ensures.steps in
+    let own = member_choice Last k (part c.in-Some.value) (pairs_ahead c.next.new.self) (members_ahead c.loop-key.key-iterator) (members_ahead c.next.new.self) (sym i.mine ∙ c.in-Some.ensures.steps) step in
+    let below = pair_within c.loop-key.seen m k (tape_tree c.in-Some.value) (members_ahead c.next.new.self) (i.ahead ∙ step) in
+    (omega (arith, c.decreases, below), (within, own.0))
+
+pub last_members-returns-then-not-last_as_tape : goal.last_members-returns-then-not-last_as_tape
+last_members-returns-then-not-last_as_tape g r c =
+    let i = c.loop-key.invariant in
+    let m = members c.args.left in
+    let k = c.in-Some.key.now in
+    let step = member_step c.loop-key.key-iterator.repeats c.next.new.self.repeats k (part c.in-Some.value) (members_ahead c.loop-key.key-iterator) (members_ahead c.next.new.self) c.in-Some.ensures.steps in
+    let u = tree g.T.KeyText.text_of in
+    let es = c.args.right.now.entries in
+    let n = entry_members u es in
+    let t = tape_tree c.in-Some.value in
+    let rest = drop_next c.loop-key.seen (paired m) _ (members_ahead c.next.new.self) (i.ahead ∙ step) in
+    let behind : c.has_behind.result ≡ is_seen k (texts (members_ahead c.next.new.self)) =
+    c.has_behind.ensures ∙ ap (is_seen k) (drop-map (λ (p : List ℕ × Tree). p.0) (c.loop-key.seen + 1) (paired m)) ∙ ap (λ ps. is_seen k (texts ps)) rest in (
+      λ f. absurd (cc),
+      λ h. absurd (denied c.last_as_tape.result _ c.last_as_tape.ensures c.if-not-last_as_tape.true
+          (same_last First m n k t _ _ step c.loop-key.seen i.ahead (sym behind ∙ c.if-not-has_behind.true) (u c.in-Some-get.other.now) (found_at u k es c.in-Some-get.other.now c.in-Some-get.ensures) h)),
+    )
+
+pub last_members-loop-key-preserved-else-not-last_as_tape : goal.last_members-loop-key-preserved-else-not-last_as_tape
+last_members-loop-key-preserved-else-not-last_as_tape g r c =
+    let i = c.loop-key.invariant in
+    let m = members c.args.left in
+    let k = c.in-Some.key.now in
+    let step = member_step c.loop-key.key-iterator.repeats c.next.new.self.repeats k (part c.in-Some.value) (members_ahead c.loop-key.key-iterator) (members_ahead c.next.new.self) c.in-Some.ensures.steps in
+    let own = member_choice Last k (part c.in-Some.value) (pairs_ahead c.next.new.self) (members_ahead c.loop-key.key-iterator) (members_ahead c.next.new.self) (sym i.mine ∙ c.in-Some.ensures.steps) step in
+    let u = tree g.T.KeyText.text_of in
+    let es = c.args.right.now.entries in
+    let n = entry_members u es in
+    let t = tape_tree c.in-Some.value in
+    let rest = drop_next c.loop-key.seen (paired m) _ (members_ahead c.next.new.self) (i.ahead ∙ step) in
+    let behind : c.has_behind.result ≡ is_seen k (texts (members_ahead c.next.new.self)) =
+    c.has_behind.ensures ∙ ap (is_seen k) (drop-map (λ (p : List ℕ × Tree). p.0) (c.loop-key.seen + 1) (paired m)) ∙ ap (λ ps. is_seen k (texts ps)) rest in
+    record {
+      ahead = rest;
+      counted = counted_same First m n k t _ _ step c.loop-key.seen i.ahead (sym behind ∙ c.if-not-has_behind.true) (u c.in-Some-get.other.now) (found_at u k es c.in-Some-get.other.now c.in-Some-get.ensures)
+          (allowed c.last_as_tape.result _ c.last_as_tape.ensures c.if-not-last_as_tape.false) i.counted;
+      mine = own.1;
+    }
+
+pub last_members-returns-in-None-get : goal.last_members-returns-in-None-get
+last_members-returns-in-None-get g r c =
+    let i = c.loop-key.invariant in
+    let m = members c.args.left in
+    let k = c.in-Some.key.now in
+    let step = member_step c.loop-key.key-iterator.repeats c.next.new.self.repeats k (part c.in-Some.value) (members_ahead c.loop-key.key-iterator) (members_ahead c.next.new.self) c.in-Some.ensures.steps in
+    let u = tree g.T.KeyText.text_of in
+    let es = c.args.right.now.entries in
+    let n = entry_members u es in
+    let t = tape_tree c.in-Some.value in
+    let rest = drop_next c.loop-key.seen (paired m) _ (members_ahead c.next.new.self) (i.ahead ∙ step) in
+    let behind : c.has_behind.result ≡ is_seen k (texts (members_ahead c.next.new.self)) =
+    c.has_behind.ensures ∙ ap (is_seen k) (drop-map (λ (p : List ℕ × Tree). p.0) (c.loop-key.seen + 1) (paired m)) ∙ ap (λ ps. is_seen k (texts ps)) rest in
+    (λ f. absurd (cc), λ h. absurd (not_same_last First m n k t _ _ step c.loop-key.seen i.ahead (sym behind ∙ c.if-not-has_behind.true) (absent_at u k es c.in-None-get.ensures) h))
+
+pub last_members-loop-key-preserved : goal.last_members-loop-key-preserved
+last_members-loop-key-preserved g r c =
+    let i = c.loop-key.invariant in
+    let m = members c.args.left in
+    let k = c.in-Some.key.now in
+    let step = member_step c.loop-key.key-iterator.repeats c.next.new.self.repeats k (part c.in-Some.value) (members_ahead c.loop-key.key-iterator) (members_ahead c.next.new.self) c.in-Some.ensures.steps in
+    let own = member_choice Last k (part c.in-Some.value) (pairs_ahead c.next.new.self) (members_ahead c.loop-key.key-iterator) (members_ahead c.next.new.self) (sym i.mine ∙ c.in-Some.ensures.steps) step in
+    let u = tree g.T.KeyText.text_of in
+    let es = c.args.right.now.entries in
+    let n = entry_members u es in
+    let t = tape_tree c.in-Some.value in
+    let rest = drop_next c.loop-key.seen (paired m) _ (members_ahead c.next.new.self) (i.ahead ∙ step) in
+    let behind : c.has_behind.result ≡ is_seen k (texts (members_ahead c.next.new.self)) =
+    c.has_behind.ensures ∙ ap (is_seen k) (drop-map (λ (p : List ℕ × Tree). p.0) (c.loop-key.seen + 1) (paired m)) ∙ ap (λ ps. is_seen k (texts ps)) rest in
+    record {
+      ahead = rest;
+      counted = counted_again First m n k t _ _ step (sym behind ∙ c.if-not-has_behind.false) i.counted;
+      mine = own.1;
+    }
+
+pub last_members-returns : goal.last_members-returns
+last_members-returns g r c =
+    let m = members c.args.left in
+    let n = entry_members (tree g.T.KeyText.text_of) c.args.right.now.entries in
+    let now : IsTrue c.has_keys.result ↔ HasTexts (paired m) (paired n) = c.has_keys.ensures in
+    let none = members_end c.loop-key.key-iterator.repeats (members_ahead c.loop-key.key-iterator) c.in-None.ensures.steps.0 in
+    (λ h. same_if_counted First m n _ none c.loop-key.invariant.counted (now.0 h), λ h. now.1 (has_if_counted First m n h))

@@ -1,0 +1,43 @@
+use Rattle.std.proofs.Common.{◌≡◌, ◌≤◌, ◌+◌, ◌*◌, drop, length, map}
+use Rattle.sj_text_core.specs.Tree.{depth, items_depth, members_depth, items_from}
+use Rattle.sj_text_core.specs.Same.{SameItems}
+use Rattle.sj_text_core.specs.Repeats.{keep_last, keep_last_items}
+use Rattle.sj_text_core.specs.declared.repeats.Repeats.TheVariants.{First, Last}
+use Rattle.sj_tape.specs.Items.{items, items_ahead, parts_ahead}
+use Rattle.sj_tape.specs.Members.{members, members_ahead, chosen, parts_ahead as pairs_ahead}
+use Rattle.sj_tape.specs.Parts.{paired}
+use Rattle.sj_tape.specs.Value.{tree as tape_tree}
+use Rattle.sj_tape.proofs.Counted.{Counted, parts}
+use Rattle.sj_object.specs.Members.{entry_members}
+use Rattle.sj_document.specs.Document.{tree}
+use Rattle.sj_document.proofs.value.cmp.tape.+last.Given as goal
+
+abbrev pub invariant-last_items-loop-other : goal.invariant-last_items-loop-other
+invariant-last_items-loop-other g l =
+    let u = tree g.T.KeyText.text_of in
+    record {
+      on : SameItems (items_from (map keep_last (items_ahead l.items))) (items_from (map u (drop l.other-index l.others)))
+          → SameItems (keep_last_items (items l.fn.left)) (items_from (map u l.others));
+      off : SameItems (keep_last_items (items l.fn.left)) (items_from (map u l.others))
+          → SameItems (items_from (map keep_last (items_ahead l.items))) (items_from (map u (drop l.other-index l.others)));
+      lens : length (items_ahead l.items) ≡ length (drop l.other-index l.others);
+      within : items_depth (items_from (items_ahead l.items)) ≤ items_depth (items l.fn.left);
+      mine : parts_ahead l.items ≡ parts Last (items_ahead l.items);
+    }
+
+abbrev pub invariant-last_members-loop-key : goal.invariant-last_members-loop-key
+invariant-last_members-loop-key g l =
+    record {
+      ahead : drop l.seen (paired (members l.fn.left)) ≡ members_ahead l.key-iterator;
+      counted : Counted First (members l.fn.left) (entry_members (tree g.T.KeyText.text_of) l.fn.right.entries) (members_ahead l.key-iterator);
+      mine : pairs_ahead l.key-iterator ≡ chosen Last (members_ahead l.key-iterator);
+    }
+
+abbrev pub decreases-last_as_tape : goal.decreases-last_as_tape
+decreases-last_as_tape g l = 2 * depth (tape_tree l.left)
+
+abbrev pub decreases-last_items : goal.decreases-last_items
+decreases-last_items g l = 2 * items_depth (items l.left) + 1
+
+abbrev pub decreases-last_members : goal.decreases-last_members
+decreases-last_members g l = 2 * members_depth (members l.left) + 1

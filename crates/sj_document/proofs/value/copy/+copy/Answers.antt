@@ -1,0 +1,62 @@
+use Rattle.std.proofs.Common.{map, sym, ap, ◌∙◌, arith}
+use Rattle.sj_text_core.specs.Tree.{obj, depth, items_depth, members_depth, items_from}
+use Rattle.sj_text_core.specs.Edits as members
+use Rattle.sj_object.specs.Entries.{entries_of}
+use Rattle.sj_object.specs.Members.{entry_members}
+use Rattle.sj_object.proofs.Shown.{entry_members-put}
+use Rattle.sj_object.proofs.Walks.{put_all, put_all-distinct}
+use Rattle.sj_document.specs.Document.{tree}
+use Rattle.sj_document.proofs.Trees.{tree-Object}
+use Rattle.sj_document.proofs.Walks.{done_ok, item_within, copied_next}
+use Rattle.sj_document.proofs.value.copy.+copy.Goals as goal
+
+pub copy-copy_members-requires : goal.copy-copy_members-requires
+copy-copy_members-requires g r c κs within =
+    let t = g.T.KeyText.text_of in
+    (omega (arith, c.decreases, ap depth (ap (tree t) c.in-Object.is ∙ tree-Object t c.in-Object.members), ap (λ m. members_depth (entry_members (tree t) m.entries)) c.deref-in-Object.ensures), within)
+
+pub copy-returns-in_ok-new-in-Object : goal.copy-returns-in_ok-new-in-Object
+copy-returns-in_ok-new-in-Object g r c =
+    let t = g.T.KeyText.text_of in
+    tree-Object t c.in_ok-new-in-Object.field-0
+    ∙ ap obj (ap (λ m. entry_members (tree t) m.entries) c.in_ok-new-in-Object.ensures.ok ∙ c.in_ok-copies-in-Object.ensures ∙ ap (λ m. entry_members (tree t) m.entries) c.deref-in-Object.ensures)
+    ∙ sym (ap (tree t) c.in-Object.is ∙ tree-Object t c.in-Object.members)
+
+pub copy_items-copy-requires : goal.copy_items-copy-requires
+copy_items-copy-requires g r c κs within =
+    let t = g.T.KeyText.text_of in
+    let below = item_within t c.deref-item-items.result.now c.loop-item.item-index c.item-item.result c.loop-item-test.true c.item-item.is in
+    (omega (arith, c.decreases, below, ap (λ vs. items_depth (items_from (map (tree t) vs))) c.deref-item-items.ensures.value), within)
+
+pub copy_items-loop-item-preserved : goal.copy_items-loop-item-preserved
+copy_items-loop-item-preserved g r c =
+    copied_next g.T.KeyText.text_of c.deref-item-items.result.now c.loop-item.copies.items c.push.new.self.items c.loop-item.item-index c.item-item.result c.in_ok-copy.field-0
+    c.loop-item-test.true c.item-item.is c.loop-item.invariant c.in_ok-copy.ensures c.in_ok-push.ensures.items
+
+pub copy_members-loop-key-init : goal.copy_members-loop-key-init
+copy_members-loop-key-init g r c =
+    let t = g.T.KeyText.text_of in
+    let all = ap (entries_of t) c.into_iter-key-iterator.ensures.into_iter_gives ∙ c.iter-key-items.ensures in
+    record {
+      can = tt;
+      ends = tt;
+      copied = (λ i. put_all (tree t) (entry_members (tree t) (c.in_ok-copies.ensures.entries i)) (all i)) ∙ put_all-distinct (tree t) c.args.members.now.entries c.args.members.now.distinct;
+      within = omega (arith, ap (λ es. members_depth (entry_members (tree t) es)) all);
+    }
+
+pub copy_members-loop-key-preserved : goal.copy_members-loop-key-preserved
+copy_members-loop-key-preserved g r c =
+    let t = g.T.KeyText.text_of in
+    let rest = entries_of t c.next.new.self in
+    let old = c.loop-key.copies.entries in
+    let ahead = ap (entries_of t) c.in-Some.ensures.steps in
+    let done = done_ok c.insert.result (sym c.is_err.ensures.value ∙ c.if-is_err.false) c.insert.ensures.entries in
+    record {
+      can = tt;
+      ends = tt;
+      copied = ap (λ es. put_all (tree t) (entry_members (tree t) es) rest) done
+          ∙ ap (λ ms. put_all (tree t) ms rest) (entry_members-put (tree t) (c.in_ok-name.name, t c.in_ok-name.name) c.in_ok-copied.copied old)
+          ∙ (λ i. put_all (tree t) (members.put (c.in_ok-name.ensures i) (c.in_ok-copied.ensures i) (entry_members (tree t) old)) rest)
+          ∙ ap (put_all (tree t) (entry_members (tree t) old)) (sym ahead) ∙ c.loop-key.invariant.copied;
+      within = omega (arith, c.loop-key.invariant.within, ap (λ es. members_depth (entry_members (tree t) es)) ahead);
+    }

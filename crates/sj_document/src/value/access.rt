@@ -1,0 +1,197 @@
+//! What reads a part of a document, lends it for writing, or takes it out.
+
+ghost use Rattle.std.specs.Prelude.{◌≡◌, option_map, is_some, map, OnSome};
+ghost use Rattle.std.specs.Result.{result_map_both};
+ghost use Rattle.sj_text_core.specs.Find.{find, nth};
+ghost use Rattle.sj_text_core.specs.Reads.{kind_of, as_items, as_members, as_text, read_as, found_in};
+ghost use Rattle.sj_text_core.specs.Tree.{items_from, list, obj};
+ghost use Rattle.sj_object.specs.Members.{entry_members};
+
+use crate::value::{Document, Object};
+use sj_object::KeyText;
+use sj_text_core::{TryTypeError, TypedValue, ValueType};
+
+impl<T: KeyText> Document<T> {
+    ghost use Rattle.std.specs.Borrow.{LendsSo, sem};
+    ghost use Rattle.sj_document.specs.Document.{tree};
+    ghost use Rattle.sj_document.specs.Rows.{document_row, object_row, array_row};
+
+    /// The value of the key; None where there is none, and on a non-object.
+    pub fn get(&self, key: &str) -> Option<&Document<T>>
+        ensures { option_map (λ v. tree T.text_of v.now) result ≡ find key.now (tree T.text_of self.now) }
+    {
+        match self {
+            Document::Object(members) => members.get(key),
+            _ => None,
+        }
+    }
+
+    /// As `get`; of a non-object, which kind it is.
+    pub fn try_get(&self, key: &str) -> Result<Option<&Document<T>>, TryTypeError>
+        ensures { result_map_both (option_map (λ v. tree T.text_of v.now)) (λ e. e) result ≡ found_in (as_members (tree T.text_of self.now)) (kind_of (tree T.text_of self.now)) (find key.now (tree T.text_of self.now)) }
+    {
+        match self {
+            Document::Object(members) => Ok(members.get(key)),
+            _ => Err(TryTypeError {
+                expected: ValueType::Object,
+                got: self.value_type(),
+            }),
+        }
+    }
+
+    /// Whether a member has the key; false on a non-object.
+    pub fn contains_key(&self, key: &str) -> bool
+        ensures { result ≡ is_some (find key.now (tree T.text_of self.now)) }
+    {
+        self.get(key).is_some()
+    }
+
+    /// The item at that position, counted from 0; None past the last, and on a non-array.
+    pub fn get_idx(&self, index: usize) -> Option<&Document<T>>
+        ensures { option_map (λ v. tree T.text_of v.now) result ≡ nth index (tree T.text_of self.now) }
+    {
+        match self {
+            Document::Array(items) => items.get(index),
+            _ => None,
+        }
+    }
+
+    /// As `get_idx`; of a non-array, which kind it is.
+    pub fn try_get_idx(&self, index: usize) -> Result<Option<&Document<T>>, TryTypeError>
+        ensures { result_map_both (option_map (λ v. tree T.text_of v.now)) (λ e. e) result ≡ read_as (option_map (λ _. nth index (tree T.text_of self.now)) (as_items (tree T.text_of self.now))) ValueType.Array (kind_of (tree T.text_of self.now)) }
+    {
+        match self {
+            Document::Array(items) => Ok(items.get(index)),
+            _ => Err(TryTypeError {
+                expected: ValueType::Array,
+                got: self.value_type(),
+            }),
+        }
+    }
+
+    /// The items, where it is an array; else None.
+    pub fn as_array(&self) -> Option<&Vec<Document<T>>>
+        ensures { option_map (λ v. items_from (map (tree T.text_of) v.now.items)) result ≡ as_items (tree T.text_of self.now) }
+    {
+        match self {
+            Document::Array(items) => Some(items),
+            _ => None,
+        }
+    }
+
+    /// The items, where it is an array; else which kind it is.
+    pub fn try_as_array(&self) -> Result<&Vec<Document<T>>, TryTypeError>
+        ensures { result_map_both (λ v. items_from (map (tree T.text_of) v.now.items)) (λ e. e) result ≡ read_as (as_items (tree T.text_of self.now)) ValueType.Array (kind_of (tree T.text_of self.now)) }
+    {
+        match self.as_array() {
+            Some(items) => Ok(items),
+            None => Err(TryTypeError {
+                expected: ValueType::Array,
+                got: self.value_type(),
+            }),
+        }
+    }
+
+    /// The members, where it is an object; else None.
+    pub fn as_object(&self) -> Option<&Object<T>>
+        ensures { option_map (λ m. entry_members (tree T.text_of) m.now.entries) result ≡ as_members (tree T.text_of self.now) }
+    {
+        match self {
+            Document::Object(members) => Some(members),
+            _ => None,
+        }
+    }
+
+    /// The members, where it is an object; else which kind it is.
+    pub fn try_as_object(&self) -> Result<&Object<T>, TryTypeError>
+        ensures { result_map_both (λ m. entry_members (tree T.text_of) m.now.entries) (λ e. e) result ≡ read_as (as_members (tree T.text_of self.now)) ValueType.Object (kind_of (tree T.text_of self.now)) }
+    {
+        match self.as_object() {
+            Some(members) => Ok(members),
+            None => Err(TryTypeError {
+                expected: ValueType::Object,
+                got: self.value_type(),
+            }),
+        }
+    }
+
+    /// The items of an array, to write. The document is then the array of what they last were.
+    pub fn as_array_mut(&mut self) -> Option<&mut Vec<Document<T>>>
+        ensures* writes_back { sem 𝓛 (LendsSo (document_row T.row T.KeyText) (array_row T.row T.KeyText) self.entry result
+            (λ n w. OnSome result (tree T.text_of n ≡ list (items_from (map (tree T.text_of) w.items)))) (λ n. tree T.text_of n ≡ tree T.text_of self.old)) }
+        ensures value { option_map (λ v. items_from (map (tree T.text_of) v.now.items)) result ≡ as_items (tree T.text_of self.old) }
+    {
+        match self {
+            Document::Array(items) => Some(items),
+            _ => None,
+        }
+    }
+
+    /// The map of an object, to write. The document is then the object of what it last was.
+    pub fn as_object_mut(&mut self) -> Option<&mut Object<T>>
+        ensures* writes_back { sem 𝓛 (LendsSo (document_row T.row T.KeyText) (object_row T.row T.KeyText) self.entry result
+            (λ n w. OnSome result (tree T.text_of n ≡ obj (entry_members (tree T.text_of) w.entries))) (λ n. tree T.text_of n ≡ tree T.text_of self.old)) }
+        ensures value { option_map (λ m. entry_members (tree T.text_of) m.now.entries) result ≡ as_members (tree T.text_of self.old) }
+    {
+        match self {
+            Document::Object(members) => Some(members),
+            _ => None,
+        }
+    }
+
+    /// The value of the key, to write. What the document is then is said by `as_object_mut` with
+    /// the map's own `get_mut`, and not here.
+    pub fn get_mut(&mut self, key: &str) -> Option<&mut Document<T>>
+        ensures value { option_map (λ v. tree T.text_of v.now) result ≡ find key.now (tree T.text_of self.old) }
+    {
+        match self {
+            Document::Object(members) => members.get_mut(key),
+            _ => None,
+        }
+    }
+
+    /// The item at that position, to write. What the document is then is said by `as_array_mut`,
+    /// and not here.
+    pub fn get_idx_mut(&mut self, index: usize) -> Option<&mut Document<T>>
+        ensures value { option_map (λ v. tree T.text_of v.now) result ≡ nth index (tree T.text_of self.old) }
+    {
+        match self {
+            Document::Array(items) => items.get_mut(index),
+            _ => None,
+        }
+    }
+}
+
+impl<T: KeyText + Drop> Document<T> {
+    ghost use Rattle.sj_document.specs.Document.{tree};
+
+    /// The items, where it is an array; anything else is given up.
+    pub fn into_array(self) -> Option<Vec<Document<T>>>
+        ensures { option_map (λ v. items_from (map (tree T.text_of) v.items)) result ≡ as_items (tree T.text_of self) }
+    {
+        match self {
+            Document::Array(items) => Some(Box::into_inner(items)),
+            _ => None,
+        }
+    }
+
+    /// The members, where it is an object; anything else is given up.
+    pub fn into_object(self) -> Option<Object<T>>
+        ensures { option_map (λ m. entry_members (tree T.text_of) m.entries) result ≡ as_members (tree T.text_of self) }
+    {
+        match self {
+            Document::Object(members) => Some(Box::into_inner(members)),
+            _ => None,
+        }
+    }
+
+    /// The text, where it is one; anything else is given up.
+    pub fn into_string(self) -> Option<T>
+        ensures { option_map T.text_of result ≡ as_text (tree T.text_of self) }
+    {
+        match self {
+            Document::String(text) => Some(text),
+            _ => None,
+        }
+    }
+}

@@ -1,0 +1,55 @@
+//! Indexing by a key and by a position, where the caller knows that it is there.
+
+ghost use Rattle.std.specs.Prelude.{◌≡◌, Some, IsSome, option_map};
+ghost use Rattle.sj_text_core.specs.Find.{find, nth};
+ghost use Rattle.sj_document.specs.Document.{tree};
+
+use crate::value::Document;
+use sj_object::KeyText;
+use std::ops::{Index, IndexMut};
+
+/// The value of a key that is there.
+impl<'k, T: KeyText> Index<&'k str> for Document<T> {
+    type Output = Document<T>;
+
+    ghost can_index = { λ v key. IsSome (find key.now (tree T.text_of v)) };
+
+    ghost index_gives = { λ v key found. Some (tree T.text_of found) ≡ find key.now (tree T.text_of v) };
+
+    fn index(&self, key: &'k str) -> &Document<T> {
+        self.get(key).unwrap()
+    }
+}
+
+/// The item at a position that is there.
+impl<T: KeyText> Index<usize> for Document<T> {
+    type Output = Document<T>;
+
+    ghost can_index = { λ v index. IsSome (nth index (tree T.text_of v)) };
+
+    ghost index_gives = { λ v index found. Some (tree T.text_of found) ≡ nth index (tree T.text_of v) };
+
+    fn index(&self, index: usize) -> &Document<T> {
+        self.get_idx(index).unwrap()
+    }
+}
+
+/// The value of a key that is there, to write. What the document is then is not said.
+impl<'k, T: KeyText> IndexMut<&'k str> for Document<T> {
+    fn index_mut(&mut self, key: &'k str) -> &mut Document<T>
+        requires { IsSome (find key.now (tree T.text_of self.old)) }
+        ensures value { Some (tree T.text_of result.now) ≡ find key.now (tree T.text_of self.old) }
+    {
+        self.get_mut(key).unwrap()
+    }
+}
+
+/// The item at a position that is there, to write. What the document is then is not said.
+impl<T: KeyText> IndexMut<usize> for Document<T> {
+    fn index_mut(&mut self, index: usize) -> &mut Document<T>
+        requires { IsSome (nth index (tree T.text_of self.old)) }
+        ensures value { Some (tree T.text_of result.now) ≡ nth index (tree T.text_of self.old) }
+    {
+        self.get_idx_mut(index).unwrap()
+    }
+}

@@ -1,0 +1,104 @@
+//! Edits: each makes the value an owned document first.
+
+ghost use Rattle.std.specs.Prelude.{◌≡◌, ⊤, Some, None, option_map, OnOk, IfOk, IfErr, IsSome};
+ghost use Rattle.sj_text_core.specs.Find.{find};
+ghost use Rattle.sj_text_core.specs.Reads.{as_items, as_members};
+ghost use Rattle.sj_document.specs.Document.{tree, why_of, with_member, without_member, with_item, without_last, last_item};
+
+use super::Lazy;
+use crate::upgrade::{Lent, Upgrade};
+use sj_document::Document;
+use sj_object::KeyText;
+use sj_text_core::{AccessError, Refused};
+use std::alloc::{AllocError, Global};
+
+impl<P: Upgrade<T> + Drop, B: Lent<T> + Drop, T: KeyText + Drop> Lazy<P, B, T> {
+    ghost use Rattle.sj_lazy.specs.Value.{lazy_kept, owned};
+    ghost use Rattle.sj_lazy.specs.Edits.{IsLeft};
+
+    /// Sets the value of the key, and answers the one before.
+    pub fn insert(
+        &mut self,
+        alloc: Global,
+        key: T,
+        value: Document<T>,
+    ) -> Result<Option<Document<T>>, Refused<AccessError, Document<T>>>
+        ensures answer { IfOk result (λ before. option_map (tree T.text_of) before ≡ find (T.text_of key) (lazy_kept P.part_kept B.lent_tree T.text_of self.old)) }
+        ensures after { OnOk result (owned T.text_of self.new ≡ Some (with_member (T.text_of key) (tree T.text_of value) (lazy_kept P.part_kept B.lent_tree T.text_of self.old))) }
+        ensures object { OnOk result (IsSome (as_members (lazy_kept P.part_kept B.lent_tree T.text_of self.old))) }
+        ensures refused { IfErr result (λ r. IsLeft T.text_of (lazy_kept P.part_kept B.lent_tree T.text_of self.old) self.old self.new (r.why ≡ AccessError.OutOfMemory) (r.why ≡ why_of AccessError.NotAnObject (as_members (lazy_kept P.part_kept B.lent_tree T.text_of self.old)))) }
+        ensures returned { IfErr result (λ r. r.value ≡ value) }
+    {
+        match self.as_mut(alloc) {
+            Ok(document) => document.insert(key, value),
+            Err(_) => Err(Refused {
+                why: AccessError::OutOfMemory,
+                value,
+            }),
+        }
+    }
+
+    /// The same, and nothing on a non-object.
+    pub fn try_insert(
+        &mut self,
+        alloc: Global,
+        key: T,
+        value: Document<T>,
+    ) -> Result<Option<Document<T>>, Refused<AllocError, Document<T>>>
+        ensures answer { IfOk result (λ before. option_map (tree T.text_of) before ≡ find (T.text_of key) (lazy_kept P.part_kept B.lent_tree T.text_of self.old)) }
+        ensures after { OnOk result (owned T.text_of self.new ≡ Some (with_member (T.text_of key) (tree T.text_of value) (lazy_kept P.part_kept B.lent_tree T.text_of self.old))) }
+        ensures refused { IfErr result (λ r. IsLeft T.text_of (lazy_kept P.part_kept B.lent_tree T.text_of self.old) self.old self.new (⊤) (IsSome (as_members (lazy_kept P.part_kept B.lent_tree T.text_of self.old)))) }
+        ensures returned { IfErr result (λ r. r.value ≡ value) }
+    {
+        match self.as_mut(alloc) {
+            Ok(document) => document.try_insert(key, value),
+            Err(why) => Err(Refused { why, value }),
+        }
+    }
+
+    /// Takes the key's member out, and answers its value.
+    pub fn remove(&mut self, alloc: Global, key: &str) -> Result<Option<Document<T>>, AccessError>
+        ensures answer { IfOk result (λ before. option_map (tree T.text_of) before ≡ find key.now (lazy_kept P.part_kept B.lent_tree T.text_of self.old)) }
+        ensures after { OnOk result (owned T.text_of self.new ≡ Some (without_member key.now (lazy_kept P.part_kept B.lent_tree T.text_of self.old))) }
+        ensures object { OnOk result (IsSome (as_members (lazy_kept P.part_kept B.lent_tree T.text_of self.old))) }
+        ensures refused { IfErr result (λ e. IsLeft T.text_of (lazy_kept P.part_kept B.lent_tree T.text_of self.old) self.old self.new (e ≡ AccessError.OutOfMemory) ((e ≡ AccessError.NotAnObject) × (as_members (lazy_kept P.part_kept B.lent_tree T.text_of self.old) ≡ None))) }
+    {
+        match self.as_mut(alloc) {
+            Ok(document) => document.remove(key),
+            Err(_) => Err(AccessError::OutOfMemory),
+        }
+    }
+
+    /// Appends an item.
+    pub fn push(
+        &mut self,
+        alloc: Global,
+        value: Document<T>,
+    ) -> Result<(), Refused<AccessError, Document<T>>>
+        ensures after { OnOk result (owned T.text_of self.new ≡ Some (with_item (tree T.text_of value) (lazy_kept P.part_kept B.lent_tree T.text_of self.old))) }
+        ensures array { OnOk result (IsSome (as_items (lazy_kept P.part_kept B.lent_tree T.text_of self.old))) }
+        ensures refused { IfErr result (λ r. IsLeft T.text_of (lazy_kept P.part_kept B.lent_tree T.text_of self.old) self.old self.new (r.why ≡ AccessError.OutOfMemory) (r.why ≡ why_of AccessError.NotAnArray (as_items (lazy_kept P.part_kept B.lent_tree T.text_of self.old)))) }
+        ensures returned { IfErr result (λ r. r.value ≡ value) }
+    {
+        match self.as_mut(alloc) {
+            Ok(document) => document.push(value),
+            Err(_) => Err(Refused {
+                why: AccessError::OutOfMemory,
+                value,
+            }),
+        }
+    }
+
+    /// Takes the last item off; None where there is none.
+    pub fn pop(&mut self, alloc: Global) -> Result<Option<Document<T>>, AccessError>
+        ensures answer { IfOk result (λ last. option_map (tree T.text_of) last ≡ last_item (lazy_kept P.part_kept B.lent_tree T.text_of self.old)) }
+        ensures after { OnOk result (owned T.text_of self.new ≡ Some (without_last (lazy_kept P.part_kept B.lent_tree T.text_of self.old))) }
+        ensures array { OnOk result (IsSome (as_items (lazy_kept P.part_kept B.lent_tree T.text_of self.old))) }
+        ensures refused { IfErr result (λ e. IsLeft T.text_of (lazy_kept P.part_kept B.lent_tree T.text_of self.old) self.old self.new (e ≡ AccessError.OutOfMemory) ((e ≡ AccessError.NotAnArray) × (as_items (lazy_kept P.part_kept B.lent_tree T.text_of self.old) ≡ None))) }
+    {
+        match self.as_mut(alloc) {
+            Ok(document) => document.pop(),
+            Err(_) => Err(AccessError::OutOfMemory),
+        }
+    }
+}

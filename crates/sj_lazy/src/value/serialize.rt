@@ -1,0 +1,35 @@
+//! The prints of a lazy value: those of its tape's tree, or of its document's.
+
+use super::{Lazy, Value};
+use sj_text_core::{Writable, WriteError};
+use std::alloc::Global;
+
+impl<'b, 't, 'i> Writable for Value<'b, 't, 'i> {
+    fn encode(&self, alloc: Global) -> Result<String, WriteError> {
+        match self {
+            Lazy::Tape(part) => part.encode(alloc),
+            Lazy::Value(value) => value.document().encode(alloc),
+        }
+    }
+
+    fn encode_pp(&self, alloc: Global) -> Result<String, WriteError> {
+        match self {
+            Lazy::Tape(part) => part.encode_pp(alloc),
+            Lazy::Value(value) => value.document().encode_pp(alloc),
+        }
+    }
+
+    fn write(&self, out: &mut Vec<u8>) -> Result<(), WriteError> {
+        match self {
+            Lazy::Tape(part) => part.write(out),
+            Lazy::Value(value) => value.document().write(out),
+        }
+    }
+
+    fn write_pp(&self, out: &mut Vec<u8>) -> Result<(), WriteError> {
+        match self {
+            Lazy::Tape(part) => part.write_pp(out),
+            Lazy::Value(value) => value.document().write_pp(out),
+        }
+    }
+}

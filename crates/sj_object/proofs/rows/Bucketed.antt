@@ -1,0 +1,51 @@
+-- How many buckets there are.
+use Rattle.std.proofs.Common.{◌≡◌, ℕ, [], ◌∷◌, refl, Some, None, arith}
+use Rattle.sj_object.specs.Index.{buckets_in, buckets_for, HasRoom, NeedsHash}
+
+at-32 : buckets_for 32 None ≡ None
+at-32 = refl
+
+at-33 : buckets_for 33 None ≡ Some 64
+at-33 = refl
+
+at-64 : buckets_for 64 (Some 64) ≡ Some 64
+at-64 = refl
+
+at-65 : buckets_for 65 (Some 64) ≡ Some 128
+at-65 = refl
+
+at-129 : buckets_for 129 (Some 128) ≡ Some 256
+at-129 = refl
+
+-- they are kept
+after-removals : buckets_for 1 (Some 128) ≡ Some 128
+after-removals = refl
+
+plain : buckets_in [] ≡ None
+plain = refl
+
+-- one for each head of a chain, also where all chains are empty
+hashed : buckets_in (0 ∷ 0 ∷ []) ≡ Some 2
+hashed = refl
+
+room-plain : HasRoom 32 None
+room-plain = omega arith
+
+no-room-plain : HasRoom 33 None → ⊥
+no-room-plain h = omega (arith, h)
+
+room-hashed : HasRoom 64 (Some 64)
+room-hashed = (omega arith, omega arith)
+
+no-room-hashed : HasRoom 65 (Some 64) → ⊥
+no-room-hashed h = omega (arith, h.1)
+
+-- the hash of a key to come is read from the 33rd insert on
+needed-at-33 : NeedsHash 32 None
+needed-at-33 = omega arith
+
+not-needed-at-32 : NeedsHash 31 None → ⊥
+not-needed-at-32 h = omega (arith, h)
+
+needed-hashed : NeedsHash 1 (Some 128)
+needed-hashed = tt

@@ -1,0 +1,22 @@
+-- What generators lay out.
+use Rattle.std.proofs.Common.{◌≡◌, [], ◌∷◌, refl, codes, Some, None, arith}
+use Rattle.sj_print.specs.Generators.{chosen, line, CanIndent}
+
+chosen-compact : chosen None (codes ": ") (codes ":") ≡ codes ":"
+chosen-compact = refl
+
+chosen-pretty : chosen (Some 2) (codes ": ") (codes ":") ≡ codes ": "
+chosen-pretty = refl
+
+line-compact : line None 3 ≡ []
+line-compact = refl
+
+line-pretty : line (Some 2) 2 ≡ 10 ∷ 32 ∷ 32 ∷ 32 ∷ 32 ∷ []
+line-pretty = refl
+
+-- the last level that can be counted, and the one past it
+can_indent-last : CanIndent None 18446744073709551614
+can_indent-last = omega arith
+
+not_can_indent-past : CanIndent None 18446744073709551615 → ⊥
+not_can_indent-past h = absurd (omega (arith, h))

@@ -1,0 +1,3 @@
+//! What no clause says, and each public call once.
+
+mod generators;

@@ -1,5 +1,0 @@
-use Rattle.sj_tape.proofs.Printing.{one_tree}
-use Rattle.sj_tape.proofs.laws.spells_one.Goals as goal
-
-pub returns : goal.returns
-returns c = λ b t u s r. one_tree b t u s r
