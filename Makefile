@@ -15,5 +15,5 @@ check-program:
 
 # Refuses each request for memory of each call in turn. Needs gcc.
 check-refusals:
-	cd crates/refusals && rt run -- insert new 32 > /dev/null
+	cd crates/refusals && rt run -- insert insert 32 > /dev/null
 	tools/refusals.sh crates/refusals/out/refusals

@@ -89,14 +89,21 @@ for call in owned owned_with_buffers borrowed borrowed_with_buffers; do
 done
 each buffers $'call: AllocError\nagain made\n' $'call: made\nagain made\n'
 
-for members in 0 32; do
+for members in 0 32 64; do
   after="$((members + 1)) members"$'\n'
-  each "insert new $members" \
-    "call: AllocError, key and value as before, map as before, then inserted, $after" \
+  for call in insert insert_hashed; do
+    each "insert $call $members" \
+      "call: AllocError, key and value as before, map as before, then inserted, $after" \
+      "call: inserted, $after"
+  done
+  each "insert get_or_insert $members" "call: AllocError, map as before, then inserted, $after" \
     "call: inserted, $after"
 done
+for call in insert insert_hashed get_or_insert; do
+  free "present $call 32" $'call: was there, value as before, 32 members\n'
+  free "present $call 64" $'call: was there, value as before, 64 members\n'
+done
 each capacity $'call: AllocError\nagain made\n' $'call: made\nagain made\n'
-free 'insert present' $'call: replaced, value as before, 32 members\n'
 free room $'call: filled, 32 members\n'
 free 'map reads' $'call: found, 32 members\n'
 

@@ -4,7 +4,8 @@
 //! Run `rt run -- ROUNDS` in this folder; without words it does nothing. Each line has the best of
 //! so many rounds, in tenths of a nanosecond a call, by the thread's own clock. The keys are looked
 //! up in an order without a pattern; `the order alone` is what a bench without a map takes, and
-//! each look-up's time has it in it. Keys are of 12 bytes, and differ in their last digits alone.
+//! each look-up's time has it in it. Keys are of 13 bytes and differ in their last digits alone, which
+//! the fixed hash spreads badly: 1,000 of them stand in 352 of 1,024 buckets.
 #![tactic(auto)]
 
 ghost use Rattle.std.specs.Prelude.{◌≡◌, string_bytes};
@@ -27,7 +28,7 @@ pub struct Known {
     ghost hashed: { hash ≡ hash_of_text (string_bytes text) },
 }
 
-/// Texts of 12 bytes, `members` of them, or as many that are in no map.
+/// Texts of 13 bytes, `members` of them, or as many that are in no map.
 fn texts_of(alloc: Global, members: usize, sign: &str) -> io::Result<Vec<Known>> {
     let mut texts = Vec::new(alloc);
     for i in 0..members {

@@ -2,8 +2,8 @@
 //! stands, and where the call was refused makes it again. It is run with each request for memory of
 //! that call refused in turn, which `tools/refusals.sh` does; its words name the call:
 //!
-//!     refusals read CALL TEXT | buffers | insert new MEMBERS | insert present | capacity | room
-//!     refusals map reads | write CALL GENERATOR | tape new | tape reads | session
+//!     refusals read CALL TEXT | buffers | insert CALL MEMBERS | present CALL MEMBERS | capacity
+//!     refusals room | map reads | write CALL GENERATOR | tape new | tape reads | session
 //!
 //! The statuses: 0 told; 2 usage; 4 out of memory where the call was not yet made, or again; 5
 //! output failed.
@@ -38,6 +38,7 @@ fn run(rt: &(impl Env + Print + AllocGlobal)) -> Result<(), Fault> {
         "read" => readings::read(rt, second, third),
         "buffers" => readings::buffers(rt),
         "insert" => maps::insert(rt, second, third),
+        "present" => maps::insert_present(rt, second, third),
         "capacity" => maps::with_capacity(rt),
         "room" => maps::fill_room(rt),
         "map" => maps::reads(rt),

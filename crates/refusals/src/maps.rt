@@ -1,8 +1,12 @@
 //! Calls on maps, whose members are `k00` with 0, `k01` with 1 and so on.
 
+ghost use Rattle.std.specs.Prelude.{◌≡◌, ◌<◌, string_bytes};
+ghost use Rattle.sj_text_core.specs.Hash.{hash as hash_of_text};
+
 use crate::fault::Fault;
 use crate::say::{say, say_call, say_kept, say_made};
-use sj_object::{HashMap, ObjectHasher};
+use sj_object::{HashMap, KeyHasher, ObjectHasher};
+use sj_text_core::Refused;
 use std::alloc::{AllocError, Global};
 
 type Numbers = HashMap<String, u64, ObjectHasher>;
@@ -29,9 +33,13 @@ fn numbered(alloc: Global, members: u64) -> Result<Numbers, Fault> {
     Ok(map)
 }
 
-/// How many buckets a map has that grew to so many members, and not past 64.
+/// How many buckets a map has that grew to so many members, and not past 128.
 fn buckets_at(members: usize) -> Option<usize> {
-    if members > 32 { Some(64) } else { None }
+    match members {
+        0..=32 => None,
+        33..=64 => Some(64),
+        _ => Some(128),
+    }
 }
 
 /// Whether the map has these keys in order, each with its place for its value, and so many
@@ -51,62 +59,144 @@ fn is_numbered(map: &Numbers, keys: &[String], buckets: Option<usize>) -> bool {
     place == keys.len() && map.len() == place && map.buckets() == buckets
 }
 
-/// Inserts a new key behind so many members, or one that is there.
-pub fn insert(rt: &(impl Print + AllocGlobal), key: &str, members: &str) -> Result<(), Fault> {
-    match (key, members.parse::<u8>()) {
-        ("new", Ok(members)) => insert_new(rt, members),
-        ("present", Err(_)) => insert_present(rt),
+/// A call that inserts.
+#[derive(Clone, Copy)]
+enum Call {
+    Insert,
+    Hashed,
+    OrInsert,
+}
+
+impl Call {
+    fn named(name: &str) -> Option<Call> {
+        match name {
+            "insert" => Some(Call::Insert),
+            "insert_hashed" => Some(Call::Hashed),
+            "get_or_insert" => Some(Call::OrInsert),
+            _ => None,
+        }
+    }
+}
+
+/// What a call that inserts answered.
+#[derive(Drop)]
+enum Answer {
+    Inserted,
+    /// The value that was there.
+    There(u64),
+    /// What came back.
+    Refused(Option<(String, u64)>),
+    /// A refusal, after the value was made.
+    Made,
+}
+
+fn answer_of(answer: Result<Option<u64>, Refused<AllocError, (String, u64)>>) -> Answer {
+    match answer {
+        Ok(None) => Answer::Inserted,
+        Ok(Some(before)) => Answer::There(before),
+        Err(refused) => Answer::Refused(Some(refused.value)),
+    }
+}
+
+fn get_or_insert(map: &mut Numbers, hash: u64, key: String, value: u64) -> Answer
+    requires { hash ≡ hash_of_text (string_bytes key) }
+{
+    let mut is_made = false;
+    let found = match map.get_or_insert_hashed_with(hash, key, || {
+        is_made = true;
+        value
+    }) {
+        Ok(found) => Some(*found),
+        Err(_) => None,
+    };
+    match found {
+        Some(_) if is_made => Answer::Inserted,
+        Some(before) => Answer::There(before),
+        None if is_made => Answer::Made,
+        None => Answer::Refused(None),
+    }
+}
+
+fn insert_by(call: Call, map: &mut Numbers, key: String, value: u64) -> Answer {
+    let hash = ObjectHasher::default().hash_text(key.as_str());
+    match call {
+        Call::Insert => answer_of(map.insert(key, value)),
+        Call::Hashed => answer_of(map.insert_hashed(hash, key, value)),
+        Call::OrInsert => get_or_insert(map, hash, key, value),
+    }
+}
+
+/// Inserts a new key behind so many members.
+pub fn insert(rt: &(impl Print + AllocGlobal), call: &str, members: &str) -> Result<(), Fault> {
+    match (Call::named(call), members.parse::<u8>()) {
+        (Some(call), Ok(members)) => insert_new(rt, call, u64::from(members)),
         _ => Err(Fault::Usage),
     }
 }
 
-fn insert_new(rt: &(impl Print + AllocGlobal), members: u8) -> Result<(), Fault> {
+fn insert_new(rt: &(impl Print + AllocGlobal), call: Call, members: u64) -> Result<(), Fault>
+    requires { members < 256 }
+{
     let alloc = rt.alloc();
-    let members = u64::from(members);
     let mut map = numbered(alloc, members)?;
     let before = keys_of(alloc, members)?;
     let after = keys_of(alloc, members + 1)?;
     let key = key_of(alloc, members)?;
     say_call(rt)?;
-    match map.insert(key, members) {
-        Ok(_) => say(rt, "inserted, ")?,
-        Err(refused) => {
+    match insert_by(call, &mut map, key, members) {
+        Answer::Inserted => say(rt, "inserted, ")?,
+        Answer::There(_) => say(rt, "FOUND, ")?,
+        Answer::Made => say(rt, "VALUE MADE, ")?,
+        Answer::Refused(given) => {
             say(rt, "AllocError, ")?;
-            let (key, value) = refused.value;
-            let is_key = after
-                .last()
-                .is_some_and(|last| last.as_str() == key.as_str());
-            say_kept(rt, "key and value", is_key && value == members)?;
+            if let Some((key, value)) = given {
+                let is_key = after
+                    .last()
+                    .is_some_and(|last| last.as_str() == key.as_str());
+                say_kept(rt, "key and value", is_key && value == members)?;
+            }
             say_kept(
                 rt,
                 "map",
                 is_numbered(&map, &before, buckets_at(before.len())),
             )?;
-            if map.insert(key, value).is_err() {
-                return Err(Fault::OutOfMemory);
+            match insert_by(call, &mut map, key_of(alloc, members)?, members) {
+                Answer::Inserted => say(rt, "then inserted, ")?,
+                _ => say(rt, "then NOT INSERTED, ")?,
             }
-            say(rt, "then inserted, ")?;
         }
     }
     tell_map(rt, &map, &after, buckets_at(after.len()))
 }
 
-fn insert_present(rt: &(impl Print + AllocGlobal)) -> Result<(), Fault> {
+/// Inserts a key that is there among so many members.
+pub fn insert_present(
+    rt: &(impl Print + AllocGlobal),
+    call: &str,
+    members: &str,
+) -> Result<(), Fault> {
     let alloc = rt.alloc();
-    let mut map = numbered(alloc, 32)?;
-    let keys = keys_of(alloc, 32)?;
+    let (Some(call), Ok(members)) = (Call::named(call), members.parse::<u8>()) else {
+        return Err(Fault::Usage);
+    };
+    let mut map = numbered(alloc, u64::from(members))?;
+    let keys = keys_of(alloc, u64::from(members))?;
     let key = key_of(alloc, 5)?;
     say_call(rt)?;
-    match map.insert(key, 99) {
-        Ok(Some(5)) => say(rt, "replaced, ")?,
-        Ok(_) => say(rt, "ANOTHER VALUE, ")?,
-        Err(_) => say(rt, "REFUSED, ")?,
+    match insert_by(call, &mut map, key, 99) {
+        Answer::There(5) => say(rt, "was there, ")?,
+        _ => say(rt, "ANOTHER ANSWER, ")?,
     }
     if let Some(value) = map.get_mut("k05") {
-        say_kept(rt, "value", *value == 99)?;
+        let wanted = if matches!(call, Call::OrInsert) {
+            5
+        } else {
+            99
+        };
+        say_kept(rt, "value", *value == wanted)?;
         *value = 5;
     }
-    tell_map(rt, &map, &keys, None)
+    tell_map(rt, &map, &keys, buckets_at(keys.len()))
 }
 
 /// Tells how many members the map has, if they are as they should be.
@@ -159,6 +249,10 @@ pub fn reads(rt: &(impl Print + AllocGlobal)) -> Result<(), Fault> {
     say_call(rt)?;
     let found = map.get("k07").copied() == Some(7)
         && map.get("k33").is_none()
+        && map
+            .get_hashed(ObjectHasher::default().hash_text("k32"), "k32")
+            .copied()
+            == Some(32)
         && map.contains_key("k31")
         && map.keys().count() == 33
         && map.values().count() == 33

@@ -1,11 +1,10 @@
 -- Items and members as lists.
 use Rattle.std.proofs.Common.{◌≡◌, ℕ, List, [], ◌∷◌, map, length, refl, ap, suc, IsTrue, ◌↔◌, nat_eq, true≢false, sym, ◌∙◌}
 use Rattle.std.proofs.Math.Dec.{eqb-suc-zero}
-use Rattle.sj_text_core.specs.Tree.{Tree, Items, no_items, item, items_from, items_len, members_len, Members, no_members, member}
+use Rattle.sj_text_core.specs.Tree.{Tree, Items, no_items, item, items_from, items_len, members_len, Members, no_members, member, listed, paired}
 use Rattle.sj_text_core.specs.declared.repeats.Repeats.{Repeats}
 use Rattle.sj_text_core.specs.declared.repeats.Repeats.TheVariants.{First}
 use Rattle.sj_tape.specs.Members.{chosen}
-use Rattle.sj_tape.specs.Parts.{listed, paired}
 use Rattle.sj_object.specs.Entries.{Entry, entries_of, texts, keys, values}
 use Rattle.sj_object.specs.Members.{entry_members}
 

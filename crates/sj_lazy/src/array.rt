@@ -2,8 +2,7 @@
 
 ghost use Rattle.std.specs.Prelude.{◌≡◌, ◌↔◌, IsTrue, IfSome, option_map, map};
 ghost use Rattle.sj_text_core.specs.Find.{nth_item};
-ghost use Rattle.sj_text_core.specs.Tree.{items_len, no_items};
-ghost use Rattle.sj_tape.specs.Parts.{listed};
+ghost use Rattle.sj_text_core.specs.Tree.{items_len, no_items, listed};
 
 use crate::value::{Lazy, Shared, Value, of_lent, of_tape};
 use sj_document::BorrowedValue;

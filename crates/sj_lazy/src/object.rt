@@ -5,8 +5,7 @@ ghost use Rattle.std.specs.Cow.{cow_str_bytes};
 ghost use Rattle.sj_object.specs.Entries.{texts};
 ghost use Rattle.sj_text_core.specs.Repeats.{find_member_by};
 ghost use Rattle.sj_tape.specs.Members.{chosen};
-ghost use Rattle.sj_text_core.specs.Tree.{Tree, members_len, no_members};
-ghost use Rattle.sj_tape.specs.Parts.{paired};
+ghost use Rattle.sj_text_core.specs.Tree.{Tree, members_len, no_members, paired};
 
 use crate::value::{Lazy, Shared, Value, of_lent, of_tape};
 use sj_document::{BorrowedValue, Object as Map};

@@ -13,7 +13,7 @@ use Rattle.sj_text_core.specs.declared.repeats.Repeats.{Repeats}
 use Rattle.sj_text_core.specs.declared.repeats.Repeats.TheVariants.{First, Last}
 use Rattle.sj_tape.specs.Marks.{static_mark}
 use Rattle.sj_text_core.specs.Scalars.{static_tree}
-use Rattle.sj_text_core.specs.Flat.{paired, trees_of-flat, trees_of-flat_members}
+use Rattle.sj_text_core.specs.Flat.{texts_and_values, trees_of-flat, trees_of-flat_members}
 use Rattle.sj_text_core.specs.declared.static_node.StaticNode.{StaticNode}
 use Rattle.sj_text_core.specs.declared.static_node.StaticNode.TheVariants as scalar
 use Rattle.sj_object.specs.Entries.{Entry, texts}
@@ -21,7 +21,7 @@ use Rattle.sj_object.specs.Edits as edits
 use Rattle.sj_object.specs.Members.{entry_members}
 use Rattle.sj_object.specs.declared.build.Part.TheVariants as part
 use Rattle.sj_object.specs.declared.build.Part.{Part}
-use Rattle.sj_object.specs.Piles.{Seen, word, whole, seen, tree_seen, part_seen, part_built, pile_onto, pile, pairs_seen, HasPairs, HasWord, keys_of, kept, kept_by, put_pair, in_turn, shown, Needs, grown}
+use Rattle.sj_object.specs.Piles.{Seen, word, whole, seen, tree_seen, part_seen, part_built, pile_onto, pile, pairs_seen, HasPairs, HasWord, pair_texts, kept, kept_by, put_pair, in_turn, shown, Needs, grown}
 
 -- ---- one part more, or less
 
@@ -97,9 +97,9 @@ or_nil : (a : Bool) → a || false ≡ a
 or_nil true = refl
 or_nil false = refl
 
-has_last : (k : List ℕ) (ps : List (List ℕ × Tree)) (l : List ℕ) (t : Tree) → is_seen k (keys_of (ps ++ (l, t) ∷ [])) ≡ bytes_eq k l || is_seen k (keys_of ps)
+has_last : (k : List ℕ) (ps : List (List ℕ × Tree)) (l : List ℕ) (t : Tree) → is_seen k (pair_texts (ps ++ (l, t) ∷ [])) ≡ bytes_eq k l || is_seen k (pair_texts ps)
 has_last k [] l t = refl
-has_last k (p ∷ ps) l t = ap (λ b. bytes_eq k p.0 || b) (has_last k ps l t) ∙ or_swap (bytes_eq k p.0) (bytes_eq k l) (is_seen k (keys_of ps))
+has_last k (p ∷ ps) l t = ap (λ b. bytes_eq k p.0 || b) (has_last k ps l t) ∙ or_swap (bytes_eq k p.0) (bytes_eq k l) (is_seen k (pair_texts ps))
 
 abbrev join : List (List ℕ × Tree) → Members → Members
 join [] ms = ms
@@ -156,7 +156,7 @@ abbrev pub kept_seen : Repeats → List Tree → List Seen
 kept_seen c ts = map (seen_by c) ts
 
 abbrev Agree : List (List ℕ × Tree) → List (List ℕ) → Type 0
-Agree done ks = (k : List ℕ) → is_seen k (keys_of done) ≡ is_seen k ks
+Agree done ks = (k : List ℕ) → is_seen k (pair_texts done) ≡ is_seen k ks
 
 agree_more : (done : List (List ℕ × Tree)) (ks : List (List ℕ)) (l : List ℕ) (t : Tree) → Agree done ks → Agree (done ++ (l, t) ∷ []) (l ∷ ks)
 agree_more done ks l t a = λ k. has_last k done l t ∙ ap (λ b. bytes_eq k l || b) (a k)
@@ -181,8 +181,8 @@ keeps_first (suc n) (list is ∷ ts) done ks h a = absurd h
 keeps_first (suc n) (obj ms ∷ ts) done ks h a = absurd h
 keeps_first (suc n) (text s ∷ []) done ks h a = absurd h
 keeps_first (suc n) (text s ∷ t ∷ ts) done ks h a =
-    ap (λ u. members_from (kept (if is_seen s (keys_of done) then done else done ++ (s, u) ∷ []) (pairs_seen n (kept_seen First ts)))) (seen_kept First t)
-    ∙ choose (is_seen s (keys_of done)) (is_seen s ks) (a s) s (keep t) done (pairs_seen n (kept_seen First ts)) _ _
+    ap (λ u. members_from (kept (if is_seen s (pair_texts done) then done else done ++ (s, u) ∷ []) (pairs_seen n (kept_seen First ts)))) (seen_kept First t)
+    ∙ choose (is_seen s (pair_texts done)) (is_seen s ks) (a s) s (keep t) done (pairs_seen n (kept_seen First ts)) _ _
     (keeps_first n ts done ks h a)
     (keeps_first n ts (done ++ (s, keep t) ∷ []) (s ∷ ks) h (agree_more done ks s (keep t) a))
 
@@ -276,7 +276,7 @@ enough : (c : Repeats) (is : Items) (ts : List Tree) → items_len is ≤ length
 enough c no_items ts = omega arith
 enough c (item t is) ts = omega (arith, enough c is ts)
 
-paired_up : (c : Repeats) (ms : Members) (ts : List Tree) → HasPairs (members_len ms) (kept_seen c (paired ms ++ ts))
+paired_up : (c : Repeats) (ms : Members) (ts : List Tree) → HasPairs (members_len ms) (kept_seen c (texts_and_values ms ++ ts))
 paired_up c no_members ts = tt
 paired_up c (member k t ms) ts = paired_up c ms ts
 
@@ -343,7 +343,7 @@ last_part c tree ns h ps qs p is pop =
 
 -- ---- a member of a map
 
-keys_shown : {K V : Type 0} (tree : V → Tree) (k : List ℕ) (es : List (Entry K V)) → is_seen k (keys_of (shown tree es)) ≡ is_seen k (texts es)
+keys_shown : {K V : Type 0} (tree : V → Tree) (k : List ℕ) (es : List (Entry K V)) → is_seen k (pair_texts (shown tree es)) ≡ is_seen k (texts es)
 keys_shown tree k [] = refl
 keys_shown tree k (e ∷ es) = ap (λ b. bytes_eq k e.0.1 || b) (keys_shown tree k es)
 

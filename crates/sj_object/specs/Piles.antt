@@ -63,13 +63,13 @@ HasWord [] = ⊥
 HasWord (word k ∷ ps) = ⊤
 HasWord (whole t ∷ ps) = ⊥
 
-abbrev pub keys_of : List (List ℕ × Tree) → List (List ℕ)
-keys_of ps = map (λ p. p.0) ps
+abbrev pub pair_texts : List (List ℕ × Tree) → List (List ℕ)
+pair_texts ps = map (λ p. p.0) ps
 
 -- the pairs put behind those that are done, unless their text is there
 abbrev pub kept : List (List ℕ × Tree) → List (List ℕ × Tree) → List (List ℕ × Tree)
 kept done [] = done
-kept done (p ∷ ps) = kept (if is_seen p.0 (keys_of done) then done else done ++ p ∷ []) ps
+kept done (p ∷ ps) = kept (if is_seen p.0 (pair_texts done) then done else done ++ p ∷ []) ps
 
 -- the first pair with the text has the value t, in its place; where there is none, the pair goes last
 abbrev pub put_pair : List ℕ → Tree → List (List ℕ × Tree) → List (List ℕ × Tree)

@@ -1,5 +1,8 @@
 //! Prints through a formatter.
 
+ghost use Rattle.std.specs.Fmt.{WritesOnOk};
+ghost use Rattle.sj_text_core.specs.Print.{compact};
+
 use crate::layout::Layout;
 use crate::output::Output;
 use crate::parts::Parts;
@@ -14,9 +17,15 @@ struct Shown<'f, W> {
 }
 
 impl<'f, W: fmt::Write> Output for Shown<'f, W> {
-    ghost Start = { Unit {0} };
+    ghost use Rattle.std.specs.Prelude.{◌≡◌, IsOk};
+    ghost use Rattle.std.specs.Borrow.{GName};
+    ghost use Rattle.std.specs.Fmt.{IsPlainFormatter, HasWritten};
+    ghost use Rattle.std.specs.declared.fmt.Formatter.{Formatter};
 
-    ghost holds = { λ _ _ _. Unit {0} };
+    // whose text it is, and the formatter before
+    ghost Start = { GName × Formatter W };
+
+    ghost holds = { λ start s b. (s.formatter.ghost_name ≡ start.0) × (IsPlainFormatter start.1 → IsOk s.result → HasWritten W.write_str_gives start.1 b s.formatter.now) };
 
     fn put_bytes(&mut self, bytes: &[u8]) {
         if self.result.is_ok() {
@@ -27,19 +36,16 @@ impl<'f, W: fmt::Write> Output for Shown<'f, W> {
         }
     }
 
-    fn put_line(&mut self, spaces: usize) {
-        self.put_bytes(b"\n");
-        for _ in 0..spaces {
-            self.put_bytes(b" ");
-        }
+    // A compact print has no lines.
+    fn put_line(&mut self, _spaces: usize) {
+        self.result = Err(fmt::Error);
     }
 }
 
 /// Writes the value's compact print to the formatter, up to its first fault.
-pub fn display<P: Parts, W: fmt::Write>(
-    value: &P,
-    formatter: &mut fmt::Formatter<W>,
-) -> fmt::Result {
+pub fn display<P: Parts, W: fmt::Write>(value: &P, formatter: &mut fmt::Formatter<W>) -> fmt::Result
+    ensures { WritesOnOk W.write_str_gives formatter.old result (compact (P.tree_of value.now)) formatter.new }
+{
     let mut shown = Shown {
         formatter,
         result: Ok(()),

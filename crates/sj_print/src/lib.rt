@@ -1,5 +1,23 @@
-//! Prints: generators, which callers write through call by call, and one walk that prints every type
-//! of value that can be taken apart level by level, with its exact length asked for first.
+//! Prints of JSON texts.
+//!
+//! Generators are written through call by call, compact or pretty, into bytes of their own or at
+//! the end of a list of bytes. A call appends exactly the bytes that it names; where memory is
+//! refused it leaves what was written.
+//!
+//! ```
+//! let mut dump = DumpGenerator::new(alloc);
+//! dump.write("[")?;
+//! dump.write_string("a\n")?;
+//! dump.write_min(", ", ",")?;
+//! dump.write_static(StaticNode::I64(-1))?;
+//! dump.write("]")?;
+//! dump.consume() // ["a\n",-1]
+//! ```
+//!
+//! `write` and `encode` print any value that can be taken apart level by level (`Parts`), by one
+//! walk: once for the exact length, which is asked for at once, and once for the bytes.
+//!
+//! Both put a text between quotes by one loop, which copies runs of plain bytes.
 #![tactic(auto)]
 
 mod formatter;

@@ -3,10 +3,9 @@ use Rattle.std.proofs.Common.{◌≡◌, ℕ, ◌≤◌, ◌+◌, max, Bool, tru
 use Rattle.std.specs.List.{list_any, position, position_from}
 use Rattle.std.proofs.lemmas.Iterator.Adapters.{position_from-zero}
 use Rattle.std.proofs.lemmas.List.{append-nil}
-use Rattle.sj_text_core.specs.Tree.{Tree, null, boolean, int, text, list, obj, Items, no_items, item, Members, no_members, member, items_from, members_from, depth, items_depth, members_depth}
+use Rattle.sj_text_core.specs.Tree.{Tree, null, boolean, int, text, list, obj, Items, no_items, item, Members, no_members, member, items_from, members_from, depth, items_depth, members_depth, listed}
 use Rattle.sj_text_core.specs.Keep.{is_seen, keep, keep_items, keep_members}
 use Rattle.sj_text_core.specs.Reads.{as_members}
-use Rattle.sj_tape.specs.Parts.{listed}
 use Rattle.sj_run.specs.Document.{document_tree, items_tree, members_tree}
 use Rattle.sj_run.specs.declared.document.Document.{Document}
 

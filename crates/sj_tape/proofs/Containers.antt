@@ -9,12 +9,12 @@ use Rattle.sj_text_core.specs.declared.static_node.StaticNode.TheVariants.{Null}
 use Rattle.sj_tape.specs.declared.node.Node.{Node}
 use Rattle.sj_tape.specs.declared.node.Node.TheVariants.{Static, Array, Object}
 use Rattle.sj_tape.specs.Marks.{mark, marks}
-use Rattle.sj_tape.specs.Parts.{items_in, AreItems}
-use Rattle.sj_tape.proofs.Splits.{items_in-flat, members_in-flat, AreItems-flat, AreMembers-flat}
+use Rattle.sj_tape.specs.Parts.{items_in, AreItemNodes}
+use Rattle.sj_tape.proofs.Splits.{items_in-flat, members_in-flat, AreItemNodes-flat, AreMembers-flat}
 
 -- what stands behind an array's node
 pub record ArrayOf (ns rest : List Mark) (len : ℕ) : Type 0 where
-  pub are : AreItems rest
+  pub are : AreItemNodes rest
   pub counted : len ≡ items_len (items_in rest)
   pub items : Some (items_in rest) ≡ as_items (tree_of ns)
 
@@ -30,7 +30,7 @@ array_of ns rest len count p e r = cases (tree_of ns) refl
         let same : items_in rest ≡ is = ap (λ l. items_in l) are ∙ items_in-flat is in
         let counted : len ≡ items_len is = cc in
         record {
-          are = AreItems-flat is rest are;
+          are = AreItemNodes-flat is rest are;
           counted = counted ∙ ap (λ l. items_len l) (sym same);
           items = ap (λ l. Some l) same ∙ ap (λ t. as_items t) (sym f);
         }

@@ -2,7 +2,7 @@
 use Rattle.std.proofs.Common.{◌≡◌, ℕ, zero, suc, ◌≤◌, arith, Bool, true, false, ◌||◌, List, [], ◌∷◌, map, drop, Option, Some, None, option_map, if◌then◌else◌, bytes_eq, refl, sym, ap, ◌∙◌, subst, true≢false}
 use Rattle.std.specs.Option.{option_or}
 use Rattle.std.proofs.lemmas.Slice.Eq.{bytes_eq-Decides}
-use Rattle.sj_text_core.specs.Tree.{Tree, null, boolean, int, text, list, obj, Items, no_items, item, items_len, items_from, Members, no_members, member}
+use Rattle.sj_text_core.specs.Tree.{Tree, null, boolean, int, text, list, obj, Items, no_items, item, items_len, items_from, Members, no_members, member, listed, paired}
 use Rattle.sj_text_core.specs.Find.{find_member}
 use Rattle.sj_text_core.specs.Reads.{as_items, as_members}
 use Rattle.sj_text_core.specs.Keep.{is_seen}
@@ -15,7 +15,6 @@ use Rattle.sj_text_core.proofs.Equality.{found_from_at, at_from_found}
 use Rattle.sj_text_core.proofs.Last.{find-keep_last}
 use Rattle.sj_tape.proofs.Compared.{same_items_len}
 use Rattle.sj_tape.specs.Members.{chosen}
-use Rattle.sj_tape.specs.Parts.{listed, paired}
 
 -- one item of each, and those behind
 pub items_taken : (ts us rest more : List Tree) (t u : Tree) → ts ≡ t ∷ rest → us ≡ u ∷ more → SameItems (items_from ts) (items_from us) → Same t u × SameItems (items_from rest) (items_from more)

@@ -1,8 +1,7 @@
 -- The first level of a part of a tape.
 use Rattle.std.proofs.Common.{◌≡◌, Some, refl, ap}
-use Rattle.sj_text_core.specs.Tree.{Tree, null, boolean, int, text, list, obj, Items, no_items, item, Members, items_from}
+use Rattle.sj_text_core.specs.Tree.{Tree, null, boolean, int, text, list, obj, Items, no_items, item, Members, items_from, listed}
 use Rattle.sj_text_core.specs.Reads.{as_items, as_members}
-use Rattle.sj_tape.specs.Parts.{listed}
 
 pub items_from-listed : (is : Items) → items_from (listed is) ≡ is
 items_from-listed no_items = refl

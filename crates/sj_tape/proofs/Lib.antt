@@ -1,3 +1,4 @@
+pub mod rows
 pub mod Blanks
 pub mod Bytewise
 pub mod Chosen

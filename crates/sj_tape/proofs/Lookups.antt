@@ -1,14 +1,13 @@
 -- Lookups among the members of an object with a choice.
 use Rattle.std.proofs.Common.{◌≡◌, ℕ, zero, suc, ◌+◌, Bool, true, false, List, [], ◌∷◌, map, length, slice_get, Option, Some, None, option_map, if◌then◌else◌, bytes_eq, refl, ap, ◌∙◌}
 use Rattle.std.specs.Option.{option_or}
-use Rattle.sj_text_core.specs.Tree.{Tree, Members, no_members, member, members_len}
+use Rattle.sj_text_core.specs.Tree.{Tree, Members, no_members, member, members_len, paired}
 use Rattle.sj_text_core.specs.Find.{find_member}
 use Rattle.sj_text_core.specs.Repeats.{find_last_member, find_member_by, visited, visited_by}
 use Rattle.sj_text_core.specs.declared.repeats.Repeats.TheVariants.{First, Last}
 use Rattle.sj_text_core.specs.declared.repeats.Repeats.{Repeats}
 use Rattle.sj_tape.specs.Lookup.{first_value, last_value, compared}
 use Rattle.sj_tape.specs.Members.{chosen}
-use Rattle.sj_tape.specs.Parts.{paired}
 use Rattle.sj_tape.specs.Value.{tree, choice, part}
 use Rattle.sj_tape.specs.declared.value.Value.{Value}
 use Rattle.std.specs.Option.{IfSome, unwrap_or}

@@ -2,9 +2,9 @@
 use Rattle.std.proofs.Common.{◌≡◌, ℕ, zero, suc, ◌+◌, ◌<◌, ◌≤◌, List, [], ◌∷◌, ◌++◌, length, take, drop, Bor, get_or, refl, sym, ap, ◌∙◌, arith, append-nil, length-append}
 use Rattle.std.proofs.lemmas.List.{length-map, take_at, take-map, append_cancel_left}
 use Rattle.std.proofs.Math.ListN.{get_or-map}
-use Rattle.sj_text_core.specs.Tree.{Tree, null, boolean, int, text, list, obj, Items, no_items, item, items_len, Members, no_members, member, members_len, members_from}
+use Rattle.sj_text_core.specs.Tree.{Tree, null, boolean, int, text, list, obj, Items, no_items, item, items_len, Members, no_members, member, members_len, members_from, listed, paired}
 use Rattle.sj_text_core.specs.Nodes.{Mark, string, flat, flat_items, flat_members, trees_of, tree_of, first_tree, items_of, members_of, members_in, AreMembers, IsPreorder, width}
-use Rattle.sj_text_core.specs.Flat.{paired as texts_before, trees_of-flat, trees_of-flat_members}
+use Rattle.sj_text_core.specs.Flat.{texts_and_values, trees_of-flat, trees_of-flat_members}
 use Rattle.std.specs.Prelude.{slice_get}
 use Rattle.sj_text_core.specs.Find.{nth_item}
 use Rattle.sj_text_core.specs.Code.{tree_of-flat}
@@ -13,7 +13,7 @@ use Rattle.sj_tape.specs.declared.node.Node.TheVariants.{Static, String, Array, 
 use Rattle.sj_text_core.specs.declared.static_node.StaticNode.TheVariants.{Null, Bool, I64, U64, I128, U128}
 use Rattle.sj_tape.specs.Marks.{mark, marks}
 use Rattle.sj_tape.specs.Fronts.{BeginsTree}
-use Rattle.sj_tape.specs.Parts.{items_in, AreItems, listed, paired}
+use Rattle.sj_tape.specs.Parts.{items_in, AreItemNodes}
 
 -- the first tree of nodes, and what stands behind it, are theirs alone
 pub flat-append : (t u : Tree) (x y : List Mark) → flat t ++ x ≡ flat u ++ y → (t ≡ u) × (x ≡ y)
@@ -82,7 +82,7 @@ pub items_in-flat : (is : Items) → items_in (flat_items is) ≡ is
 items_in-flat is =
     ap (λ l. items_of (length (flat_items is)) l) (trees_of-flat_items is) ∙ items_of-listed is (length (flat_items is)) (items_len-le is)
 
-members_of-texts : (ms : Members) (n : ℕ) → members_len ms ≤ n → members_of n (texts_before ms) ≡ ms
+members_of-texts : (ms : Members) (n : ℕ) → members_len ms ≤ n → members_of n (texts_and_values ms) ≡ ms
 members_of-texts no_members zero h = refl
 members_of-texts no_members (suc n) h = refl
 members_of-texts (member k t ms) zero h = absurd (omega (arith, h))
@@ -95,8 +95,8 @@ members_len-le (member k t ms) = omega (arith, members_len-le ms, length-append 
 -- members have their nodes alone
 pub members_in-flat : (ms : Members) → members_in (flat_members ms) ≡ ms
 members_in-flat ms =
-    let e : trees_of (flat_members ms) ≡ texts_before ms =
-    ap (λ l. trees_of l) (sym (append-nil (flat_members ms))) ∙ (trees_of-flat_members ms [] ∙ append-nil (texts_before ms)) in
+    let e : trees_of (flat_members ms) ≡ texts_and_values ms =
+    ap (λ l. trees_of l) (sym (append-nil (flat_members ms))) ∙ (trees_of-flat_members ms [] ∙ append-nil (texts_and_values ms)) in
     ap (λ l. members_of (length (flat_members ms)) l) e ∙ members_of-texts ms (length (flat_members ms)) (members_len-le ms)
 
 -- the first of some items
@@ -106,32 +106,32 @@ pub record FirstItem (ns : List Mark) : Type 0 where
   pub are : ns ≡ flat tree ++ flat_items others
   pub items : items_in ns ≡ item tree others
 
-pub first_item : (ns : List Mark) → AreItems ns → 0 < length ns → FirstItem ns
+pub first_item : (ns : List Mark) → AreItemNodes ns → 0 < length ns → FirstItem ns
 first_item ns a h = cases (items_in ns) a refl
   where
     cases : (is : Items) → ns ≡ flat_items is → items_in ns ≡ is → FirstItem ns
     cases no_items e f = absurd (omega (arith, h, ap (λ (l : List Mark). length l) e))
     cases (item t is) e f = record { tree = t; others = is; are = e; items = f }
 
-pub AreItems-flat : (is : Items) (ns : List Mark) → ns ≡ flat_items is → AreItems ns
-AreItems-flat is ns e = e ∙ (ap (λ l. flat_items l) (sym (items_in-flat is)) ∙ ap (λ l. flat_items (items_in l)) (sym e))
+pub AreItemNodes-flat : (is : Items) (ns : List Mark) → ns ≡ flat_items is → AreItemNodes ns
+AreItemNodes-flat is ns e = e ∙ (ap (λ l. flat_items l) (sym (items_in-flat is)) ∙ ap (λ l. flat_items (items_in l)) (sym e))
 
 -- a step over the first of some items
 pub record NextItem (ns first rest : List Mark) : Type 0 where
-  pub rest_are : AreItems rest
+  pub rest_are : AreItemNodes rest
   pub items : items_in ns ≡ item (tree_of first) (items_in rest)
 
-pub next_item : (ns first rest : List Mark) → AreItems ns → 0 < length ns → IsPreorder first → ns ≡ first ++ rest → NextItem ns first rest
+pub next_item : (ns first rest : List Mark) → AreItemNodes ns → 0 < length ns → IsPreorder first → ns ≡ first ++ rest → NextItem ns first rest
 next_item ns first rest a h p e =
     let f = first_item ns a h in
     let both = flat-append (tree_of first) f.tree rest (flat_items f.others) (ap (λ l. l ++ rest) (sym p) ∙ (sym e ∙ f.are)) in
     record {
-      rest_are = AreItems-flat f.others rest both.1;
+      rest_are = AreItemNodes-flat f.others rest both.1;
       items = f.items ∙ (ap (λ t. item t f.others) (sym both.0) ∙ ap (item (tree_of first)) (sym (items_in-flat f.others) ∙ ap (λ l. items_in l) (sym both.1)));
     }
 
 -- where some items begin, a tree does
-pub BeginsTree-items : (ns : List Mark) → AreItems ns → 0 < length ns → BeginsTree ns
+pub BeginsTree-items : (ns : List Mark) → AreItemNodes ns → 0 < length ns → BeginsTree ns
 BeginsTree-items ns a h = let f = first_item ns a h in record { tree = f.tree; rest = flat_items f.others; are = f.are }
 
 -- the first of some members

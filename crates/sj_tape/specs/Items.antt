@@ -1,9 +1,9 @@
 -- What an array of a tape means.
 use Rattle.std.specs.Prelude.{List, map}
-use Rattle.sj_text_core.specs.Tree.{Tree, Items}
+use Rattle.sj_text_core.specs.Tree.{Tree, Items, listed}
 use Rattle.sj_text_core.specs.declared.repeats.Repeats.{Repeats}
 use Rattle.sj_tape.specs.Marks.{marks}
-use Rattle.sj_tape.specs.Parts.{items_in, listed}
+use Rattle.sj_tape.specs.Parts.{items_in}
 use Rattle.sj_tape.specs.declared.array.Array.{Array}
 use Rattle.sj_tape.specs.declared.array.Iter.{Iter}
 

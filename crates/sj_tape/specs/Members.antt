@@ -1,10 +1,9 @@
 -- What an object of a tape means.
 use Rattle.std.specs.Prelude.{ℕ, List, map}
-use Rattle.sj_text_core.specs.Tree.{Tree, Members}
+use Rattle.sj_text_core.specs.Tree.{Tree, Members, paired}
 use Rattle.sj_text_core.specs.Nodes.{members_in}
 use Rattle.sj_text_core.specs.declared.repeats.Repeats.{Repeats}
 use Rattle.sj_tape.specs.Marks.{marks}
-use Rattle.sj_tape.specs.Parts.{paired}
 use Rattle.sj_tape.specs.declared.object.Object.{Object}
 use Rattle.sj_tape.specs.declared.object.Iter.{Iter}
 use Rattle.sj_tape.specs.declared.object.Keys.{Keys}

@@ -33,11 +33,11 @@ as_scalar (text s) = None
 as_scalar (list is) = None
 as_scalar (obj ms) = None
 
--- the bytes that a scalar or a text is displayed as; of containers none are promised
-abbrev pub displayed : Tree → Option (List ℕ)
-displayed null = Some (compact null)
-displayed (boolean b) = Some (compact (boolean b))
-displayed (int n c) = Some (compact (int n c))
-displayed (text s) = Some s
-displayed (list is) = None
-displayed (obj ms) = None
+-- a text is displayed as it is, all else as its compact print
+abbrev pub displayed : Tree → List ℕ
+displayed null = compact null
+displayed (boolean b) = compact (boolean b)
+displayed (int n c) = compact (int n c)
+displayed (text s) = s
+displayed (list is) = compact (list is)
+displayed (obj ms) = compact (obj ms)

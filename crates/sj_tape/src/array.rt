@@ -5,7 +5,7 @@ ghost use Rattle.std.specs.Coded.{Coded-set, coded_list};
 ghost use Rattle.sj_text_core.specs.Code.{mark_code};
 ghost use Rattle.sj_text_core.specs.Tree.{items_len};
 ghost use Rattle.sj_tape.specs.Marks.{marks};
-ghost use Rattle.sj_tape.specs.Parts.{AreItems, items_in};
+ghost use Rattle.sj_tape.specs.Parts.{AreItemNodes, items_in};
 
 use crate::node::Node;
 use crate::step::split_tree;
@@ -18,22 +18,21 @@ pub struct Array<'t, 'i> {
     len: usize,
     nodes: &'t [Node<'i>],
     repeats: Repeats,
-    ghost whole: { AreItems (marks nodes.now) } by { Coded-set (coded_list mark_code) _ _ },
+    ghost whole: { AreItemNodes (marks nodes.now) } by { Coded-set (coded_list mark_code) _ _ },
     ghost counted: { len ≡ items_len (items_in (marks nodes.now)) },
 }
 
 impl<'t, 'i> Array<'t, 'i> {
     ghost use Rattle.std.specs.Prelude.{◌≡◌, ◌↔◌, IsTrue, option_map};
     ghost use Rattle.sj_text_core.specs.Find.{nth_item};
-    ghost use Rattle.sj_text_core.specs.Tree.{no_items};
+    ghost use Rattle.sj_text_core.specs.Tree.{no_items, listed};
     ghost use Rattle.std.specs.Prelude.{map, IfSome};
     ghost use Rattle.sj_tape.specs.Value.{tree, choice};
     ghost use Rattle.sj_tape.specs.Items.{items, items_ahead, parts_ahead, array_choice};
-    ghost use Rattle.sj_tape.specs.Parts.{listed};
 
     /// The array with so many items, whose nodes are these.
     pub(crate) fn from_nodes(len: usize, nodes: &'t [Node<'i>], repeats: Repeats) -> Self
-        requires whole { AreItems (marks nodes.now) }
+        requires whole { AreItemNodes (marks nodes.now) }
         requires counted { len ≡ items_len (items_in (marks nodes.now)) }
         ensures items { items result ≡ items_in (marks nodes.now) }
         ensures choice { array_choice result ≡ repeats }
@@ -84,7 +83,7 @@ impl<'t, 'i> Array<'t, 'i> {
 pub struct Iter<'t, 'i> {
     nodes: &'t [Node<'i>],
     repeats: Repeats,
-    ghost whole: { AreItems (marks nodes.now) } by { Coded-set (coded_list mark_code) _ _ },
+    ghost whole: { AreItemNodes (marks nodes.now) } by { Coded-set (coded_list mark_code) _ _ },
 }
 
 impl<'t, 'i> Iterator for Iter<'t, 'i> {

@@ -23,8 +23,8 @@ pub use sj_print::{
 };
 pub use sj_text_core::{
     AccessError, BadTape, ErrorKind, ExtendedValueType, Meaning, Refused, Repeats, SameAs,
-    SameWith, StaticNode, TryMake, TryTypeError, TypedValue, ValueAsScalar, ValueType, Writable,
-    WriteError,
+    SameWith, StaticNode, Steps, TryMake, TryTypeError, TypedValue, ValueAsScalar, ValueType,
+    Writable, WriteError,
 };
 pub use tape::Tape;
 pub use value::Value;

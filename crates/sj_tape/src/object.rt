@@ -28,9 +28,8 @@ impl<'t, 'i> Object<'t, 'i> {
     ghost use Rattle.sj_text_core.specs.Find.{find_member};
     ghost use Rattle.sj_text_core.specs.Keep.{is_seen};
     ghost use Rattle.sj_text_core.specs.Repeats.{find_member_by};
-    ghost use Rattle.sj_text_core.specs.Tree.{Tree, no_members};
+    ghost use Rattle.sj_text_core.specs.Tree.{Tree, no_members, paired};
     ghost use Rattle.sj_tape.specs.Members.{members, members_ahead, keys_ahead, values_ahead, object_choice, parts_ahead, value_parts_ahead, chosen};
-    ghost use Rattle.sj_tape.specs.Parts.{paired};
     ghost use Rattle.sj_tape.specs.Value.{tree, choice};
 
     /// The object with so many members, whose nodes are these.

@@ -1,3 +1,5 @@
 mod comparisons;
+mod prints;
 mod reader;
+mod reads;
 mod values;

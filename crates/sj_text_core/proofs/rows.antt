@@ -6,4 +6,6 @@ pub mod Sameness
 pub mod Spelling
 pub mod Limits
 pub mod Misspelled
+pub mod Structure
+pub mod Nodes
 pub mod Repeats

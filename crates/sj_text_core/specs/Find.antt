@@ -1,6 +1,6 @@
 -- Members by their texts, and items by their places.
 use Rattle.std.specs.Prelude.{ℕ, zero, suc, List, if◌then◌else◌, Option, Some, None, bytes_eq}
-use Rattle.sj_text_core.specs.Tree.{Tree, null, boolean, int, text, list, obj, Items, no_items, item, Members, no_members, member}
+use Rattle.sj_text_core.specs.Tree.{Tree, list, obj, Items, no_items, item, Members, no_members, member}
 
 -- the value of the first member with that text
 abbrev pub find_member : List ℕ → Members → Option Tree
@@ -9,12 +9,8 @@ find_member k (member l t ms) = if bytes_eq k l then Some t else find_member k m
 
 -- in an object the value of the first member with that text; else absent (section 4)
 abbrev pub find : List ℕ → Tree → Option Tree
-find k null = None
-find k (boolean b) = None
-find k (int n c) = None
-find k (text s) = None
-find k (list is) = None
 find k (obj ms) = find_member k ms
+find k _ = None
 
 -- the i-th item, counted from 0
 abbrev pub nth_item : ℕ → Items → Option Tree
@@ -24,9 +20,5 @@ nth_item (suc i) (item t is) = nth_item i is
 
 -- in a list the i-th item, counted from 0; else absent (section 5)
 abbrev pub nth : ℕ → Tree → Option Tree
-nth i null = None
-nth i (boolean b) = None
-nth i (int n c) = None
-nth i (text s) = None
 nth i (list is) = nth_item i is
-nth i (obj ms) = None
+nth i _ = None

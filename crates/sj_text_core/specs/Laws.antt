@@ -1,5 +1,5 @@
 -- What holds of the definitions themselves.
-use Rattle.std.specs.Prelude.{◌≡◌, ◌⊎◌, ℕ, List, IsUtf8, option_map}
+use Rattle.std.specs.Prelude.{◌≡◌, ◌↔◌, ◌⊎◌, ℕ, List, IsUtf8, option_map}
 use Rattle.sj_text_core.specs.Tree.{Tree, IsProper, IsWithin}
 use Rattle.sj_text_core.specs.Grammar.{Spells}
 use Rattle.sj_text_core.specs.Find.{find}
@@ -9,7 +9,7 @@ use Rattle.sj_text_core.specs.declared.repeats.Repeats.{Repeats}
 use Rattle.sj_text_core.specs.Paths.{Step, tree_at}
 use Rattle.sj_text_core.specs.Print.{compact, pretty, recarry}
 use Rattle.sj_text_core.specs.Same.{Same}
-use Rattle.sj_text_core.specs.Nodes.{flat, tree_of}
+use Rattle.sj_text_core.specs.Nodes.{Mark, flat, tree_of, IsPreorder}
 
 -- what is kept is kept, by either choice
 abbrev pub KeepsOnce : Type 0
@@ -26,6 +26,10 @@ SingleIsKept = (c : Repeats) (t : Tree) → IsSingle t → keep_by c t ≡ t
 -- a list of nodes is the preorder of at most one tree
 abbrev pub IsPreorderOfOne : Type 0
 IsPreorderOfOne = (t u : Tree) → flat t ≡ flat u → t ≡ u
+
+-- a preorder is the list of some tree's nodes
+abbrev pub PreorderIsFlat : Type 0
+PreorderIsFlat = (ns : List Mark) → IsPreorder ns ↔ ((t : Tree) × (ns ≡ flat t))
 
 -- the tree of a preorder is the tree that was listed
 abbrev pub TreeIsListed : Type 0

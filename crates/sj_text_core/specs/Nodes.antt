@@ -1,5 +1,5 @@
 -- The nodes of a tree in preorder, and the tree of such nodes.
-use Rattle.std.specs.Prelude.{◌≡◌, ℕ, zero, suc, ◌+◌, ◌*◌, ℤ, Bool, true, false, bytes_eq, List, [], ◌∷◌, ◌++◌, length, drop}
+use Rattle.std.specs.Prelude.{◌≡◌, ℕ, zero, suc, ◌+◌, ◌*◌, ℤ, Bool, List, [], ◌∷◌, ◌++◌, length, drop}
 use Rattle.sj_text_core.specs.Tree.{Carrier, Tree, null, boolean, int, text, list, obj, Items, no_items, item, Members, no_members, member, items_len, members_len}
 
 -- a node, without where its text lies
@@ -37,12 +37,8 @@ items_of (suc n) (t ∷ ts) = item t (items_of n ts)
 
 -- the text of a tree that is one
 abbrev pub key_of : Tree → List ℕ
-key_of null = []
-key_of (boolean b) = []
-key_of (int n c) = []
 key_of (text s) = s
-key_of (list is) = []
-key_of (obj ms) = []
+key_of _ = []
 
 -- the first n pairs of trees as members
 abbrev pub members_of : ℕ → List Tree → Members
@@ -89,20 +85,3 @@ width (number n c) = 1
 width (string s) = 1
 width (array len count) = 1 + count
 width (object len count) = 1 + count
-
--- a node that is this text
-abbrev pub is_key : List ℕ → Mark → Bool
-is_key k nothing = false
-is_key k (truth b) = false
-is_key k (number n c) = false
-is_key k (string s) = bytes_eq k s
-is_key k (array len count) = false
-is_key k (object len count) = false
-
-abbrev pub is_object : Mark → Bool
-is_object nothing = false
-is_object (truth b) = false
-is_object (number n c) = false
-is_object (string s) = false
-is_object (array len count) = false
-is_object (object len count) = true

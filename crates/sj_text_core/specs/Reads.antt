@@ -29,53 +29,29 @@ signed_of bits (negsuc n) = if nat_lt n (2 ^ (bits - 1)) then Some (negsuc n) el
 
 -- the number, where the tree is a whole number below 2^bits, whatever its carrier
 abbrev pub as_unsigned : ℕ → Tree → Option ℕ
-as_unsigned bits null = None
-as_unsigned bits (boolean b) = None
 as_unsigned bits (int n c) = unsigned_of bits n
-as_unsigned bits (text s) = None
-as_unsigned bits (list is) = None
-as_unsigned bits (obj ms) = None
+as_unsigned bits _ = None
 
 -- the number, where the tree is a whole number from -2^(bits-1) to 2^(bits-1)-1, whatever its carrier
 abbrev pub as_signed : ℕ → Tree → Option ℤ
-as_signed bits null = None
-as_signed bits (boolean b) = None
 as_signed bits (int n c) = signed_of bits n
-as_signed bits (text s) = None
-as_signed bits (list is) = None
-as_signed bits (obj ms) = None
+as_signed bits _ = None
 
 abbrev pub as_boolean : Tree → Option Bool
-as_boolean null = None
 as_boolean (boolean b) = Some b
-as_boolean (int n c) = None
-as_boolean (text s) = None
-as_boolean (list is) = None
-as_boolean (obj ms) = None
+as_boolean _ = None
 
 abbrev pub as_text : Tree → Option (List ℕ)
-as_text null = None
-as_text (boolean b) = None
-as_text (int n c) = None
 as_text (text s) = Some s
-as_text (list is) = None
-as_text (obj ms) = None
+as_text _ = None
 
 abbrev pub as_items : Tree → Option Items
-as_items null = None
-as_items (boolean b) = None
-as_items (int n c) = None
-as_items (text s) = None
 as_items (list is) = Some is
-as_items (obj ms) = None
+as_items _ = None
 
 abbrev pub as_members : Tree → Option Members
-as_members null = None
-as_members (boolean b) = None
-as_members (int n c) = None
-as_members (text s) = None
-as_members (list is) = None
 as_members (obj ms) = Some ms
+as_members _ = None
 
 -- a read by which a value is asked for: the number, text or part, or which kind was expected and which is there
 abbrev pub read_as : {T : Type 0} → Option T → ValueType → ValueType → Result T TryTypeError

@@ -17,12 +17,8 @@ find_last_member k (member l t ms) = option_or (find_last_member k ms) (if bytes
 
 -- in an object the value of the last member with that text; else absent
 abbrev pub find_last : List ℕ → Tree → Option Tree
-find_last k null = None
-find_last k (boolean b) = None
-find_last k (int n c) = None
-find_last k (text s) = None
-find_last k (list is) = None
 find_last k (obj ms) = find_last_member k ms
+find_last k _ = None
 
 -- the value of the member with that text that counts
 abbrev pub find_member_by : Repeats → List ℕ → Members → Option Tree
@@ -83,9 +79,5 @@ visited_by Last k ms = members_len ms
 
 -- so many in an object; none elsewhere
 abbrev pub visited_in : Repeats → List ℕ → Tree → ℕ
-visited_in c k null = 0
-visited_in c k (boolean b) = 0
-visited_in c k (int n d) = 0
-visited_in c k (text s) = 0
-visited_in c k (list is) = 0
 visited_in c k (obj ms) = visited_by c k ms
+visited_in c k _ = 0

@@ -35,6 +35,20 @@ abbrev pub members_from : List (List ℕ × Tree) → Members
 members_from [] = no_members
 members_from (p ∷ ps) = member p.0 p.1 (members_from ps)
 
+-- items and members as plain lists
+abbrev pub listed : Items → List Tree
+listed no_items = []
+listed (item t is) = t ∷ listed is
+
+abbrev pub paired : Members → List (List ℕ × Tree)
+paired no_members = []
+paired (member k t ms) = (k, t) ∷ paired ms
+
+-- the texts of members in order, repeats too
+abbrev pub keys_of : Members → List (List ℕ)
+keys_of no_members = []
+keys_of (member k t ms) = k ∷ keys_of ms
+
 -- the whole numbers of a carrier (section 6)
 abbrev pub Carries : Carrier → ℤ → Type 0
 Carries i64 n = (neg_ℤ (pos (2 ^ 63)) ≤ℤ n) × (n <ℤ pos (2 ^ 63))

@@ -1,6 +1,6 @@
 //! What holds of the definitions: each function's contract is a law, and its body is empty.
 
-ghost use Rattle.sj_text_core.specs.Laws.{KeepsOnce, KeepsSingle, SingleIsKept, IsPreorderOfOne, TreeIsListed, SpellsOne, SpellsProper, SpellsUtf8};
+ghost use Rattle.sj_text_core.specs.Laws.{KeepsOnce, KeepsSingle, SingleIsKept, IsPreorderOfOne, PreorderIsFlat, TreeIsListed, SpellsOne, SpellsProper, SpellsUtf8};
 ghost use Rattle.sj_text_core.specs.Laws.{SameAsItself, SameBothWays, SameOnwards, SameKept, SameRecarried, WithinRecarried, FindsKept, FindsKeyKept};
 ghost use Rattle.sj_text_core.specs.Laws.{CompactSpells, PrettySpells, PrintedAlike, PrintedApart, ReadsBack};
 
@@ -27,6 +27,11 @@ pub fn spells_one()
 /// A list of nodes is the preorder of at most one tree.
 pub fn preorder_of_one()
     ensures { IsPreorderOfOne }
+{}
+
+/// A list of nodes is a preorder where it is that of some tree.
+pub fn preorder_is_flat()
+    ensures { PreorderIsFlat }
 {}
 
 /// The tree that is read off a preorder is the tree that was listed.

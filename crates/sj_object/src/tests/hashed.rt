@@ -26,22 +26,41 @@ impl Drop for Length {
     }
 }
 
+/// How many buckets there are where a map has so many members and never had more.
+const BUCKETS: [(u64, Option<usize>); 6] = [
+    (1, None),
+    (32, None),
+    (33, Some(64)),
+    (64, Some(64)),
+    (65, Some(128)),
+    (129, Some(256)),
+];
+
 #[test]
 fn counts_buckets(rt: HostRuntime) -> Result<(), Fail> {
     let alloc = rt.alloc();
-    let table = [
-        (1, None),
-        (32, None),
-        (33, Some(64)),
-        (64, Some(64)),
-        (65, Some(128)),
-        (129, Some(256)),
-    ];
-    for (members, wanted) in table {
+    for (members, wanted) in BUCKETS {
         let map = numbered(alloc, members, ObjectHasher::default())?;
         assert_eq!(rt; map.buckets(), wanted, "{members}");
         let map = numbered(alloc, members, Constant)?;
         assert_eq!(rt; map.buckets(), wanted, "{members}, all in one");
+    }
+    Ok(())
+}
+
+#[test]
+fn counts_buckets_by_known_hashes(rt: HostRuntime) -> Result<(), Fail> {
+    let alloc = rt.alloc();
+    for (members, wanted) in BUCKETS {
+        let mut inserted = HashMap::with_capacity_and_hasher(alloc, 0, Constant)?;
+        let mut made = HashMap::with_capacity_and_hasher(alloc, 0, Constant)?;
+        for number in 0..members {
+            let key = format!(in alloc; "k{number:02}")?;
+            made.get_or_insert_hashed_with(7, key.clone()?, || number)?;
+            assert_eq!(rt; inserted.insert_hashed(7, key, number)?, None);
+        }
+        assert_eq!(rt; inserted.buckets(), wanted, "{members} inserted");
+        assert_eq!(rt; made.buckets(), wanted, "{members} made");
     }
     Ok(())
 }
@@ -147,17 +166,27 @@ fn has_these<S: KeyHasher>(map: &HashMap<String, usize, S>, list: &[(String, usi
     map.len() == list.len()
 }
 
+/// A key of its own for the number, which collides with all others or with none.
+fn key_of(alloc: Global, number: usize, collides: bool) -> Result<String, Fail> {
+    if collides {
+        colliding(alloc, number, &SEVEN)
+    } else {
+        Ok(format!(in alloc; "k{number:02}")?)
+    }
+}
+
 /// Whether a map of so many members stays like a plain list while each is taken out.
 fn empties<S: KeyHasher + Drop>(
     alloc: Global,
     members: usize,
     way: u8,
+    collides: bool,
     hasher: S,
 ) -> Result<bool, Fail> {
     let mut map = HashMap::with_capacity_and_hasher(alloc, 0, hasher)?;
     let mut list = Vec::new(alloc);
     for number in 0..members {
-        let key = colliding(alloc, number, &SEVEN)?;
+        let key = key_of(alloc, number, collides)?;
         map.insert(key.clone()?, number)?;
         list.push((key, number))?;
     }
@@ -175,13 +204,19 @@ fn empties<S: KeyHasher + Drop>(
 fn closes_up_like_a_plain_list(rt: HostRuntime) -> Result<(), Fail> {
     let alloc = rt.alloc();
     for members in [31, 32, 33, 64, 65] {
-        for way in [0, 1, 2] {
-            assert!(rt;
-                empties(alloc, members, way, ObjectHasher::default())?,
-                "{members} {way}"
-            );
-            assert!(rt; empties(alloc, members, way, Constant)?, "{members} {way}");
-            assert!(rt; empties(alloc, members, way, Length)?, "{members} {way}");
+        for (way, collides) in [
+            (0, true),
+            (1, true),
+            (2, true),
+            (0, false),
+            (1, false),
+            (2, false),
+        ] {
+            let here = format!(in alloc; "{members} {way} {collides}")?;
+            let fixed = ObjectHasher::default();
+            assert!(rt; empties(alloc, members, way, collides, fixed)?, "{here}");
+            assert!(rt; empties(alloc, members, way, collides, Constant)?, "{here}");
+            assert!(rt; empties(alloc, members, way, collides, Length)?, "{here}");
         }
     }
     Ok(())
@@ -205,6 +240,30 @@ fn makes_an_absent_value_once(rt: HostRuntime) -> Result<(), Fail> {
         assert_eq!(rt; map.len() as u64, members + 1);
         assert_eq!(rt; map.buckets().is_some(), members >= 32, "{members}");
         assert_eq!(rt; map.get("new").copied(), Some(501));
+    }
+    Ok(())
+}
+
+#[test]
+fn tells_keys_of_all_lengths_apart(rt: HostRuntime) -> Result<(), Fail> {
+    let alloc = rt.alloc();
+    for length in 1..40 {
+        let mut key = String::new(alloc);
+        for _ in 0..length {
+            key.push('a')?;
+        }
+        let mut map = HashMap::with_capacity_and_hasher(alloc, 0, Constant)?;
+        map.insert(key.clone()?, 0)?;
+        assert_eq!(rt; map.get(key.as_str()).copied(), Some(0));
+        for place in 0..length {
+            let mut other = String::new(alloc);
+            for i in 0..length {
+                other.push(if i == place { 'b' } else { 'a' })?;
+            }
+            assert!(rt; !map.contains_key(other.as_str()), "{other}");
+        }
+        key.push('a')?;
+        assert!(rt; !map.contains_key(key.as_str()), "{key}");
     }
     Ok(())
 }

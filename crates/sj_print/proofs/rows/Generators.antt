@@ -20,3 +20,14 @@ can_indent-last = omega arith
 
 not_can_indent-past : CanIndent None 18446744073709551615 → ⊥
 not_can_indent-past h = absurd (omega (arith, h))
+
+-- the same where a level has two spaces
+can_indent-pretty : CanIndent (Some 2) 9223372036854775806
+can_indent-pretty = (omega arith, omega arith)
+
+not_can_indent-pretty : CanIndent (Some 2) 9223372036854775807 → ⊥
+not_can_indent-pretty h = absurd (omega (arith, h.1))
+
+-- and where it has none
+can_indent-no_spaces : CanIndent (Some 0) 18446744073709551614
+can_indent-no_spaces = (omega arith, omega arith)

@@ -234,29 +234,55 @@ fn depths(rt: HostRuntime) -> Result<(), AllocError> {
     Ok(())
 }
 
+/// What the answer of a reading with the buffers prints.
+fn answer_with_buffers(
+    alloc: Global,
+    text: &str,
+    buffers: &mut Buffers,
+) -> Result<String, AllocError> {
+    let mut bytes = Vec::from_slice(alloc, text.as_bytes())?;
+    match to_tape_with_buffers(alloc, bytes.as_mut_slice(), buffers) {
+        Ok(tape) => tape.as_value().to_string(alloc),
+        Err(kind) => format!(in alloc; "{kind:?}"),
+    }
+}
+
 #[test]
-fn buffers_are_used_again(rt: HostRuntime) -> Result<(), AllocError> {
+fn answers_do_not_depend_on_buffers(rt: HostRuntime) -> Result<(), AllocError> {
     let alloc = rt.alloc();
-    let mut buffers = Buffers::new(alloc, 4)?;
-    for text in [
-        "[1,[2,\"\\u0041\"]]",
-        "[1,",
-        "\"\\ud83d\"",
-        "[[[[[[[[[[",
-        "{\"a\":1.5}",
-        "\"x\"",
-        "[]",
+    let long = repeated(alloc, "plain text ", 100)?;
+    let long = format!(in alloc; "\"{long}\"")?;
+    let escapes = repeated(alloc, "\"\\u00e9\\n\",", 100)?;
+    let escapes = format!(in alloc; "[{escapes}null]")?;
+    let refused_late = format!(in alloc; "[{escapes},\"\\ud83d\"]")?;
+    let mut kept = Buffers::new(alloc, 4)?;
+    for before in [
+        long.as_str(),
+        escapes.as_str(),
+        refused_late.as_str(),
+        "[[[[\"\\n\",[",
+        "\"\\n\"",
+        "{\"a\\t\":1.5}",
+        "",
     ] {
-        let mut bytes = Vec::from_slice(alloc, text.as_bytes())?;
-        let shown = match to_tape_with_buffers(alloc, bytes.as_mut_slice(), &mut buffers) {
-            Ok(tape) => format!(in alloc; "{tape:?}")?,
-            Err(kind) => format!(in alloc; "{kind:?}")?,
-        };
-        assert_eq!(rt;
-            shown.as_str(),
-            answer(alloc, text.as_bytes())?.as_str(),
-            "{text}"
-        );
+        for (text, wanted) in [
+            ("[1,[2,\"\\u0041\\n\"]]", "[1,[2,\"A\\n\"]]"),
+            ("[]", "[]"),
+            ("{\"k\\\\\":\"\\/\"}", "{\"k\\\\\":\"/\"}"),
+            ("[1,", "Syntax"),
+            ("[\"\\n\",", "Syntax"),
+            ("\"\\ud83d\"", "LoneSurrogate"),
+            ("{\"a\\t\":1.5}", "Float"),
+            ("x", "Syntax"),
+        ] {
+            let mut buffers = Buffers::new(alloc, 4)?;
+            let _ = answer_with_buffers(alloc, before, &mut buffers)?;
+            let first = answer_with_buffers(alloc, text, &mut buffers)?;
+            assert_eq!(rt; first.as_str(), wanted, "{text} behind {before}");
+            let _ = answer_with_buffers(alloc, before, &mut kept)?;
+            let again = answer_with_buffers(alloc, text, &mut kept)?;
+            assert_eq!(rt; again.as_str(), wanted, "{text} behind all before {before}");
+        }
     }
     Ok(())
 }

@@ -5,10 +5,9 @@ ghost use Rattle.sj_text_core.specs.Agree.{Agree, HasTexts, texts};
 ghost use Rattle.sj_text_core.specs.Reads.{as_items, as_members};
 ghost use Rattle.sj_text_core.specs.Repeats.{SameBy};
 ghost use Rattle.sj_text_core.specs.Same.{Same};
-ghost use Rattle.sj_text_core.specs.Tree.{list, obj};
+ghost use Rattle.sj_text_core.specs.Tree.{list, obj, paired};
 ghost use Rattle.sj_tape.specs.Items.{items, array_choice};
 ghost use Rattle.sj_tape.specs.Members.{members, object_choice};
-ghost use Rattle.sj_tape.specs.Parts.{paired};
 ghost use Rattle.sj_tape.specs.Value.{tree, choice};
 
 use crate::array::Array;

@@ -73,11 +73,12 @@ impl<'t, 'i> Writable for Value<'t, 'i> {
     }
 }
 
-/// A scalar as it is printed, a text as it is, an array or an object as its compact print.
+/// A text as it is, all else as its compact print.
 impl<'t, 'i> fmt::Display for Value<'t, 'i> {
+    ghost use Rattle.std.specs.Prelude.{Some};
     ghost use Rattle.sj_tape.specs.Value.{tree, displayed};
 
-    ghost output = { λ v. displayed (tree v) };
+    ghost output = { λ v. Some (displayed (tree v)) };
 
     fn fmt<W: fmt::Write>(&self, f: &mut fmt::Formatter<W>) -> fmt::Result {
         if let Some(scalar) = self.as_static() {

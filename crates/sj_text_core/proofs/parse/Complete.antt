@@ -3,7 +3,7 @@ use Rattle.std.proofs.Common.{◌≡◌, ℕ, zero, suc, ◌+◌, ◌-◌, ◌<�
 use Rattle.std.specs.List.{AllByRecursion}
 use Rattle.std.proofs.lemmas.Bool.Decides.{nat_tests}
 use Rattle.std.proofs.lemmas.List.{drop_at, take_at}
-use Rattle.sj_text_core.specs.Tree.{Tree, null, boolean, int, text, list, obj, Items, no_items, item, Members, no_members, member, depth, items_depth, members_depth, items_len, members_len}
+use Rattle.sj_text_core.specs.Tree.{Tree, null, boolean, int, text, list, obj, Items, no_items, item, Members, no_members, member, depth, items_depth, members_depth, items_len, members_len, listed, paired}
 use Rattle.sj_text_core.specs.Grammar.{IsSpace, IsBlank, IsDigit, IsString, IsNumeral, IsNumber, Spaced, Spelling, MoreItems, MoreMembers, value_of, number_of}
 use Rattle.sj_text_core.specs.Parse.{Read, is_space, after_blank, text_at, is_digit, digits_len, goes_on, numeral_at, number_at, separator_at, separator_or, with_first, parts_at, all_parts_at, list_at, obj_at, member_at, after_key, value_at}
 use Rattle.sj_text_core.specs.Tree.{items_from, members_from}
@@ -133,10 +133,6 @@ pub parts_step : {X : Type 0} (close : ℕ) (read : List ℕ → Read X) (n : �
 unfolding parts_at
 parts_step close read n b x y z e f = rw e f
 
-abbrev pub listed : Items → List Tree
-listed no_items = []
-listed (item t is) = t ∷ listed is
-
 -- items as a list and back
 pub items_from-listed : (is : Items) → items_from (listed is) ≡ is
 items_from-listed no_items = refl
@@ -200,11 +196,6 @@ list_read d t is inside r first rest e s m v k =
 
 in_brackets : (c close : ℕ) (i r : List ℕ) → (c ∷ (i ++ close ∷ [])) ++ r ≡ c ∷ (i ++ (close ∷ r))
 in_brackets c close i r = ap (λ l. c ∷ l) (append_assoc i (close ∷ []) r)
-
--- members
-abbrev pub paired : Members → List (List ℕ × Tree)
-paired no_members = []
-paired (member k t ms) = (k, t) ∷ paired ms
 
 -- members as a list and back
 pub members_from-paired : (ms : Members) → members_from (paired ms) ≡ ms

@@ -2,7 +2,7 @@
 use Rattle.std.proofs.Common.{◌≡◌, ℕ, pos, Bool, true, false, List, refl, sym, ◌∙◌, codes, Some, None, if◌then◌else◌, bytes_eq, true≢false}
 use Rattle.std.specs.Prelude.{MatchBool, MatchOption}
 use Rattle.std.proofs.lemmas.Slice.Eq.{bytes_eq-Decides}
-use Rattle.sj_text_core.specs.Tree.{u64, i64, Tree, int, text, list, obj, no_items, item, no_members, member}
+use Rattle.sj_text_core.specs.Tree.{u64, i64, Tree, null, boolean, int, text, list, obj, no_items, item, no_members, member}
 use Rattle.sj_text_core.specs.Same.{Same}
 
 abbrev one : Tree
@@ -100,3 +100,34 @@ not_same-beginning h = let e : item two no_items ≡ no_items = h.1 in cc e
 
 not_same-beginning_back : Same (list (item one (item two no_items))) (list (item one no_items)) → ⊥
 not_same-beginning_back h = h.1
+
+same-null : Same null null
+same-null = refl
+
+not_same-null : Same null (boolean false) → ⊥
+not_same-null h = let e : boolean false ≡ null = h in cc e
+
+not_same-null_back : Same (boolean false) null → ⊥
+not_same-null_back h = let e : null ≡ boolean false = h in cc e
+
+same-true : Same (boolean true) (boolean true)
+same-true = refl
+
+not_same-truth : Same (boolean true) (boolean false) → ⊥
+not_same-truth h = let e : boolean false ≡ boolean true = h in cc e
+
+-- objects with one member of one text
+one_member : (t u : Tree) (x : Bool) → Same t u → MatchBool x (MatchOption (if x then Some u else None) ⊥ (λ v. Same t v)) ((if x then Some u else None) ≡ None)
+one_member t u true h = h
+one_member t u false h = refl
+
+-- {"b":{"a":1,"a":2}} and {"b":{"a":1}}
+same-inner_repeat : Same (obj (member (codes "b") aa no_members)) (obj (member (codes "b") a no_members))
+same-inner_repeat = λ k. one_member aa a (bytes_eq k (codes "b")) same-repeat
+
+same-inner_repeat_back : Same (obj (member (codes "b") a no_members)) (obj (member (codes "b") aa no_members))
+same-inner_repeat_back = λ k. one_member a aa (bytes_eq k (codes "b")) same-repeat_back
+
+-- [{"a":1,"a":2}] and [{"a":2}]
+not_same-inner_last : Same (list (item aa no_items)) (list (item (obj (member (codes "a") two no_members)) no_items)) → ⊥
+not_same-inner_last h = let e : pos 1 ≡ pos 2 = h.0 (codes "a") in cc e

@@ -1,13 +1,13 @@
 -- Nodes, lookups, first members, edits and prints of small trees.
 use Rattle.std.proofs.Common.{◌≡◌, pos, negsuc, true, false, [], ◌∷◌, ◌++◌, refl, codes, Some, None}
 use Rattle.std.specs.Fmt.{digits}
-use Rattle.sj_text_core.specs.Tree.{u64, i64, Tree, null, boolean, int, text, list, obj, no_items, item, no_members, member, depth}
+use Rattle.sj_text_core.specs.Tree.{u64, i64, u128, i128, Tree, Members, null, boolean, int, text, list, obj, no_items, item, no_members, member, depth}
 use Rattle.sj_text_core.specs.Nodes.{nothing, truth, number, string, array, object, flat, tree_of}
 use Rattle.sj_text_core.specs.Find.{find, nth}
-use Rattle.sj_text_core.specs.Keep.{keep}
+use Rattle.sj_text_core.specs.Keep.{keep, IsSingle}
 use Rattle.sj_text_core.specs.Edits.{put, cut, push, front, last}
 use Rattle.sj_text_core.specs.Paths.{by_key, by_place, tree_at, set_at}
-use Rattle.sj_text_core.specs.Print.{compact, pretty}
+use Rattle.sj_text_core.specs.Print.{compact, pretty, recarry}
 
 abbrev one : Tree
 one = int (pos 1) u64
@@ -124,3 +124,51 @@ compact-escaped = refl
 -- the five short escapes, the two others below U+0020 at either end, a backslash, and DEL, which is copied
 compact-controls : compact (text (8 ∷ 9 ∷ 10 ∷ 12 ∷ 13 ∷ 0 ∷ 11 ∷ 15 ∷ 16 ∷ 31 ∷ 92 ∷ 127 ∷ [])) ≡ codes "\"\\b\\t\\n\\f\\r\\u0000\\u000b\\u000f\\u0010\\u001f\\\\" ++ (127 ∷ 34 ∷ [])
 compact-controls = refl
+
+-- {"a":1,"b":2,"a":2}: the first of a text is put, cut and found
+abbrev aba : Members
+aba = member (codes "a") one (member (codes "b") two (member (codes "a") two no_members))
+
+put-repeated : put (codes "a") null aba ≡ member (codes "a") null (member (codes "b") two (member (codes "a") two no_members))
+put-repeated = refl
+
+cut-repeated : cut (codes "a") aba ≡ member (codes "b") two (member (codes "a") two no_members)
+cut-repeated = refl
+
+not_single-repeated : IsSingle (obj aba) → ⊥
+not_single-repeated h = cc h.0
+
+-- {"":""}
+abbrev empty : Tree
+empty = obj (member [] (text []) no_members)
+
+find-empty : find [] empty ≡ Some (text [])
+find-empty = refl
+
+find-no_empty : find [] nested ≡ None
+find-no_empty = refl
+
+compact-empty : compact empty ≡ codes "{\"\":\"\"}"
+compact-empty = refl
+
+pretty-empty : pretty 0 empty ≡ codes "{\n  \"\": \"\"\n}"
+pretty-empty = refl
+
+-- [[],{"a":{}}] at the top and at a level
+abbrev hollow : Tree
+hollow = list (item (list no_items) (item (obj (member (codes "a") (obj no_members) no_members)) no_items))
+
+pretty-hollow : pretty 0 hollow ≡ codes "[\n  [],\n  {\n    \"a\": {}\n  }\n]"
+pretty-hollow = refl
+
+pretty-deeper : pretty 1 (list (item null no_items)) ≡ codes "[\n    null\n  ]"
+pretty-deeper = refl
+
+-- the carriers of prints, inside a list and an object
+recarry-inside : recarry (list (item (int (pos 5) i128) (item (obj (member (codes "k") (int (negsuc 0) i128) no_members)) no_items)))
+    ≡ list (item (int (pos 5) u64) (item (obj (member (codes "k") (int (negsuc 0) i64) no_members)) no_items))
+recarry-inside = refl
+
+recarry-wide : recarry (list (item (int (pos 18446744073709551616) i128) (item (int (negsuc 9223372036854775808) i128) no_items)))
+    ≡ list (item (int (pos 18446744073709551616) u128) (item (int (negsuc 9223372036854775808) i128) no_items))
+recarry-wide = refl

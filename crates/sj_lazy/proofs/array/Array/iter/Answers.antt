@@ -1,7 +1,7 @@
 use Rattle.std.proofs.Common.{map, sym, ap, ◌∙◌}
 use Rattle.std.specs.Cow.{cow_str_bytes}
 use Rattle.sj_text_core.specs.declared.repeats.Repeats.TheVariants.{First}
-use Rattle.sj_tape.specs.Parts.{listed}
+use Rattle.sj_text_core.specs.Tree.{listed}
 use Rattle.sj_document.specs.Document.{tree}
 use Rattle.sj_lazy.specs.Array.{items}
 use Rattle.sj_lazy.proofs.Lists.{listed-from, parts-items}

@@ -1,7 +1,6 @@
 use Rattle.std.proofs.Common.{ℕ, List, map, sym, ap, ◌∙◌}
 use Rattle.std.specs.Cow.{cow_str_bytes}
-use Rattle.sj_text_core.specs.Tree.{Tree}
-use Rattle.sj_tape.specs.Parts.{paired}
+use Rattle.sj_text_core.specs.Tree.{Tree, paired}
 use Rattle.sj_document.specs.Document.{tree}
 use Rattle.sj_lazy.specs.Object.{members}
 use Rattle.sj_lazy.proofs.Lists.{texts-members}

@@ -1,9 +1,8 @@
 use Rattle.std.proofs.Common.{◌≡◌, [], ◌++◌, ◌+◌, ◌*◌, ◌≤◌, map}
 use Rattle.sj_text_core.specs.Keep.{keep, keep_members}
-use Rattle.sj_text_core.specs.Tree.{items_from, members_from, depth, items_depth, members_depth}
+use Rattle.sj_text_core.specs.Tree.{items_from, members_from, depth, items_depth, members_depth, listed}
 use Rattle.sj_tape.specs.Items.{items, items_ahead}
 use Rattle.sj_tape.specs.Members.{members, members_ahead}
-use Rattle.sj_tape.specs.Parts.{listed}
 use Rattle.sj_tape.specs.Value.{tree}
 use Rattle.sj_run.specs.Document.{document_tree}
 use Rattle.sj_run.proofs.Builds.{kept_behind}

@@ -2,7 +2,7 @@ use Rattle.std.proofs.Common.{◌∙◌, ap, map, option_map}
 use Rattle.std.proofs.lemmas.Iterator.Consumers.{YieldsList-from_first, nth_from_yields_List}
 use Rattle.sj_text_core.specs.Find.{nth_item}
 use Rattle.sj_tape.specs.Items.{items, parts_ahead, array_choice}
-use Rattle.sj_tape.specs.Parts.{listed}
+use Rattle.sj_text_core.specs.Tree.{listed}
 use Rattle.sj_tape.specs.Value.{part}
 use Rattle.sj_tape.proofs.Lookups.{slice_get-map, found_by}
 use Rattle.sj_tape.proofs.Splits.{slice_get-listed}

@@ -1,11 +1,11 @@
 use Rattle.std.proofs.Common.{◌≡◌, ◌<◌, ◌∙◌, ◌∷◌, map, List, Bool, false, nat_eq, length, ap, sym, arith, rules}
 use Rattle.std.proofs.lemmas.Bool.Decides.{nat_tests}
 use Rattle.std.proofs.lemmas.List.{length-map}
-use Rattle.sj_text_core.specs.Tree.{Tree}
+use Rattle.sj_text_core.specs.Tree.{Tree, listed}
 use Rattle.sj_text_core.specs.declared.repeats.Repeats.{Repeats}
 use Rattle.sj_tape.specs.declared.node.Node.{Node}
 use Rattle.sj_tape.specs.Marks.{mark, marks}
-use Rattle.sj_tape.specs.Parts.{items_in, listed}
+use Rattle.sj_tape.specs.Parts.{items_in}
 use Rattle.sj_tape.proofs.Splits.{next_item, BeginsTree-items}
 use Rattle.sj_tape.proofs.array.IterIterator.next.Goals as goal
 

@@ -1,10 +1,9 @@
 use Rattle.std.proofs.Common.{◌≡◌, ◌∙◌, ◌∷◌, List, ℕ, length, ap, sym, rules}
-use Rattle.sj_text_core.specs.Tree.{Tree}
+use Rattle.sj_text_core.specs.Tree.{Tree, paired}
 use Rattle.sj_text_core.specs.declared.repeats.Repeats.{Repeats}
 use Rattle.sj_text_core.specs.Nodes.{string, members_in}
 use Rattle.sj_tape.specs.Marks.{mark, marks}
 use Rattle.sj_tape.specs.Members.{chosen}
-use Rattle.sj_tape.specs.Parts.{paired}
 use Rattle.sj_tape.proofs.Splits.{next_member, BeginsTree-member, string_node}
 use Rattle.sj_tape.proofs.object.IterIterator.next.Goals as goal
 

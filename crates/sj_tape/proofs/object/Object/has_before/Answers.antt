@@ -2,9 +2,8 @@ use Rattle.std.proofs.Common.{◌≡◌, ℕ, suc, ◌+◌, ◌-◌, Bool, false
 use Rattle.std.proofs.lemmas.List.{take-map}
 use Rattle.sj_text_core.specs.Agree.{texts}
 use Rattle.sj_text_core.specs.Keep.{is_seen}
-use Rattle.sj_text_core.specs.Tree.{Tree}
+use Rattle.sj_text_core.specs.Tree.{Tree, paired}
 use Rattle.sj_tape.specs.Members.{members, keys_ahead}
-use Rattle.sj_tape.specs.Parts.{paired}
 use Rattle.sj_tape.proofs.object.Object.has_before.Goals as goal
 
 -- one text is passed over

@@ -2,7 +2,7 @@ use Rattle.std.proofs.Common.{◌≡◌, ◌≤◌, ◌-◌, take}
 use Rattle.sj_text_core.specs.Agree.{is_before}
 use Rattle.sj_text_core.specs.Keep.{is_seen}
 use Rattle.sj_tape.specs.Members.{members, keys_ahead}
-use Rattle.sj_tape.specs.Parts.{paired}
+use Rattle.sj_text_core.specs.Tree.{paired}
 use Rattle.sj_tape.proofs.object.Object.has_before.Given as goal
 
 abbrev pub invariant-loop-name : goal.invariant-loop-name

@@ -2,7 +2,7 @@ use Rattle.std.proofs.Common.{◌≡◌, drop}
 use Rattle.sj_text_core.specs.Agree.{texts}
 use Rattle.sj_text_core.specs.Keep.{is_seen}
 use Rattle.sj_tape.specs.Members.{members, keys_ahead}
-use Rattle.sj_tape.specs.Parts.{paired}
+use Rattle.sj_text_core.specs.Tree.{paired}
 use Rattle.sj_tape.proofs.object.Object.has_behind.Given as goal
 
 abbrev pub invariant-loop-name : goal.invariant-loop-name

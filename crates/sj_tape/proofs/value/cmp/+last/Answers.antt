@@ -1,13 +1,12 @@
 use Rattle.std.proofs.Common.{◌≡◌, ℕ, ◌+◌, ◌<◌, ◌^◌, ◌↔◌, List, map, refl, sym, ap, ◌∙◌, arith, rules, length, IsTrue}
 use Rattle.std.proofs.lemmas.List.{drop-map}
-use Rattle.sj_text_core.specs.Tree.{Tree, items_depth, items_from}
+use Rattle.sj_text_core.specs.Tree.{Tree, items_depth, items_from, listed, paired}
 use Rattle.sj_text_core.specs.Agree.{HasTexts, texts}
 use Rattle.sj_text_core.specs.Keep.{is_seen}
 use Rattle.sj_text_core.specs.Repeats.{by_first, keep_last}
 use Rattle.sj_text_core.specs.declared.repeats.Repeats.TheVariants.{Last}
 use Rattle.sj_tape.specs.Items.{items, items_ahead, parts_ahead, array_choice}
 use Rattle.sj_tape.specs.Members.{members, members_ahead, object_choice, parts_ahead as pairs_ahead}
-use Rattle.sj_tape.specs.Parts.{listed, paired}
 use Rattle.sj_tape.specs.Value.{tree, choice, part}
 use Rattle.sj_tape.proofs.Chosen.{item_step, items_end, member_step, members_end}
 use Rattle.sj_tape.proofs.Compared.{items_from-listed, length-listed, none_left, place_within, length-paired, drop_next, pair_within, allowed, denied}

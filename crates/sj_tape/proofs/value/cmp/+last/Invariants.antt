@@ -1,11 +1,10 @@
 use Rattle.std.proofs.Common.{◌≡◌, ◌≤◌, ◌+◌, ◌*◌, length, drop, map}
-use Rattle.sj_text_core.specs.Tree.{depth, items_depth, members_depth, items_from}
+use Rattle.sj_text_core.specs.Tree.{depth, items_depth, members_depth, items_from, listed, paired}
 use Rattle.sj_text_core.specs.Same.{SameItems}
 use Rattle.sj_text_core.specs.Repeats.{by_first, keep_last}
 use Rattle.sj_text_core.specs.declared.repeats.Repeats.TheVariants.{Last}
 use Rattle.sj_tape.specs.Items.{items, items_ahead, parts_ahead, array_choice}
 use Rattle.sj_tape.specs.Members.{members, members_ahead, object_choice, chosen, parts_ahead as pairs_ahead}
-use Rattle.sj_tape.specs.Parts.{listed, paired}
 use Rattle.sj_tape.specs.Value.{tree}
 use Rattle.sj_tape.proofs.Counted.{Counted, parts}
 use Rattle.sj_tape.proofs.value.cmp.+last.Given as goal

@@ -1,9 +1,8 @@
 use Rattle.std.proofs.Common.{◌≡◌, List, ◌+◌, ◌<◌, ◌^◌, ◌↔◌, refl, sym, ap, ◌∙◌, arith, rules, length, IsTrue, bytes_eq}
-use Rattle.sj_text_core.specs.Tree.{Tree, items_depth, items_from}
+use Rattle.sj_text_core.specs.Tree.{Tree, items_depth, items_from, listed, paired}
 use Rattle.sj_text_core.specs.Agree.{HasTexts, is_before}
 use Rattle.sj_tape.specs.Items.{items, items_ahead}
 use Rattle.sj_tape.specs.Members.{members, members_ahead}
-use Rattle.sj_tape.specs.Parts.{listed, paired}
 use Rattle.sj_tape.specs.Value.{tree, part}
 use Rattle.sj_tape.proofs.Chosen.{item_step, items_end, member_step, members_end}
 use Rattle.sj_tape.proofs.Counted.{items_taken, items_joined}

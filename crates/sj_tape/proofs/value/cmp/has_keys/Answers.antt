@@ -1,7 +1,7 @@
 use Rattle.std.proofs.Common.{not, sym, ap, ◌∙◌}
 use Rattle.sj_text_core.specs.Keep.{is_seen}
 use Rattle.sj_tape.specs.Members.{members, keys_ahead}
-use Rattle.sj_tape.specs.Parts.{paired}
+use Rattle.sj_text_core.specs.Tree.{paired}
 use Rattle.sj_tape.specs.Value.{tree}
 use Rattle.sj_tape.proofs.Compared.{has_rest, has_not_key, has_key, key_there, key_ahead, seen_ahead, no_value, a_value}
 use Rattle.sj_tape.proofs.value.cmp.has_keys.Goals as goal

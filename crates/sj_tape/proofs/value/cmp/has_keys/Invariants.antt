@@ -2,7 +2,7 @@ use Rattle.std.proofs.Common.{◌≡◌, ℕ, List, true, drop}
 use Rattle.sj_text_core.specs.Agree.{HasTexts, texts}
 use Rattle.sj_text_core.specs.Keep.{is_seen}
 use Rattle.sj_tape.specs.Members.{members, keys_ahead}
-use Rattle.sj_tape.specs.Parts.{paired}
+use Rattle.sj_text_core.specs.Tree.{paired}
 use Rattle.sj_tape.proofs.value.cmp.has_keys.Given as goal
 
 abbrev pub invariant-loop-key : goal.invariant-loop-key

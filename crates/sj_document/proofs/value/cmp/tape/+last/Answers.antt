@@ -1,13 +1,12 @@
 use Rattle.std.proofs.Common.{◌≡◌, ℕ, ◌+◌, ◌<◌, ◌^◌, ◌↔◌, List, map, sym, ap, ◌∙◌, arith, rules, length, IsTrue}
 use Rattle.std.proofs.lemmas.List.{drop-map}
-use Rattle.sj_text_core.specs.Tree.{Tree, obj, items_depth, items_from}
+use Rattle.sj_text_core.specs.Tree.{Tree, obj, items_depth, items_from, listed, paired}
 use Rattle.sj_text_core.specs.Agree.{HasTexts, texts}
 use Rattle.sj_text_core.specs.Keep.{is_seen}
 use Rattle.sj_text_core.specs.Repeats.{keep_last, keep_last_items}
 use Rattle.sj_text_core.specs.declared.repeats.Repeats.TheVariants.{First, Last}
 use Rattle.sj_tape.specs.Items.{items, items_ahead, parts_ahead}
 use Rattle.sj_tape.specs.Members.{members, members_ahead, parts_ahead as pairs_ahead}
-use Rattle.sj_tape.specs.Parts.{listed, paired}
 use Rattle.sj_tape.specs.Value.{tree as tape_tree, part}
 use Rattle.sj_tape.proofs.Chosen.{item_step, member_step, members_end}
 use Rattle.sj_tape.proofs.Compared.{items_from-listed, length-listed, place_within, length-paired, drop_next, pair_within, allowed, denied}

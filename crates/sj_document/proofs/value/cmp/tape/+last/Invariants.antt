@@ -1,11 +1,10 @@
 use Rattle.std.proofs.Common.{◌≡◌, ◌≤◌, ◌+◌, ◌*◌, drop, length, map}
-use Rattle.sj_text_core.specs.Tree.{depth, items_depth, members_depth, items_from}
+use Rattle.sj_text_core.specs.Tree.{depth, items_depth, members_depth, items_from, paired}
 use Rattle.sj_text_core.specs.Same.{SameItems}
 use Rattle.sj_text_core.specs.Repeats.{keep_last, keep_last_items}
 use Rattle.sj_text_core.specs.declared.repeats.Repeats.TheVariants.{First, Last}
 use Rattle.sj_tape.specs.Items.{items, items_ahead, parts_ahead}
 use Rattle.sj_tape.specs.Members.{members, members_ahead, chosen, parts_ahead as pairs_ahead}
-use Rattle.sj_tape.specs.Parts.{paired}
 use Rattle.sj_tape.specs.Value.{tree as tape_tree}
 use Rattle.sj_tape.proofs.Counted.{Counted, parts}
 use Rattle.sj_object.specs.Members.{entry_members}

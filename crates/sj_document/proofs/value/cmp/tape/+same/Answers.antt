@@ -1,9 +1,8 @@
 use Rattle.std.proofs.Common.{◌≡◌, ◌+◌, ◌<◌, ◌^◌, ◌↔◌, refl, sym, ap, ◌∙◌, arith, rules, length, IsTrue, bytes_eq}
-use Rattle.sj_text_core.specs.Tree.{obj, items_depth, items_from}
+use Rattle.sj_text_core.specs.Tree.{obj, items_depth, items_from, paired}
 use Rattle.sj_text_core.specs.Agree.{HasTexts, is_before}
 use Rattle.sj_tape.specs.Items.{items, items_ahead}
 use Rattle.sj_tape.specs.Members.{members, members_ahead}
-use Rattle.sj_tape.specs.Parts.{paired}
 use Rattle.sj_tape.specs.Value.{tree as tape_tree, part}
 use Rattle.sj_tape.proofs.Chosen.{item_step, member_step, members_end}
 use Rattle.sj_tape.proofs.Compared.{items_from-listed, length-listed, place_within, length-paired, drop_next, pair_within, same_here, further_repeat, further_in_step, texts_further, same_at_end, same_found, differ_absent, further_found, same_if_has, has_if_same, allowed, denied, agree_less}

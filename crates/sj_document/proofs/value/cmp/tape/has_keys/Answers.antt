@@ -1,7 +1,7 @@
 use Rattle.std.proofs.Common.{not, ◌∷◌, sym, ap, ◌∙◌}
 use Rattle.sj_text_core.specs.Keep.{is_seen}
 use Rattle.sj_tape.specs.Members.{members, object_choice}
-use Rattle.sj_tape.specs.Parts.{paired}
+use Rattle.sj_text_core.specs.Tree.{paired}
 use Rattle.sj_tape.specs.Value.{tree as tape_tree}
 use Rattle.sj_tape.proofs.Counted.{first_absent, absent_first}
 use Rattle.sj_tape.proofs.Compared.{has_rest, has_not_key, has_key, key_there, key_ahead, seen_ahead, no_value, a_value}

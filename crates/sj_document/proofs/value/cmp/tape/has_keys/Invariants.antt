@@ -2,7 +2,7 @@ use Rattle.std.proofs.Common.{◌≡◌, ℕ, List, true, drop}
 use Rattle.sj_text_core.specs.Agree.{HasTexts, texts}
 use Rattle.sj_text_core.specs.Keep.{is_seen}
 use Rattle.sj_tape.specs.Members.{members}
-use Rattle.sj_tape.specs.Parts.{paired}
+use Rattle.sj_text_core.specs.Tree.{paired}
 use Rattle.sj_object.specs.Entries.{entries_of, texts as entry_texts}
 use Rattle.sj_object.specs.Members.{entry_members}
 use Rattle.sj_document.specs.Document.{tree}

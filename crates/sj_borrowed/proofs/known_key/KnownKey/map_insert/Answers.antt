@@ -1,0 +1,16 @@
+use Rattle.std.proofs.Common.{◌≡◌, refl, sym, ap, ◌∙◌}
+use Rattle.std.specs.Cow.{cow_str_bytes}
+use Rattle.sj_object.specs.Edits.{lookup, set_value}
+use Rattle.sj_borrowed.proofs.Puts.{set_value_put}
+use Rattle.sj_borrowed.proofs.known_key.KnownKey.map_insert.Goals as goal
+
+pub returns-in-Some-clause-entries : goal.returns-in-Some-clause-entries
+returns-in-Some-clause-entries c =
+    let key = c.args.self.now in
+    let es = c.args.map.now.entries in
+    let k : c.text.result.now ≡ cow_str_bytes key = c.text.ensures ∙ ap (λ k. cow_str_bytes k) c.key.ensures in (
+      key,
+      (refl, refl),
+      ap (λ w. set_value c.text.result.now w es) c.replace.ensures.after ∙ ap (λ s. set_value s c.args.value es) k
+          ∙ set_value_put (key, cow_str_bytes key) c.args.value c.in-Some.place.now es (sym (c.in-Some.ensures.value ∙ ap (λ s. lookup s es) k)),
+    )

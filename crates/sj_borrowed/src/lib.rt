@@ -1,0 +1,9 @@
+//! Borrowed documents, and known keys.
+#![tactic(auto)]
+
+pub mod known_key;
+
+pub use known_key::KnownKey;
+
+#[cfg(test)]
+mod tests;
