@@ -1,8 +1,9 @@
 .PHONY: demo test check-program check-refusals
 
-# Builds the program and runs it on the first example.
+# Proves and builds the program and what it stands on, and runs it on the first example.
 demo:
-	cd crates/sjval && rt run -- owned < stdin
+	@echo 'Proving and building sjval and the crates below it: minutes the first time, seconds after.'
+	@cd crates/sjval && rt run -- owned < stdin
 
 # Proves every crate from nothing, tries the edits that have to be refused, and runs the tests.
 test:

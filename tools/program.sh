@@ -3,6 +3,7 @@
 # Usage: tools/program.sh PROGRAM. The last line is 'N passed, M failed'.
 set -u
 program=$(realpath "$1")
+tools=$(realpath "$(dirname "$0")")
 work=$(mktemp -d)
 trap 'rm -rf "$work"' EXIT
 cd "$work" || exit 1
@@ -31,15 +32,45 @@ session() {
   expect "$1" "$4" "$5" "$6"
 }
 
+# table FORM: the sessions of tools/commands.txt, each a line '= DOCUMENT' with lines '> COMMAND' and their replies
+table() {
+  local at=0 from
+  rm -rf sessions
+  mkdir sessions
+  awk '/^= / { n++; print substr($0, 3) "\n---" > ("sessions/" n ".in"); printf "" > ("sessions/" n ".want"); next }
+       /^> / { print substr($0, 3) > ("sessions/" n ".in"); next }
+       { print > ("sessions/" n ".want") }
+       { close("sessions/" (n - 1) ".in"); close("sessions/" (n - 1) ".want") }' "$tools/commands.txt"
+  for from in sessions/*.in; do
+    "$program" "$1" < "$from" > out 2> err
+    if [ $? = 0 ] && cmp -s out "${from%.in}.want" && [ ! -s err ]; then
+      at=$((at + 1))
+    else
+      failed=$((failed + 1))
+      printf 'failed: %s on this session of tools/commands.txt\n' "$1"
+      head -c 300 "$from"
+      diff out "${from%.in}.want" | head -5
+    fi
+  done
+  passed=$((passed + at))
+}
+
 usage='usage: sjval owned|borrowed|lazy [known]\n'
 
 session 'an insert and two encodes' owned '{"a":1}\n---\n["insert",[],"b",[true]]\n["encode",[]]\n' 0 'none\n{"a":1,"b":[true]}\n' ''
 session 'no commands' owned '[1]' 0 '' ''
 session 'CR LF' owned '[1]\r\n---\r\n["encode",[]]\r\n' 0 '[1]\n' ''
+session 'borrowed' borrowed '{"a":1,"a":2}\n---\n["len",[]]\n["pop",[]]\n["encode",[]]\n' 0 '1\nnot an array\n{"a":1}\n' ''
+session 'a pretty print' borrowed '{"a":[1,{}]}\n---\n["encode_pp",[]]\n' 0 '{\n  "a": [\n    1,\n    {}\n  ]\n}\n' ''
+session 'escapes' borrowed '{"q\\"k":"a\\/b\\u0041"}\n---\n["encode",[]]\n' 0 '{"q\\"k":"a/bA"}\n' ''
+session 'a text refused as borrowed' borrowed '[1,]' 3 '' 'text refused: Syntax\n'
+session 'borrowed by known key, which is not served yet' 'borrowed known' '1' 2 '' "$usage"
 session 'a line that is no command' owned 'null\n---\n["nonsense"]\n' 0 'bad command\n' ''
 session 'no words' '' 'null' 2 '' "$usage"
 session 'a word too many' 'owned known known' 'null' 2 '' "$usage"
 session 'an unknown word' 'own' 'null' 2 '' "$usage"
+session 'a word that is not UTF-8' $'\xff' 'null' 2 '' "$usage"
+session 'a second word that is not UTF-8' $'owned \xff' 'null' 2 '' "$usage"
 session 'lazy by known key' 'lazy known' 'null' 2 '' "$usage"
 session 'the empty text' owned '' 3 '' 'text refused: Syntax\n'
 session 'no UTF-8' owned '"\xff"' 3 '' 'text refused: InvalidUtf8\n'
@@ -68,6 +99,20 @@ expect 'an output that fails' 5 '' 'input or output failed\n'
 head -c 400000000 /dev/zero | tr '\0' ' ' | (ulimit -v 300000; exec "$program" owned) > out 2> err
 status=$?
 expect 'no memory for the input' 4 '' 'out of memory\n'
+
+if command -v python3 > out 2>&1; then
+  python3 "$tools/commands.py" > out
+  status=$?
+  : > err
+  if [ "$status" = 0 ] && cmp -s out "$tools/commands.txt"; then
+    passed=$((passed + 1))
+  else
+    failed=$((failed + 1))
+    echo 'failed: tools/commands.txt is what tools/commands.py writes'
+  fi
+fi
+table owned
+table borrowed
 
 echo "$passed passed, $failed failed"
 [ "$failed" = 0 ]

@@ -1,6 +1,5 @@
 //! Rates of documents: reading, printing and letting go, by each form and by `serde_json`.
 
-use crate::texts::{Kind, text_of};
 use serde_json::Value;
 use sj_tape::to_tape;
 use sj_text_core::Writable;
@@ -108,10 +107,8 @@ fn best(rt: &HostRuntime, bytes: &Vec<u8>, rounds: u32) -> io::Result<[[u64; 3];
 }
 
 /// Prints the best rates on a text of that kind and size.
-pub fn report(rt: &HostRuntime, kind: Kind, size: usize, rounds: u32) -> io::Result<()> {
-    let bytes = text_of(rt.alloc(), kind, size)?;
-    let best = best(rt, &bytes, rounds)?;
-    let kind = kind.name();
+pub fn report(rt: &HostRuntime, kind: &str, bytes: &Vec<u8>, rounds: u32) -> io::Result<()> {
+    let best = best(rt, bytes, rounds)?;
     let len = bytes.len();
     for way in 0..WAYS.len() {
         for task in 0..TASKS.len() {

@@ -1,8 +1,9 @@
 //! Rates of reading: `to_tape`, `to_tape_with_buffers` and the tape of `json`, in turns, on texts
 //! that a seeded generator writes; and rates of documents, by both forms, by tapes and by
-//! `serde_json`. Run `rt run -- ROUNDS MEGABYTES KIND` or `rt run -- documents ROUNDS MEGABYTES
-//! KIND` in this folder (without KIND: each kind); each line has the best rate of so many rounds,
-//! by the thread's own clock. Without words it does nothing.
+//! `serde_json`. Run `rt run -- ROUNDS MEGABYTES KIND` in this folder (without KIND: each kind), or
+//! `rt run -- ROUNDS stdin` for the text on standard input, with the word `documents` in front for
+//! documents; each line has the best rate of so many rounds, by the thread's own clock. Without
+//! words it does nothing.
 #![tactic(auto)]
 
 mod documents;
@@ -12,6 +13,7 @@ use crate::texts::{Kind, text_of};
 use json::{Scratch, Tape};
 use sj_tape::{Buffers, to_tape, to_tape_with_buffers};
 use std::alloc::Global;
+use std::io::Read;
 use std::time::CpuClock;
 use std::{env, io};
 
@@ -68,10 +70,13 @@ fn best(rt: &HostRuntime, bytes: &Vec<u8>, rounds: u32) -> io::Result<[u64; WAYS
     Ok(best)
 }
 
-fn report(rt: &HostRuntime, kind: Kind, size: usize, rounds: u32) -> io::Result<()> {
-    let bytes = text_of(rt.alloc(), kind, size)?;
-    let best = best(rt, &bytes, rounds)?;
-    let kind = kind.name();
+fn report_readings(
+    rt: &HostRuntime,
+    kind: &str,
+    bytes: &Vec<u8>,
+    rounds: u32,
+) -> io::Result<()> {
+    let best = best(rt, bytes, rounds)?;
     let len = bytes.len();
     for way in 0..WAYS {
         let name = name_of(way);
@@ -84,12 +89,31 @@ fn report(rt: &HostRuntime, kind: Kind, size: usize, rounds: u32) -> io::Result<
     Ok(())
 }
 
+fn report(
+    rt: &HostRuntime,
+    kind: &str,
+    bytes: &Vec<u8>,
+    rounds: u32,
+    are_documents: bool,
+) -> io::Result<()> {
+    if are_documents {
+        documents::report(rt, kind, bytes, rounds)
+    } else {
+        report_readings(rt, kind, bytes, rounds)
+    }
+}
+
 /// What the words ask for: rounds, megabytes and a kind.
 fn report_all(rt: &HostRuntime, words: &[String], are_documents: bool) -> io::Result<()> {
     let Some(rounds) = words.get(0) else {
         return Ok(());
     };
     let rounds = rounds.as_str().parse::<u32>().unwrap_or(1);
+    if words.get(1).is_some_and(|word| word.as_str() == "stdin") {
+        let mut bytes = Vec::new(rt.alloc());
+        rt.reader().read_to_end(&mut bytes)?;
+        return report(rt, "stdin", &bytes, rounds, are_documents);
+    }
     let megabytes = match words.get(1) {
         Some(word) => word.as_str().parse::<usize>().unwrap_or(1),
         None => 1,
@@ -100,10 +124,9 @@ fn report_all(rt: &HostRuntime, words: &[String], are_documents: bool) -> io::Re
             Some(word) => word.as_str() == kind.name(),
             None => true,
         };
-        if is_wanted && are_documents {
-            documents::report(rt, kind, size, rounds)?;
-        } else if is_wanted {
-            report(rt, kind, size, rounds)?;
+        if is_wanted {
+            let bytes = text_of(rt.alloc(), kind, size)?;
+            report(rt, kind.name(), &bytes, rounds, are_documents)?;
         }
     }
     Ok(())

@@ -7,7 +7,7 @@ use Rattle.sj_text_core.specs.Reads.{as_members}
 use Rattle.sj_object.specs.Edits.{lookup}
 use Rattle.sj_object.specs.Members.{entry_members}
 use Rattle.sj_object.proofs.Shown.{lookup-entry_members}
-use Rattle.sj_document.specs.Document.{tree, object_of}
+use Rattle.sj_document.specs.Document.{tree}
 use Rattle.sj_document.specs.declared.value.Document.{Document}
 use Rattle.sj_document.proofs.Trees.{Map, tree_of_ref, tree_of_mut}
 
@@ -18,14 +18,6 @@ find_in k (int n c) ms e = cc
 find_in k (text s) ms e = cc
 find_in k (list is) ms e = cc
 find_in k (obj ns) ms e = cc
-
-pub object_of_lem : (u : Tree) → object_of u ≡ as_members u
-object_of_lem null = refl
-object_of_lem (boolean b) = refl
-object_of_lem (int n c) = refl
-object_of_lem (text s) = refl
-object_of_lem (list is) = refl
-object_of_lem (obj ms) = refl
 
 some_of : {A B : Type 0} (f : A → B) (o : Option A) → IsSome (option_map f o) → IsSome o
 some_of f None h = h

@@ -10,3 +10,5 @@ pub mod Mixed
 pub mod Maps
 pub mod Levels
 pub mod Pairs
+pub mod rows
+pub mod Makes

@@ -1,3 +1,4 @@
 pub mod Document
 pub mod Rows
 pub mod SameWith
+pub mod Makes

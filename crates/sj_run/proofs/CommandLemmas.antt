@@ -1,91 +1,41 @@
 -- Commands of lines, and what they leave.
-use Rattle.std.proofs.Common.{◌≡◌, List, [], ◌∷◌, ◌++◌, ℕ, refl, sym, ap, ◌∙◌, subst, inl, inr}
+use Rattle.std.proofs.Common.{◌≡◌, ◌∙◌, List, [], ◌∷◌, ◌++◌, ℕ, sym, ap, inl, inr, subst, append_assoc}
 use Rattle.sj_text_core.specs.Tree.{Tree, IsWithin}
 use Rattle.sj_text_core.specs.Grammar.{Spells, IsReadable}
-use Rattle.sj_text_core.specs.Keep.{keep, IsKept}
-use Rattle.sj_text_core.proofs.Kept.{keep-keep}
-use Rattle.sj_run.specs.Answered.{ReadsCommand, AnswersLine}
+use Rattle.sj_text_core.specs.Keep.{keep}
+use Rattle.sj_run.specs.Answered.{Answers, AnswersLine, PassesOne, PassesLine}
 use Rattle.sj_run.specs.Answers.{answer}
-use Rattle.sj_run.specs.CommandLines.{IsCommandOf, command_in, served_first}
-use Rattle.sj_run.specs.Commands.{PlainCommand, read, write, bad, kind, fits, str, len, keys, has, encode, encode_pp, insert, remove, push, pop, put}
-use Rattle.sj_run.specs.FirstPath.{first_in, kept_command}
-use Rattle.sj_run.specs.Meant.{command_meant, reply_meant}
-use Rattle.sj_run.specs.Shown.{shown}
-use Rattle.sj_run.specs.declared.command.Command.{Command}
-use Rattle.sj_run.specs.declared.reply.Reply.{Reply}
-use Rattle.sj_run.proofs.FirstPathLemmas.{served-command_in}
-use Rattle.sj_run.proofs.Inserts.{changed_kept}
-use Rattle.sj_run.proofs.SessionLemmas.{first_in-keep}
+use Rattle.sj_run.specs.Shown.{reply_text}
+use Rattle.sj_run.specs.CommandLines.{IsCommandOf, command_in}
+use Rattle.sj_run.specs.Commands.{PlainCommand, bad}
 
--- what is served of a served command
-served-served : (c : PlainCommand) → served_first (served_first c) ≡ served_first c
-served-served (read [] kind) = refl
-served-served (read [] (fits w)) = refl
-served-served (read [] str) = refl
-served-served (read [] len) = refl
-served-served (read [] keys) = refl
-served-served (read [] (has k)) = refl
-served-served (read [] encode) = refl
-served-served (read [] encode_pp) = refl
-served-served (read (s ∷ p) r) = refl
-served-served (write [] (insert k v)) = refl
-served-served (write [] (remove k)) = refl
-served-served (write [] (push v)) = refl
-served-served (write [] pop) = refl
-served-served (write [] (put v)) = refl
-served-served (write (s ∷ p) w) = refl
-served-served bad = refl
+-- a line that spells a tree, and what it fits
+pub reads_tree : (line : List ℕ) (t u : Tree) (c : PlainCommand) → Spells line u → IsWithin u → t ≡ keep u → c ≡ command_in t → IsCommandOf line c
+reads_tree line t u c s w k e = inl (u, s, w, e ∙ ap command_in k)
 
--- what is served of a line that spells a tree
-served_line : (u : Tree) → served_first (command_in (keep u)) ≡ kept_command (served_first (command_in u))
-served_line u = served-command_in (keep u) ∙ first_in-keep u ∙ ap kept_command (sym (served-command_in u))
+-- it fits nothing else
+pub reads_one : (line : List ℕ) (t : Tree) (c d : PlainCommand) → ((u : Tree) → Spells line u → t ≡ keep u) → IsReadable line → c ≡ command_in t → IsCommandOf line d → d ≡ c
+reads_one line t c d only r e (inl h) = h.3 ∙ ap command_in (sym (only h.0 h.1)) ∙ sym e
+reads_one line t c d only r e (inr h) = absurd (h.0 r)
 
-pub reads_tree : (line : List ℕ) (u : Tree) (c : Command) → Spells line u → IsWithin u → command_meant c ≡ kept_command (first_in u) → ReadsCommand line c
-reads_tree line u c s w e = record { command = command_in (keep u); is = inl (u, s, w, refl); served = e ∙ sym (first_in-keep u) ∙ sym (served-command_in (keep u)) }
+-- a line that is not read is bad, and nothing else
+pub reads_bad : (line : List ℕ) (c : PlainCommand) → (IsReadable line → ⊥) → c ≡ bad → IsCommandOf line c
+reads_bad line c h e = inr (h, e)
 
-pub reads_bad : (line : List ℕ) (c : Command) → (IsReadable line → ⊥) → command_meant c ≡ bad → ReadsCommand line c
-reads_bad line c h e = record { command = bad; is = inr (h, refl); served = e }
+pub reads_bad_only : (line : List ℕ) (c d : PlainCommand) → (IsReadable line → ⊥) → c ≡ bad → IsCommandOf line d → d ≡ c
+reads_bad_only line c d h e (inl r) = absurd (h (r.0, r.1, r.2))
+reads_bad_only line c d h e (inr r) = r.1 ∙ sym e
 
--- a served command leaves no object with a key twice, where its value has none
-kept_after : (t : Tree) (c : PlainCommand) → IsKept t → IsKept (answer t (kept_command (served_first c))).0
-kept_after t (read [] kind) h = h
-kept_after t (read [] (fits w)) h = h
-kept_after t (read [] str) h = h
-kept_after t (read [] len) h = h
-kept_after t (read [] keys) h = h
-kept_after t (read [] (has k)) h = h
-kept_after t (read [] encode) h = h
-kept_after t (read [] encode_pp) h = h
-kept_after t (read (s ∷ p) r) h = h
-kept_after t (write [] (insert k v)) h = changed_kept k (keep v) (keep t) (keep-keep t) (keep-keep v)
-kept_after t (write [] (remove k)) h = h
-kept_after t (write [] (push v)) h = h
-kept_after t (write [] pop) h = h
-kept_after t (write [] (put v)) h = h
-kept_after t (write (s ∷ p) w) h = h
-kept_after t bad h = h
+-- a line's command that was answered, and its line feed
+pub line_answered : (t u : Tree) (line old mid new : List ℕ) (c : PlainCommand) → IsCommandOf line c → ((d : PlainCommand) → IsCommandOf line d → d ≡ c) → Answers t c u old mid → new ≡ mid ++ 10 ∷ [] → AnswersLine t line u old new
+line_answered t u line old mid new c is only a e = record {
+  command = c;
+  is = is;
+  only = only;
+  after = a.after;
+  shows = e ∙ ap (λ l. l ++ 10 ∷ []) a.shows ∙ append_assoc old (reply_text (answer t c).1) (10 ∷ []);
+}
 
-line_kept : (t : Tree) (line : List ℕ) (c : PlainCommand) → IsKept t → IsCommandOf line c → IsKept (answer t (served_first c)).0
-line_kept t line c h (inl e) =
-    let u = e.0 in
-    subst (λ (x : PlainCommand). IsKept (answer t x).0) (sym (ap served_first e.3 ∙ served_line u)) (kept_after t (command_in u) h)
-line_kept t line c h (inr e) = subst (λ (x : PlainCommand). IsKept (answer t (served_first x)).0) (sym e.1) h
-
--- the command that a line was read as, and what is served of it
-served_of : (line : List ℕ) (c : Command) (r : ReadsCommand line c) → served_first (command_meant c) ≡ served_first r.command
-served_of line c r = ap served_first r.served ∙ served-served r.command
-
-pub line_answered : (t u : Tree) (line old new : List ℕ) (c : Command) (a : Reply) → ReadsCommand line c
-    → reply_meant a ≡ (answer t (served_first (command_meant c))).1 → u ≡ (answer t (served_first (command_meant c))).0 → new ≡ old ++ shown (reply_meant a)
-    → AnswersLine t line u old new
-line_answered t u line old new c a r e f g =
-    let same = served_of line c r in
-    record {
-      command = r.command;
-      is = r.is;
-      answers = record { after = f ∙ ap (λ x. (answer t x).0) same; shows = g ∙ ap (λ x. old ++ shown x) (e ∙ ap (λ x. (answer t x).1) same) };
-    }
-
-pub kept_behind_line : (t u : Tree) (line : List ℕ) (c : Command) → IsKept t → ReadsCommand line c → u ≡ (answer t (served_first (command_meant c))).0 → IsKept u
-kept_behind_line t u line c h r f =
-    subst (λ (x : Tree). IsKept x) (sym (f ∙ ap (λ x. (answer t x).0) (served_of line c r))) (line_kept t line r.command h r.is)
+-- a line whose only command's reply passes
+pub line_passes : (t : Tree) (line : List ℕ) (n : ℕ) (c : PlainCommand) → ((d : PlainCommand) → IsCommandOf line d → d ≡ c) → PassesOne t c n → PassesLine t line n
+line_passes t line n c only h d is = subst (λ (x : PlainCommand). PassesOne t x n) (sym (only d is)) h

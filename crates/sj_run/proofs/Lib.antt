@@ -1,12 +1,10 @@
 mod LineLemmas
-mod FirstPathLemmas
-mod Runs
+mod Series
 mod rows
 mod SessionLemmas
 mod CommandLemmas
-pub mod Documents
-pub mod Builds
-pub mod Puts
-pub mod Prints
-pub mod Inserts
+pub mod Edits
+pub mod Founds
+pub mod Ways
 pub mod Unread
+mod Kept

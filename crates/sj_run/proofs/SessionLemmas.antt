@@ -1,5 +1,5 @@
 -- Steps of a session.
-use Rattle.std.proofs.Common.{◌≡◌, ℕ, ◌+◌, ◌-◌, ◌<◌, ◌≤◌, Bool, true, false, not, List, [], ◌∷◌, ◌++◌, length, take, drop, map, refl, sym, ap, ◌∙◌, subst, append_assoc, append-nil, length-append, arith, if◌then◌else◌, codes, bytes_eq, Result, Ok, Err, true≢false}
+use Rattle.std.proofs.Common.{◌≡◌, ℕ, ◌+◌, ◌-◌, ◌^◌, ◌<◌, ◌≤◌, true, false, not, List, [], ◌∷◌, ◌++◌, length, take, drop, refl, sym, ap, ◌∙◌, subst, append_assoc, append-nil, length-append, arith, if◌then◌else◌, Result, Ok, Err, true≢false}
 use Rattle.std.specs.Prelude.{OnOk, OnErr, ◌≢◌}
 use Rattle.std.specs.Result.{is_err}
 use Rattle.std.specs.List.{slice_range}
@@ -7,86 +7,27 @@ use Rattle.std.proofs.lemmas.List.Concat.{flat_map-cons}
 use Rattle.std.proofs.lemmas.Slice.{drop-put_mid}
 use borrow.Rule.Slice.PartMut.{put_mid}
 use Rattle.std.proofs.lemmas.List.{take_all, take-take, length-drop, length-take-le, drop-drop}
-use Rattle.sj_text_core.specs.Tree.{Tree, null, boolean, int, text, list, obj, Items, no_items, item, IsWithin}
+use Rattle.sj_text_core.specs.Tree.{Tree, IsWithin}
 use Rattle.sj_text_core.specs.Grammar.{Spells}
-use Rattle.sj_text_core.specs.Keep.{keep, keep_items}
-use Rattle.sj_run.specs.Commands.{PlainCommand, read, write, bad, encode, insert}
-use Rattle.sj_run.specs.CommandLines.{AreCommandsOf, served_first}
+use Rattle.sj_text_core.specs.Keep.{keep}
+use Rattle.sj_run.specs.Commands.{PlainCommand}
+use Rattle.sj_run.specs.CommandLines.{AreCommandsOf}
 use Rattle.sj_run.specs.Answers.{start, answer, replies_of, tree_after}
-use Rattle.sj_run.specs.Answered.{AnswersLine, AnswersLines}
-use Rattle.sj_run.specs.Shown.{shown, shown_all}
-use Rattle.sj_run.specs.Session.{IsServed, IsAnswered}
+use Rattle.sj_run.specs.Answered.{AnswersLine, AnswersLines, IsBegunBy, PassesLine, PassesLines}
+use Rattle.sj_run.specs.Replies.{PlainReply}
+use Rattle.sj_run.specs.Shown.{reply_text, shown, shown_all}
+use Rattle.sj_run.specs.Session.{IsServed, IsAnswered, PassesAll}
 use Rattle.sj_run.specs.declared.sessions.Form.{Form}
 use Rattle.sj_run.specs.declared.sessions.Form.TheVariants.{Owned, Borrowed, Lazy}
-use Rattle.sj_run.specs.declared.sessions.Way.{Way}
-use Rattle.sj_run.specs.declared.sessions.Way.TheVariants.{ByText, ByKnownKey}
+use Rattle.sj_run.specs.declared.document.Way.{Way}
+use Rattle.sj_run.specs.declared.document.Way.TheVariants.{ByText, ByKnownKey}
 use Rattle.sj_run.specs.declared.sessions.SessionFault.{SessionFault}
 use Rattle.sj_run.specs.declared.sessions.SessionFault.TheVariants.{Refused, OutOfMemory as NoMemory}
 use Rattle.sj_text_core.specs.declared.error.ErrorKind.{ErrorKind}
 use Rattle.sj_text_core.specs.declared.error.ErrorKind.TheVariants.{InvalidUtf8, Syntax, LoneSurrogate, Float, NumberTooLarge, TooDeep, OutOfMemory}
 use Rattle.std.proofs.Math.Seq.{take-append_seam}
 use Rattle.sj_run.specs.Lines.{document, lines, after_mark, full_lines, line_text, line_texts, is_empty}
-use Rattle.sj_run.specs.Document.{IsBegunBy}
-use Rattle.sj_run.specs.FirstPath.{first_two, first_four, first_of_items, first_in, kept_command}
 use Rattle.sj_run.proofs.LineLemmas.{LineAt}
-
-kept_if : (x : Bool) (c : PlainCommand) → kept_command c ≡ c → (if x then c else bad) ≡ kept_command (if x then c else bad)
-kept_if true c h = sym h
-kept_if false c h = refl
-
-kept_insert : (x : Bool) (k : List ℕ) (v : Tree) → (if x then write [] (insert k (keep v)) else bad) ≡ kept_command (if x then write [] (insert k v) else bad)
-kept_insert true k v = refl
-kept_insert false k v = refl
-
-two-keep : (a b : Tree) → first_two (keep a) (keep b) ≡ kept_command (first_two a b)
-two-keep null b = refl
-two-keep (boolean x) b = refl
-two-keep (int n c) b = refl
-two-keep (text s) null = refl
-two-keep (text s) (boolean x) = refl
-two-keep (text s) (int n c) = refl
-two-keep (text s) (text x) = refl
-two-keep (text s) (list no_items) = kept_if (bytes_eq s (codes "encode")) (read [] encode) refl
-two-keep (text s) (list (item t is)) = refl
-two-keep (text s) (obj ms) = refl
-two-keep (list is) b = refl
-two-keep (obj ms) b = refl
-
-four-keep : (a b c d : Tree) → first_four (keep a) (keep b) (keep c) (keep d) ≡ kept_command (first_four a b c d)
-four-keep null b c d = refl
-four-keep (boolean x) b c d = refl
-four-keep (int n y) b c d = refl
-four-keep (text s) null c d = refl
-four-keep (text s) (boolean x) c d = refl
-four-keep (text s) (int n y) c d = refl
-four-keep (text s) (text x) c d = refl
-four-keep (text s) (list no_items) null d = refl
-four-keep (text s) (list no_items) (boolean x) d = refl
-four-keep (text s) (list no_items) (int n y) d = refl
-four-keep (text s) (list no_items) (text k) d = kept_insert (bytes_eq s (codes "insert")) k d
-four-keep (text s) (list no_items) (list is) d = refl
-four-keep (text s) (list no_items) (obj ms) d = refl
-four-keep (text s) (list (item t is)) c d = refl
-four-keep (text s) (obj ms) c d = refl
-four-keep (list is) b c d = refl
-four-keep (obj ms) b c d = refl
-
-items-keep : (is : Items) → first_of_items (keep_items is) ≡ kept_command (first_of_items is)
-items-keep no_items = refl
-items-keep (item a no_items) = refl
-items-keep (item a (item b no_items)) = two-keep a b
-items-keep (item a (item b (item c no_items))) = refl
-items-keep (item a (item b (item c (item d no_items)))) = four-keep a b c d
-items-keep (item a (item b (item c (item d (item e is))))) = refl
-
--- keeping the first member of each key changes the value of an insert alone
-pub first_in-keep : (t : Tree) → first_in (keep t) ≡ kept_command (first_in t)
-first_in-keep null = refl
-first_in-keep (boolean b) = refl
-first_in-keep (int n c) = refl
-first_in-keep (text s) = refl
-first_in-keep (list is) = items-keep is
-first_in-keep (obj ms) = refl
 
 -- lines answered in turn
 pub answers-none : (t : Tree) (old : List ℕ) → AnswersLines t [] t old old
@@ -95,17 +36,37 @@ answers-none t old = record { commands = []; are = tt; after = refl; shows = sym
 pub answers-more : (t u v : Tree) (line : List ℕ) (lines : List (List ℕ)) (old mid new : List ℕ)
     → AnswersLine t line u old mid → AnswersLines u lines v mid new → AnswersLines t (line ∷ lines) v old new
 answers-more t u v line lines old mid new a b =
-    let c = served_first a.command in
-    let cs = map served_first b.commands in
+    let c = a.command in
+    let cs = b.commands in
     record {
-      commands = a.command ∷ b.commands;
+      commands = c ∷ cs;
       are = (a.is, b.are);
-      after = b.after ∙ ap (λ x. tree_after x cs) a.answers.after;
+      after = b.after ∙ ap (λ x. tree_after x cs) a.after;
       shows =
-          b.shows ∙ ap (λ x. x ++ shown_all (replies_of u cs)) a.answers.shows ∙ append_assoc old (shown (answer t c).1) (shown_all (replies_of u cs))
-          ∙ ap (λ x. old ++ (shown (answer t c).1 ++ shown_all (replies_of x cs))) a.answers.after
+          b.shows ∙ ap (λ x. x ++ shown_all (replies_of u cs)) a.shows ∙ append_assoc old (shown (answer t c).1) (shown_all (replies_of u cs))
+          ∙ ap (λ x. old ++ (shown (answer t c).1 ++ shown_all (replies_of x cs))) a.after
           ∙ ap (λ x. old ++ x) (sym (flat_map-cons shown (answer t c).1 (replies_of (answer t c).0 cs)));
     }
+
+shown_length : (r : PlainReply) (rs : List PlainReply) → length (shown_all (r ∷ rs)) ≡ (length (reply_text r) + 1) + length (shown_all rs)
+shown_length r rs = ap length (flat_map-cons shown r rs) ∙ length-append (shown r) (shown_all rs) ∙ ap (λ n. n + length (shown_all rs)) (length-append (reply_text r) (10 ∷ []))
+
+-- where the first reply passes, all do
+pub passes_first : (t : Tree) (line : List ℕ) (lines : List (List ℕ)) (n : ℕ) → PassesLine t line n → PassesLines t (line ∷ lines) n
+passes_first t line lines n h [] a = absurd a
+passes_first t line lines n h (c ∷ cs) a = omega (arith, h c a.0, shown_length (answer t c).1 (replies_of (answer t c).0 cs))
+
+passes_by : (t u : Tree) (c : PlainCommand) (cs : List PlainCommand) (old mid : List ℕ) → u ≡ (answer t c).0 → mid ≡ old ++ shown (answer t c).1
+    → 2 ^ 64 ≤ length mid + length (shown_all (replies_of u cs)) → 2 ^ 64 ≤ length old + length (shown_all (replies_of t (c ∷ cs)))
+passes_by t u c cs old mid after shows h =
+    let r = (answer t c).1 in
+    omega (arith, h, ap length shows ∙ length-append old (shown r) ∙ ap (λ n. length old + n) (length-append (reply_text r) (10 ∷ [])), ap (λ x. length (shown_all (replies_of x cs))) after, shown_length r (replies_of (answer t c).0 cs))
+
+-- where those behind an answered line pass, all do
+pub passes_more : (t u : Tree) (line : List ℕ) (lines : List (List ℕ)) (old mid : List ℕ) → AnswersLine t line u old mid → PassesLines u lines (length mid) → PassesLines t (line ∷ lines) (length old)
+passes_more t u line lines old mid a h [] e = absurd e
+passes_more t u line lines old mid a h (c ∷ cs) e =
+    subst (λ (x : PlainCommand). 2 ^ 64 ≤ length old + length (shown_all (replies_of t (x ∷ cs)))) (sym (a.only c e.0)) (passes_by t u a.command cs old mid a.after a.shows (h cs e.1))
 
 -- the texts of lines, by whether the first has one
 texts-first : (l : List ℕ) (ls : List (List ℕ)) (m : List ℕ) → line_text l ≡ m → line_texts (l ∷ ls) ≡ (if not (is_empty m) then m ∷ line_texts ls else line_texts ls)
@@ -195,12 +156,13 @@ written_length a at n line h e =
     let same : length line ≡ k = e ∙ part_length a at n h in
     omega (arith, same, length-append (take at a) (line ++ post), length-append line post, length-take-le at a (omega (arith, h)), length-drop k (drop at a), length-drop at a)
 
--- what a served session appends
-pub owned_start : (f : Form) (w : Way) (t : Tree) → IsServed f w → start f t ≡ keep t
-owned_start Owned ByText t h = refl
-owned_start Owned ByKnownKey t h = absurd h
-owned_start Borrowed w t h = absurd h
-owned_start Lazy w t h = absurd h
+-- a served session begins with the first member of each key alone
+pub kept_start : (f : Form) (w : Way) (t : Tree) → IsServed f w → start f t ≡ keep t
+kept_start Owned ByText t h = refl
+kept_start Owned ByKnownKey t h = absurd h
+kept_start Borrowed ByText t h = refl
+kept_start Borrowed ByKnownKey t h = absurd h
+kept_start Lazy w t h = absurd h
 
 -- what is left of bytes that went on, cut to their old length
 pub begun_cut : (old new : List ℕ) → IsBegunBy old new → take (length old) new ≡ old
@@ -221,7 +183,7 @@ pub session_answered : (f : Form) (w : Way) (input part behind : List ℕ) (t u 
     → IsServed f w → part ≡ document input → line_texts (full_lines behind) ≡ lines input → Spells part t → IsWithin t
     → AnswersLines (keep t) (line_texts (full_lines behind)) u old new → (written : List ℕ) × (new ≡ old ++ written) × IsAnswered f input written
 session_answered f w input part behind t u old new served e lines_are s within a = (
-  shown_all (replies_of (keep t) (map served_first a.commands)),
+  shown_all (replies_of (keep t) a.commands),
   a.shows,
   record {
     tree = t;
@@ -229,7 +191,7 @@ session_answered f w input part behind t u old new served e lines_are s within a
     within = within;
     commands = a.commands;
     lines_are = subst (λ (ls : List (List ℕ)). AreCommandsOf ls a.commands) lines_are a.are;
-    replies = ap (λ x. shown_all (replies_of x (map served_first a.commands))) (sym (owned_start f w t served));
+    replies = ap (λ x. shown_all (replies_of x a.commands)) (sym (kept_start f w t served));
   },
 )
 
@@ -249,3 +211,13 @@ lines_behind input behind at next h within e f =
     let whole : take (length behind - k) (drop k behind) ≡ drop k behind = take_all (length behind - k) (drop k behind) (omega (arith, length-drop k behind)) in
     let there : drop k behind ≡ drop next input = ap (λ r. drop k r) e ∙ drop-drop k at input ∙ (let m : at + k ≡ next = omega (arith, h) in ap (λ m. drop m input) m) in
     ap (λ r. line_texts (full_lines r)) (whole ∙ there) ∙ ap (λ ls. line_texts ls) f
+
+-- a session whose replies pass
+pub session_passes : (f : Form) (w : Way) (input part behind : List ℕ) (t : Tree) (n : ℕ)
+    → IsServed f w → part ≡ document input → line_texts (full_lines behind) ≡ lines input → Spells part t → IsWithin t → PassesLines (keep t) (line_texts (full_lines behind)) n → PassesAll f input n
+session_passes f w input part behind t n served e lines_are s within h = record {
+  tree = t;
+  spelled = subst (λ (b : List ℕ). Spells b t) e s;
+  within = within;
+  passes = λ cs are. subst (λ (x : Tree). 2 ^ 64 ≤ n + length (shown_all (replies_of x cs))) (sym (kept_start f w t served)) (h cs (subst (λ (ls : List (List ℕ)). AreCommandsOf ls cs) (sym lines_are) are));
+}

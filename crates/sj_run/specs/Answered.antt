@@ -1,33 +1,53 @@
 -- Steps of a session: what a reply leaves of the tree and of the output. Only private clauses cite it.
-use Rattle.std.specs.Prelude.{◌≡◌, ℕ, List, ◌++◌, map}
-use Rattle.sj_text_core.specs.Tree.{Tree}
+use Rattle.std.specs.Prelude.{◌≡◌, ℕ, ◌+◌, ◌^◌, ◌≤◌, List, ◌++◌, length}
+use Rattle.sj_text_core.specs.Tree.{Tree, IsWithin}
+use Rattle.sj_text_core.specs.Grammar.{Spells}
+use Rattle.sj_text_core.specs.Keep.{keep}
 use Rattle.sj_run.specs.Commands.{PlainCommand}
-use Rattle.sj_run.specs.CommandLines.{IsCommandOf, AreCommandsOf, served_first}
+use Rattle.sj_run.specs.CommandLines.{IsCommandOf, AreCommandsOf}
 use Rattle.sj_run.specs.Answers.{answer, replies_of, tree_after}
-use Rattle.sj_run.specs.Meant.{command_meant}
-use Rattle.sj_run.specs.Shown.{shown, shown_all}
-use Rattle.sj_run.specs.declared.command.Command.{Command}
+use Rattle.sj_run.specs.Shown.{reply_text, shown, shown_all}
 
--- a line was read as a command: what is served of the line's command
-pub record ReadsCommand (line : List ℕ) (c : Command) : Type 0 where
-  pub command : PlainCommand
-  pub is : IsCommandOf line command
-  pub served : command_meant c ≡ served_first command
+-- a document was read: the bytes spell a tree within the limit, and u is that tree with the first member of each key
+pub record ReadsTree (b : List ℕ) (u : Tree) : Type 0 where
+  pub tree : Tree
+  pub spelled : Spells b tree
+  pub within : IsWithin tree
+  pub kept : u ≡ keep tree
 
--- a command was answered: the tree t became u, and the output grew by the reply
+-- bytes that begin with those, and go on in some way
+pub record IsBegunBy (old new : List ℕ) : Type 0 where
+  pub rest : List ℕ
+  pub goes_on : new ≡ old ++ rest
+
+-- a command was answered: the tree t became u, and the output grew by the text of the reply
 pub record Answers (t : Tree) (c : PlainCommand) (u : Tree) (old new : List ℕ) : Type 0 where
   pub after : u ≡ (answer t c).0
-  pub shows : new ≡ old ++ shown (answer t c).1
+  pub shows : new ≡ old ++ reply_text (answer t c).1
 
--- the command of a line was answered
+-- the command of a line was answered, which is its only one
 pub record AnswersLine (t : Tree) (line : List ℕ) (u : Tree) (old new : List ℕ) : Type 0 where
   pub command : PlainCommand
   pub is : IsCommandOf line command
-  pub answers : Answers t (served_first command) u old new
+  pub only : (c : PlainCommand) → IsCommandOf line c → c ≡ command
+  pub after : u ≡ (answer t command).0
+  pub shows : new ≡ old ++ shown (answer t command).1
 
 -- the commands of lines were answered in turn
 pub record AnswersLines (t : Tree) (texts : List (List ℕ)) (u : Tree) (old new : List ℕ) : Type 0 where
   pub commands : List PlainCommand
   pub are : AreCommandsOf texts commands
-  pub after : u ≡ tree_after t (map served_first commands)
-  pub shows : new ≡ old ++ shown_all (replies_of t (map served_first commands))
+  pub after : u ≡ tree_after t commands
+  pub shows : new ≡ old ++ shown_all (replies_of t commands)
+
+-- so many bytes and the reply pass 2^64-1
+abbrev pub PassesOne : Tree → PlainCommand → ℕ → Type 0
+PassesOne t c n = 2 ^ 64 ≤ n + length (reply_text (answer t c).1)
+
+-- the same of the line's command
+abbrev pub PassesLine : Tree → List ℕ → ℕ → Type 0
+PassesLine t line n = (c : PlainCommand) → IsCommandOf line c → PassesOne t c n
+
+-- so many bytes and all replies pass 2^64-1
+abbrev pub PassesLines : Tree → List (List ℕ) → ℕ → Type 0
+PassesLines t texts n = (cs : List PlainCommand) → AreCommandsOf texts cs → 2 ^ 64 ≤ n + length (shown_all (replies_of t cs))

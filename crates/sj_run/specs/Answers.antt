@@ -1,5 +1,5 @@
 -- What commands answer on one plain tree, and the tree that they leave.
-use Rattle.std.specs.Prelude.{ℕ, Bool, List, [], ◌∷◌, Option, Some, None, is_some}
+use Rattle.std.specs.Prelude.{ℕ, ◌^◌, ◌≤◌, Bool, length, List, [], ◌∷◌, Option, Some, None, is_some}
 use Rattle.sj_text_core.specs.Tree.{Tree, null, boolean, int, text, list, obj, Members, no_members, member, items_len, members_len}
 use Rattle.sj_text_core.specs.Find.{find, find_member}
 use Rattle.sj_text_core.specs.Keep.{keep}
@@ -84,6 +84,11 @@ abbrev pub answer : Tree → PlainCommand → Tree × PlainReply
 answer t (read p r) = (t, read_found (tree_at p t) r)
 answer t (write p w) = edit p w (keep t)
 answer t bad = (t, reply.bad_command)
+
+-- a print past 2^64-1 bytes
+abbrev pub IsLong : PlainReply → Type 0
+IsLong (reply.printed s) = 2 ^ 64 ≤ length s
+IsLong r = ⊥
 
 -- the replies to commands in order
 abbrev pub replies_of : Tree → List PlainCommand → List PlainReply

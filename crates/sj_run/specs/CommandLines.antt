@@ -102,9 +102,3 @@ AreCommandsOf [] [] = ⊤
 AreCommandsOf [] (c ∷ cs) = ⊥
 AreCommandsOf (l ∷ ls) [] = ⊥
 AreCommandsOf (l ∷ ls) (c ∷ cs) = IsCommandOf l c × AreCommandsOf ls cs
-
--- Until all commands are served: `encode` and `insert` at the empty path are; each other line is bad.
-abbrev pub served_first : PlainCommand → PlainCommand
-served_first (read [] encode) = read [] encode
-served_first (write [] (insert k v)) = write [] (insert k v)
-served_first c = bad

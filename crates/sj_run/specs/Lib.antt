@@ -1,12 +1,14 @@
 pub mod Commands
 pub mod Replies
 pub mod Answers
+pub mod Run
 pub mod Lines
 pub mod CommandLines
 pub mod Shown
 pub mod Session
-pub mod Answered
-pub mod FirstPath
-pub mod Document
 pub mod Meant
 pub mod Laws
+pub mod Asked
+pub mod Found
+pub mod Changed
+pub mod Answered

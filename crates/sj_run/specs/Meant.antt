@@ -1,13 +1,15 @@
 -- What steps, commands and replies of the code mean.
 use Rattle.std.specs.Prelude.{List, map, string_bytes}
 use Rattle.sj_text_core.specs.Paths.{Step as PlainStep, by_key, by_place}
-use Rattle.sj_run.specs.Commands.{PlainCommand, read, write, bad, encode, insert}
-use Rattle.sj_run.specs.Document.{document_tree}
-use Rattle.sj_run.specs.Replies.{PlainReply, printed, old, nothing, not_an_object, bad_command}
+use Rattle.sj_document.specs.Document.{tree}
+use Rattle.sj_run.specs.Commands as plain
+use Rattle.sj_run.specs.Replies as said
 use Rattle.sj_run.specs.declared.command.Command.{Command}
 use Rattle.sj_run.specs.declared.command.Command.TheVariants as command
 use Rattle.sj_run.specs.declared.command.Step.{Step}
 use Rattle.sj_run.specs.declared.command.Step.TheVariants.{Key, Idx}
+use Rattle.sj_run.specs.declared.command.Width.{Width}
+use Rattle.sj_run.specs.declared.command.Width.TheVariants as width
 use Rattle.sj_run.specs.declared.reply.Reply.{Reply}
 use Rattle.sj_run.specs.declared.reply.Reply.TheVariants as reply
 
@@ -18,14 +20,48 @@ step_meant (Idx i) = by_place i
 abbrev pub path_meant : List Step → List PlainStep
 path_meant p = map step_meant p
 
-abbrev pub command_meant : Command → PlainCommand
-command_meant (command.Encode p) = read (path_meant p.items) encode
-command_meant (command.Insert p k d) = write (path_meant p.items) (insert (string_bytes k) (document_tree d))
-command_meant command.Bad = bad
+abbrev pub width_meant : Width → plain.Width
+width_meant width.I8 = plain.signed 8
+width_meant width.I16 = plain.signed 16
+width_meant width.I32 = plain.signed 32
+width_meant width.I64 = plain.signed 64
+width_meant width.I128 = plain.signed 128
+width_meant width.U8 = plain.unsigned 8
+width_meant width.U16 = plain.unsigned 16
+width_meant width.U32 = plain.unsigned 32
+width_meant width.U64 = plain.unsigned 64
+width_meant width.U128 = plain.unsigned 128
+width_meant width.Usize = plain.unsigned 64
 
-abbrev pub reply_meant : Reply → PlainReply
-reply_meant (reply.Printed s) = printed (string_bytes s)
-reply_meant (reply.Old d) = old (document_tree d)
-reply_meant reply.Nothing = nothing
-reply_meant reply.NotAnObject = not_an_object
-reply_meant reply.BadCommand = bad_command
+abbrev pub command_meant : Command → plain.PlainCommand
+command_meant (command.Kind p) = plain.read (path_meant p.items) plain.kind
+command_meant (command.Fits p w) = plain.read (path_meant p.items) (plain.fits (width_meant w))
+command_meant (command.Str p) = plain.read (path_meant p.items) plain.str
+command_meant (command.Len p) = plain.read (path_meant p.items) plain.len
+command_meant (command.Keys p) = plain.read (path_meant p.items) plain.keys
+command_meant (command.Has p k) = plain.read (path_meant p.items) (plain.has (string_bytes k))
+command_meant (command.Encode p) = plain.read (path_meant p.items) plain.encode
+command_meant (command.EncodePp p) = plain.read (path_meant p.items) plain.encode_pp
+command_meant command.Bad = plain.bad
+command_meant (command.Insert p k v) = plain.write (path_meant p.items) (plain.insert (string_bytes k) (tree string_bytes v))
+command_meant (command.Remove p k) = plain.write (path_meant p.items) (plain.remove (string_bytes k))
+command_meant (command.Push p v) = plain.write (path_meant p.items) (plain.push (tree string_bytes v))
+command_meant (command.Pop p) = plain.write (path_meant p.items) plain.pop
+command_meant (command.Put p v) = plain.write (path_meant p.items) (plain.put (tree string_bytes v))
+
+abbrev pub reply_meant : Reply → said.PlainReply
+reply_meant (reply.Kind k) = said.kind k
+reply_meant (reply.Truth b) = said.truth b
+reply_meant (reply.Text s) = said.text (string_bytes s)
+reply_meant (reply.Count n) = said.count n
+reply_meant (reply.Keys ks) = said.keys (map string_bytes ks.items)
+reply_meant (reply.Printed s) = said.printed (string_bytes s)
+reply_meant (reply.Old v) = said.old (tree string_bytes v)
+reply_meant reply.Nothing = said.nothing
+reply_meant reply.Done = said.done
+reply_meant reply.Missing = said.missing
+reply_meant reply.NotAnObject = said.not_an_object
+reply_meant reply.NotAnArray = said.not_an_array
+reply_meant reply.NotAString = said.not_a_string
+reply_meant reply.NoLength = said.no_length
+reply_meant reply.BadCommand = said.bad_command

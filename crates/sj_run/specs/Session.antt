@@ -1,25 +1,27 @@
 -- What a session answers.
-use Rattle.std.specs.Prelude.{◌≡◌, ℕ, List, map, ⊤}
+use Rattle.std.specs.Prelude.{◌≡◌, ℕ, ◌+◌, ◌^◌, ◌≤◌, List, length, ⊤}
 use Rattle.sj_text_core.specs.Tree.{Tree, IsWithin}
 use Rattle.sj_text_core.specs.Grammar.{Spells}
 use Rattle.sj_run.specs.Commands.{PlainCommand}
-use Rattle.sj_run.specs.CommandLines.{AreCommandsOf, served_first}
+use Rattle.sj_run.specs.CommandLines.{AreCommandsOf}
 use Rattle.sj_run.specs.Answers.{replies_of, start}
-use Rattle.sj_text_core.specs.Keep.{keep}
-use Rattle.sj_run.specs.Document.{document_tree}
 use Rattle.sj_run.specs.Lines.{document, lines}
-use Rattle.sj_run.specs.declared.document.Document.{Document}
 use Rattle.sj_run.specs.Shown.{shown_all}
+use Rattle.sj_run.specs.declared.document.Way.{Way}
+use Rattle.sj_run.specs.declared.document.Way.TheVariants.{ByText, ByKnownKey}
+use Rattle.sj_run.specs.declared.runs.Why.{Why}
+use Rattle.sj_run.specs.declared.runs.Why.TheVariants as why
 use Rattle.sj_run.specs.declared.sessions.Form.{Form}
 use Rattle.sj_run.specs.declared.sessions.Form.TheVariants.{Owned, Borrowed, Lazy}
-use Rattle.sj_run.specs.declared.sessions.Way.{Way}
-use Rattle.sj_run.specs.declared.sessions.Way.TheVariants.{ByText, ByKnownKey}
+use Rattle.sj_run.specs.declared.sessions.SessionFault.{SessionFault}
+use Rattle.sj_run.specs.declared.sessions.SessionFault.TheVariants as fault
 
 -- the forms and ways that are served today
 abbrev pub IsServed : Form → Way → Type 0
 IsServed Owned ByText = ⊤
 IsServed Owned ByKnownKey = ⊥
-IsServed Borrowed w = ⊥
+IsServed Borrowed ByText = ⊤
+IsServed Borrowed ByKnownKey = ⊥
 IsServed Lazy w = ⊥
 
 -- The document spells a tree within the limit, and written are the replies to the lines' commands on that tree as the form reads it.
@@ -29,11 +31,16 @@ pub record IsAnswered (form : Form) (input written : List ℕ) : Type 0 where
   pub within : IsWithin tree
   pub commands : List PlainCommand
   pub lines_are : AreCommandsOf (lines input) commands
-  pub replies : written ≡ shown_all (replies_of (start form tree) (map served_first commands))
+  pub replies : written ≡ shown_all (replies_of (start form tree) commands)
 
--- A document was read: the bytes spell a tree within the limit, and it means that tree with the first member of each key.
-pub record ReadsDocument (b : List ℕ) (d : Document) : Type 0 where
+-- The document spells a tree within the limit, and n bytes with the replies to the lines' commands on that tree pass 2^64-1.
+pub record PassesAll (form : Form) (input : List ℕ) (n : ℕ) : Type 0 where
   pub tree : Tree
-  pub spelled : Spells b tree
+  pub spelled : Spells (document input) tree
   pub within : IsWithin tree
-  pub kept : document_tree d ≡ keep tree
+  pub passes : (commands : List PlainCommand) → AreCommandsOf (lines input) commands → 2 ^ 64 ≤ n + length (shown_all (replies_of (start form tree) commands))
+
+-- a session's fault where a command was refused
+abbrev pub fault_of : Why → SessionFault
+fault_of why.OutOfMemory = fault.OutOfMemory
+fault_of why.TooLong = fault.TooLong

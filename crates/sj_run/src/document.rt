@@ -1,107 +1,94 @@
-//! A session's document: a value with its own texts, in which no object has a key twice.
+//! Documents that answer commands.
 
-ghost use Rattle.std.specs.Prelude.{◌≡◌, option_map, IfOk, OnOk, OnErr, position, string_bytes, bytes_eq};
-ghost use Rattle.sj_text_core.specs.Edits.{put as put_member};
-ghost use Rattle.sj_text_core.specs.Find.{find_member};
-ghost use Rattle.sj_text_core.specs.Keep.{IsKept};
-ghost use Rattle.sj_run.specs.Answers.{answer, changed};
-ghost use Rattle.sj_run.specs.CommandLines.{served_first};
-ghost use Rattle.sj_run.specs.Commands as command;
-ghost use Rattle.sj_run.specs.Document.{document_tree, members_tree};
+ghost use Rattle.std.specs.Prelude.{◌≡◌, ◌↔◌, IfOk, OnOk, OnErr, IsErrOf, string_bytes};
+ghost use Rattle.std.specs.Cow.{cow_str_bytes};
+ghost use Rattle.sj_text_core.specs.Tree.{Tree};
+ghost use Rattle.sj_run.specs.Answers.{answer, IsLong};
 ghost use Rattle.sj_run.specs.Meant.{command_meant, reply_meant};
+ghost use Rattle.sj_run.specs.Run.{Leaves};
 
-mod build;
-mod print;
-#[cfg(test)]
-mod tests;
-
-use crate::command::Command;
+use crate::change::{change_at, owned_changed, reply_of};
+use crate::command::{Asked, Command, taken_apart};
+use crate::find::find;
 use crate::reply::Reply;
-pub(crate) use build::build;
-pub(crate) use print::{printed, write};
-use sj_text_core::StaticNode;
-use std::alloc::{AllocError, Global};
-use std::mem;
+use crate::runs::Why;
+use crate::texts::borrowed_write;
+use sj_document::{BorrowedValue, OwnedValue};
+use std::alloc::Global;
+use std::borrow::CowStr;
 
-/// A value with its own texts.
-#[derive(Drop)]
-pub(crate) enum Document {
-    /// A null, a truth value or a whole number.
-    Static(StaticNode),
-    /// A text.
-    String(String),
-    /// The items of an array.
-    Array(Vec<Document>),
-    /// The members of an object in order.
-    Object(Vec<(String, Document)>),
+/// How the keys of commands are looked up.
+#[derive(Clone, Copy, Debug, PartialEq, Eq)]
+pub enum Way {
+    /// By their texts.
+    ByText,
+    /// By known keys, which keep their hashes.
+    ByKnownKey,
 }
 
-/// Where the first member with that key stands.
-fn position_of(members: &[(String, Document)], key: &str) -> Option<usize>
-    ensures { result ≡ position (λ p. bytes_eq key.now (string_bytes p.0)) members.now }
-{
-    members.iter().position(|member| key == member.0.as_str())
+/// A document that answers commands.
+pub trait Document {
+    /// The tree that it means.
+    ghost tree: { Self → Tree };
+
+    /// Answers a command as its tree does. `TooLong` is answered exactly where the reply is a print
+    /// past `usize::MAX` bytes. Refused, a read leaves the tree as it was; a write leaves it so, or
+    /// with the first member of each key alone, or as the command makes it.
+    fn apply(&mut self, alloc: Global, command: Command) -> Result<Reply, Why>
+        ensures reply { IfOk result (λ reply. reply_meant reply ≡ (answer (tree self.old) (command_meant command)).1) }
+        ensures after { OnOk result (tree self.new ≡ (answer (tree self.old) (command_meant command)).0) }
+        ensures refused { OnErr result (Leaves (tree self.old) (command_meant command) (tree self.new)) }
+        ensures too_long { IsErrOf result Why.TooLong ↔ IsLong (answer (tree self.old) (command_meant command)).1 };
 }
 
-/// The value goes to the place of the key, where there is one, and else last with its key.
-fn put(
-    members: &mut Vec<(String, Document)>,
-    key: String,
-    value: Document,
-) -> Result<Option<Document>, AllocError>
-    ensures answer { IfOk result (λ old. option_map document_tree old ≡ find_member (string_bytes key) (members_tree members.old.items)) }
-    ensures after { OnOk result (members_tree members.new.items ≡ put_member (string_bytes key) (document_tree value) (members_tree members.old.items)) }
-    ensures refused { OnErr result (members_tree members.new.items ≡ members_tree members.old.items) }
-{
-    match position_of(members, key.as_str()) {
-        Some(at) => Ok(Some(mem::replace(&mut members[at].1, value))),
-        None => {
-            members.push((key, value))?;
-            Ok(None)
+/// A document that owns its texts.
+#[derive(Debug, Drop)]
+pub struct OwnedDoc {
+    /// How keys are looked up; today by text in both ways.
+    pub way: Way,
+    /// The document.
+    pub value: OwnedValue,
+}
+
+impl Document for OwnedDoc {
+    ghost use Rattle.std.specs.Prelude.{string_bytes};
+    ghost use Rattle.sj_document.specs.Document.{tree as tree_of};
+
+    ghost tree = { λ d. tree_of string_bytes d.value };
+
+    fn apply(&mut self, alloc: Global, command: Command) -> Result<Reply, Why> {
+        match taken_apart(command) {
+            Asked::Read(path, read) => find(&self.value, &path, &read).into_reply(alloc),
+            Asked::Write(path, write) => Ok(reply_of(change_at(&mut self.value, &path, write)?)),
+            Asked::Bad => Ok(Reply::BadCommand),
         }
     }
 }
 
-/// Puts the value at the key of an object. Refused for want of memory, it changes nothing.
-fn insert(document: &mut Document, key: String, value: Document) -> Result<Reply, AllocError>
-    ensures reply { IfOk result (λ reply. reply_meant reply ≡ (changed (command.insert (string_bytes key) (document_tree value)) (document_tree document.old)).1) }
-    ensures after { OnOk result (document_tree document.new ≡ (changed (command.insert (string_bytes key) (document_tree value)) (document_tree document.old)).0) }
-    ensures refused { OnErr result (document_tree document.new ≡ document_tree document.old) }
-{
-    match document {
-        Document::Object(members) => match put(members, key, value)? {
-            Some(old) => Ok(Reply::Old(old)),
-            None => Ok(Reply::Nothing),
-        },
-        _ => Ok(Reply::NotAnObject),
-    }
+/// A document whose texts may be lent.
+#[derive(Debug, Drop)]
+pub struct BorrowedDoc<'v> {
+    /// How keys are looked up; today by text in both ways.
+    pub way: Way,
+    /// The document.
+    pub value: BorrowedValue<'v>,
 }
 
-impl Document {
-    /// Answers a command at the empty path; at any other path none is served. Refused for want of
-    /// memory, it leaves the document as it was.
-    pub(crate) fn apply(&mut self, alloc: Global, command: Command) -> Result<Reply, AllocError>
-        requires { IsKept (document_tree self.old) }
-        ensures reply { IfOk result (λ reply. reply_meant reply ≡ (answer (document_tree self.old) (served_first (command_meant command))).1) }
-        ensures after { OnOk result (document_tree self.new ≡ (answer (document_tree self.old) (served_first (command_meant command))).0) }
-        ensures refused { OnErr result (document_tree self.new ≡ document_tree self.old) }
-    {
-        match command {
-            Command::Encode(path) => {
-                if path.is_empty() {
-                    Ok(Reply::Printed(printed(alloc, self)?))
-                } else {
-                    Ok(Reply::BadCommand)
-                }
+impl<'v> Document for BorrowedDoc<'v> {
+    ghost use Rattle.std.specs.Cow.{cow_str_bytes};
+    ghost use Rattle.sj_document.specs.Document.{tree as tree_of};
+
+    ghost tree = { λ d. tree_of cow_str_bytes d.value };
+
+    fn apply(&mut self, alloc: Global, command: Command) -> Result<Reply, Why> {
+        match taken_apart(command) {
+            Asked::Read(path, read) => find(&self.value, &path, &read).into_reply(alloc),
+            Asked::Write(path, write) => {
+                let write = borrowed_write(alloc, write)?;
+                let changed = change_at(&mut self.value, &path, write)?;
+                Ok(reply_of(owned_changed(alloc, changed)?))
             }
-            Command::Insert(path, key, value) => {
-                if path.is_empty() {
-                    insert(self, key, value)
-                } else {
-                    Ok(Reply::BadCommand)
-                }
-            }
-            Command::Bad => Ok(Reply::BadCommand),
+            Asked::Bad => Ok(Reply::BadCommand),
         }
     }
 }

@@ -1,14 +1,22 @@
-//! Sessions: a document and commands at it come in as bytes, and replies go out as bytes. They are
-//! those that the same commands get on one plain tree.
+//! Commands at documents, and sessions of them over bytes. Whatever holds a document, the replies
+//! are those that the same commands get on one plain tree.
 #![tactic(auto)]
 
+mod change;
 mod command;
 mod document;
+mod find;
 pub mod laws;
 mod lines;
 mod reply;
+mod runs;
 mod sessions;
 #[cfg(test)]
 mod tests;
+mod texts;
 
-pub use sessions::{Form, SessionFault, Way, session};
+pub use command::{Command, Step, Width};
+pub use document::{BorrowedDoc, Document, OwnedDoc, Way};
+pub use reply::Reply;
+pub use runs::{RunFault, Why, run};
+pub use sessions::{Form, SessionFault, session};

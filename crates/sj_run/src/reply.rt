@@ -1,47 +1,39 @@
 //! Replies: what a command answers.
 
-ghost use Rattle.std.specs.Prelude.{◌≡◌, ◌++◌, OnOk, OnErr};
-ghost use Rattle.sj_run.specs.Document.{IsBegunBy};
-ghost use Rattle.sj_run.specs.Meant.{reply_meant};
-ghost use Rattle.sj_run.specs.Shown.{reply_text, shown};
-
-use crate::document::{Document, write};
-use std::alloc::AllocError;
+use sj_document::OwnedValue;
+use sj_text_core::ValueType;
 
 /// What a command answers.
-#[derive(Drop)]
-pub(crate) enum Reply {
+#[derive(Debug, Drop, PartialEq, Eq)]
+pub enum Reply {
+    /// A kind.
+    Kind(ValueType),
+    /// A truth value.
+    Truth(bool),
+    /// A text.
+    Text(String),
+    /// How many there are.
+    Count(usize),
+    /// Keys in order.
+    Keys(Vec<String>),
     /// A print.
     Printed(String),
-    /// The value that the key had.
-    Old(Document),
-    /// The key is new.
+    /// The value that was there.
+    Old(OwnedValue),
+    /// None was there.
     Nothing,
-    /// The value at the path is no object, and stays as it was.
+    /// It is done.
+    Done,
+    /// Nothing stands at the path.
+    Missing,
+    /// The value is no object.
     NotAnObject,
-    /// The command is none that is served.
+    /// The value is no array.
+    NotAnArray,
+    /// The value is no text.
+    NotAString,
+    /// The value is no array and no object.
+    NoLength,
+    /// It is no command.
     BadCommand,
-}
-
-fn write_text(reply: &Reply, out: &mut Vec<u8>) -> Result<(), AllocError>
-    ensures ok { OnOk result (out.new.items ≡ out.old.items ++ reply_text (reply_meant reply.now)) }
-    ensures refused { OnErr result (out.new.items ≡ out.old.items) }
-{
-    match reply {
-        Reply::Printed(text) => out.extend_from_slice(text.as_bytes()),
-        Reply::Old(value) => write(value, out),
-        Reply::Nothing => out.extend_from_slice(b"none"),
-        Reply::NotAnObject => out.extend_from_slice(b"not an object"),
-        Reply::BadCommand => out.extend_from_slice(b"bad command"),
-    }
-}
-
-/// Appends what is shown of a reply: its text and a line feed.
-pub(crate) fn write_reply(reply: &Reply, out: &mut Vec<u8>) -> Result<(), AllocError>
-    ensures ok { OnOk result (out.new.items ≡ out.old.items ++ shown (reply_meant reply.now)) }
-    ensures err { OnErr result (IsBegunBy out.old.items out.new.items) }
-{
-    write_text(reply, out)?;
-    out.push(b'\n')?;
-    Ok(())
 }

@@ -1,18 +1,22 @@
 //! Sessions over bytes.
 
-ghost use Rattle.std.specs.Prelude.{◌≡◌, ◌≢◌, ◌↔◌, List, ℕ, ◌++◌, IfOk, OnOk, OnErr, IsErrOf, IsUtf8, Ok, Err};
+ghost use Rattle.std.specs.Prelude.{◌≡◌, ◌≢◌, ◌↔◌, List, ℕ, ◌++◌, IfOk, OnOk, OnErr, IsErrOf, IsUtf8, Ok, Err, length};
 ghost use Rattle.sj_text_core.specs.Grammar.{IsReadable};
 ghost use Rattle.sj_run.specs.Lines.{document as document_of};
-ghost use Rattle.sj_run.specs.Session.{IsServed, IsAnswered, ReadsDocument};
+ghost use Rattle.sj_run.specs.Answered.{ReadsTree};
+ghost use Rattle.sj_run.specs.Session.{IsServed, IsAnswered, PassesAll};
 
 mod answer;
 
-use crate::document::{Document, build};
+use crate::document::{BorrowedDoc, OwnedDoc, Way};
 use crate::lines::cut_at_mark;
+use crate::runs::Why;
 use crate::sessions::answer::answer_all;
-use sj_tape::to_tape;
+use sj_document::{BorrowedValue, OwnedValue};
+use sj_object::{Builder, KeyOf, deserialize};
 use sj_text_core::ErrorKind;
 use std::alloc::{AllocError, Global};
+use std::borrow::CowStr;
 use thiserror::Error;
 
 /// Which type holds a session's document.
@@ -30,24 +34,16 @@ impl Form {
     ghost use Rattle.std.specs.Prelude.{◌↔◌, IsTrue};
     ghost use Rattle.sj_run.specs.Session.{IsServed};
 
-    /// Whether a session serves the form in this way: today owned documents by text.
+    /// Whether a session serves the form in this way: today owned and borrowed documents by text.
     pub fn is_served(self, way: Way) -> bool
         ensures { IsTrue result ↔ IsServed self way }
     {
         match (self, way) {
             (Form::Owned, Way::ByText) => true,
+            (Form::Borrowed, Way::ByText) => true,
             _ => false,
         }
     }
-}
-
-/// How the keys of commands are looked up.
-#[derive(Clone, Copy, Debug, PartialEq, Eq)]
-pub enum Way {
-    /// By their texts.
-    ByText,
-    /// By known keys, which keep their hashes.
-    ByKnownKey,
 }
 
 /// Why a session gave no replies.
@@ -78,6 +74,20 @@ impl From<AllocError> for SessionFault {
     }
 }
 
+impl From<Why> for SessionFault {
+    ghost use Rattle.std.specs.Prelude.{◌≡◌};
+    ghost use Rattle.sj_run.specs.Session.{fault_of};
+
+    ghost from_gives = { λ why fault. fault ≡ fault_of why };
+
+    fn from(why: Why) -> SessionFault {
+        match why {
+            Why::OutOfMemory => SessionFault::OutOfMemory,
+            Why::TooLong => SessionFault::TooLong,
+        }
+    }
+}
+
 /// The fault of a document that was not read.
 fn refused(kind: ErrorKind) -> SessionFault
     ensures memory { kind ≡ ErrorKind.OutOfMemory → result ≡ SessionFault.OutOfMemory }
@@ -91,15 +101,18 @@ fn refused(kind: ErrorKind) -> SessionFault
 }
 
 /// Reads a session's document.
-fn read_document(alloc: Global, text: &mut [u8]) -> Result<Document, SessionFault>
-    ensures read { IfOk result (ReadsDocument text.old) }
+fn read_document<'v, V: Builder<'v, Key>, Key: KeyOf<'v>>(
+    alloc: Global,
+    text: &'v mut [u8],
+) -> Result<V, SessionFault>
+    ensures read { IfOk result (λ v. ReadsTree text.old (V.tree v)) }
     ensures refused { (k : ErrorKind) → result ≡ Err (SessionFault.Refused k) → (k ≢ ErrorKind.OutOfMemory) × (¬ (IsReadable text.old)) }
     ensures utf8 { IsErrOf result (SessionFault.Refused ErrorKind.InvalidUtf8) ↔ ¬ (IsUtf8 text.old) }
     ensures usage { result ≢ Err SessionFault.Usage }
     ensures too_long { result ≢ Err SessionFault.TooLong }
 {
-    match to_tape(alloc, text) {
-        Ok(tape) => Ok(build(alloc, tape.as_value())?),
+    match deserialize::<V, Key>(alloc, text) {
+        Ok(value) => Ok(value),
         Err(kind) => Err(refused(kind)),
     }
 }
@@ -107,10 +120,10 @@ fn read_document(alloc: Global, text: &mut [u8]) -> Result<Document, SessionFaul
 /// Reads the document of the input, answers the command lines behind its first line `---` in turn,
 /// and appends each printed reply with a line feed to `out`.
 ///
-/// Today owned documents are served by text, and of the commands `encode` and `insert` at the
-/// empty path; each other line is a bad command. Refused as `Usage` for every other form and way,
-/// as `Refused` where the document can't be read, and as `OutOfMemory` where memory was refused.
-/// On a fault `out` is as it was, and of the input's bytes nothing is said.
+/// Today owned and borrowed documents are served by text. Refused as `Usage` for every other form
+/// and way, as `Refused` where the document can't be read, as `OutOfMemory` where memory was
+/// refused, and as `TooLong` only where `out` with all replies would pass `usize::MAX` bytes. On a
+/// fault `out` is as it was, and of the input's bytes nothing is said.
 pub fn session(
     alloc: Global,
     form: Form,
@@ -123,15 +136,24 @@ pub fn session(
     ensures usage { IsErrOf result SessionFault.Usage ↔ ¬ (IsServed form way) }
     ensures refused { (k : ErrorKind) → result ≡ Err (SessionFault.Refused k) → (k ≢ ErrorKind.OutOfMemory) × (¬ (IsReadable (document_of input.old))) }
     ensures utf8 { IsServed form way → (IsErrOf result (SessionFault.Refused ErrorKind.InvalidUtf8) ↔ ¬ (IsUtf8 (document_of input.old))) }
-    ensures too_long { result ≢ Err SessionFault.TooLong }
+    ensures too_long { IsErrOf result SessionFault.TooLong → PassesAll form input.old (length out.old.items) }
 {
     if !form.is_served(way) {
         return Err(SessionFault::Usage);
     }
     let cut = cut_at_mark(input);
     let (text, behind) = input.split_at_mut(cut.document);
-    let mut document = read_document(alloc, text)?;
     let lines = &mut behind[cut.commands - cut.document..];
-    answer_all(alloc, &mut document, lines, out)?;
+    match form {
+        Form::Owned => {
+            let value = read_document::<OwnedValue, String>(alloc, text)?;
+            answer_all(alloc, &mut OwnedDoc { way, value }, lines, out)?;
+        }
+        Form::Borrowed => {
+            let value = read_document::<BorrowedValue<'_>, CowStr<'_>>(alloc, text)?;
+            answer_all(alloc, &mut BorrowedDoc { way, value }, lines, out)?;
+        }
+        Form::Lazy => return Err(SessionFault::Usage),
+    }
     Ok(())
 }

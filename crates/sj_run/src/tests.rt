@@ -1,29 +1,35 @@
 //! Sessions on small inputs.
 
+mod runs;
+
 use crate::{Form, SessionFault, Way, session};
 use sj_text_core::ErrorKind;
 use std::alloc::Global;
 use std::process::Abort;
 use std::test::Fail;
 
-/// What a session over owned documents answers, and what `out` has then, which held `> ` before.
-fn answered(alloc: Global, input: &[u8]) -> Result<(Result<(), SessionFault>, String), Fail> {
+/// The forms that are served.
+const FORMS: [Form; 2] = [Form::Owned, Form::Borrowed];
+
+/// What a session answers, and what `out` has then, which held `> ` before.
+fn answered(
+    alloc: Global,
+    form: Form,
+    input: &[u8],
+) -> Result<(Result<(), SessionFault>, String), Fail> {
     let mut bytes = input.to_vec(alloc)?;
     let mut out = b"> ".to_vec(alloc)?;
-    let answer = session(
-        alloc,
-        Form::Owned,
-        Way::ByText,
-        bytes.as_mut_slice(),
-        &mut out,
-    );
+    let answer = session(alloc, form, Way::ByText, bytes.as_mut_slice(), &mut out);
     Ok((answer, String::from_utf8(out)?))
 }
 
+/// Every form answers so.
 fn check(rt: &impl Abort, alloc: Global, input: &str, want: &str) -> Result<(), Fail> {
-    let (answer, out) = answered(alloc, input.as_bytes())?;
-    assert_eq!(rt; answer, Ok(()), "on {input:?}");
-    assert_eq!(rt; out.as_str(), want, "on {input:?}");
+    for form in FORMS {
+        let (answer, out) = answered(alloc, form, input.as_bytes())?;
+        assert_eq!(rt; answer, Ok(()), "{form:?} on {input:?}");
+        assert_eq!(rt; out.as_str(), want, "{form:?} on {input:?}");
+    }
     Ok(())
 }
 
@@ -32,9 +38,11 @@ fn refuse(rt: &impl Abort, alloc: Global, text: &[u8], kind: ErrorKind) -> Resul
     for lines in ["", "\n---\n[\"encode\",[]]\n"] {
         let mut input = text.to_vec(alloc)?;
         input.extend_from_slice(lines.as_bytes())?;
-        let (answer, out) = answered(alloc, input.as_slice())?;
-        assert_eq!(rt; answer, Err(SessionFault::Refused(kind)), "on {text:?}");
-        assert_eq!(rt; out.as_str(), "> ", "on {text:?}");
+        for form in FORMS {
+            let (answer, out) = answered(alloc, form, input.as_slice())?;
+            assert_eq!(rt; answer, Err(SessionFault::Refused(kind)), "on {text:?}");
+            assert_eq!(rt; out.as_str(), "> ", "on {text:?}");
+        }
     }
     Ok(())
 }
@@ -84,15 +92,25 @@ fn answers(rt: HostRuntime) -> Result<(), Fail> {
         ("[1]\r\n---\r\n[\"encode\",[]]\r\n", "> [1]\n"),
         ("[1]\n---\n\n\r\n[\"encode\",[]]\n\n", "> [1]\n"),
         ("[1]\n---\n---\n", "> bad command\n"),
-        // what is no array and no object
+        // a text with repeats, and a write of the wrong kind
         (
-            "[1]\n---\n[\"insert\",[],\"k\",1]\n[\"encode\",[]]",
-            "> not an object\n[1]\n",
+            "{\"a\":1,\"a\":2}\n---\n[\"len\",[]]\n[\"pop\",[]]\n[\"encode\",[]]",
+            "> 1\nnot an array\n{\"a\":1}\n",
         ),
-        // lines that are no command, or none that is served
+        // a pretty print
         (
-            "{\"a\":1}\n---\n[\"nonsense\"]\n{\"a\":1}\n[\"encode\",[]\n[\"encode\",[],1]\n[\"ENCODE\",[]]\n[\"encode\",[0]]\n[\"len\",[]]\n[\"insert\",[],\"a\",1.5]\n \n[\"encode\",[]]",
-            "> bad command\nbad command\nbad command\nbad command\nbad command\nbad command\nbad command\nbad command\nbad command\n{\"a\":1}\n",
+            "{\"a\":[1,{}]}\n---\n[\"encode_pp\",[]]",
+            "> {\n  \"a\": [\n    1,\n    {}\n  ]\n}\n",
+        ),
+        // commands of each kind on arrays
+        (
+            "[1,[2,3]]\n---\n[\"kind\",[1]]\n[\"len\",[1]]\n[\"push\",[1],{\"a\":1,\"a\":2}]\n[\"put\",[0],null]\n[\"pop\",[5]]\n[\"pop\",[]]\n[\"has\",[],\"a\"]\n[\"len\",[0]]\n[\"insert\",[],\"k\",1]\n[\"nonsense\"]\n[\"encode\",[]]",
+            "> Array\n2\nok\n1\nmissing\n[2,3,{\"a\":1}]\nfalse\nno length\nnot an object\nbad command\n[null]\n",
+        ),
+        // places, and lines that are no command: each is answered, and the session goes on
+        (
+            "[[1]]\n---\n[\"len\",[-0]]\n[\"len\",[-1]]\n[\"kind\",[340282366920938463463374607431768211455]]\n[\"encode\",[],1]\n[\"ENCODE\",[]]\n[\"fits\",[0],\"i7\"]\n{\"a\":1}\n[\"encode\",[]\n[\"insert\",[],\"a\",1.5]\n \n---\n\n\r\n[\"encode\",[]]",
+            "> 1\nbad command\nbad command\nbad command\nbad command\nbad command\nbad command\nbad command\nbad command\nbad command\nbad command\n[[1]]\n",
         ),
     ];
     for (input, want) in table {
@@ -159,12 +177,44 @@ fn counts_levels(rt: HostRuntime) -> Result<(), Fail> {
     refuse(&rt, rt.alloc(), deeper.as_bytes(), ErrorKind::TooDeep)
 }
 
+/// A line that is no UTF-8 is a bad command.
 #[test]
-fn serves_owned_by_text(rt: HostRuntime) -> Result<(), Fail> {
+fn answers_any_bytes(rt: HostRuntime) -> Result<(), Fail> {
+    for form in FORMS {
+        let (answer, out) = answered(rt.alloc(), form, b"1\n---\n\xff\n[\"encode\",[]]")?;
+        assert_eq!(rt; answer, Ok(()));
+        assert_eq!(rt; out.as_str(), "> bad command\n1\n");
+    }
+    Ok(())
+}
+
+/// Thirty-three keys whose hashes are one number, the first gone and back.
+#[test]
+fn answers_at_colliding_keys(rt: HostRuntime) -> Result<(), Fail> {
+    let mut members = String::new(rt.alloc());
+    for i in 0u8..33 {
+        members.push_str(if i == 0 { "{\"" } else { ",\"" })?;
+        for bit in [32u8, 16, 8, 4, 2, 1] {
+            members.push_str(if i & bit == 0 { "Aa" } else { "BB" })?;
+        }
+        members.push_str(format!(in rt.alloc(); "\":{i}")?.as_str())?;
+    }
+    let lines =
+        "}\n---\n[\"remove\",[],\"AaAaAaAaAaAa\"]\n[\"len\",[]]\n[\"has\",[],\"BBAaAaAaAaAa\"]\n[\"encode\",[\"AaAaAaAaAaBB\"]]\n[\"insert\",[],\"AaAaAaAaAaAa\",7]\n[\"len\",[]]";
+    members.push_str(lines)?;
+    check(
+        &rt,
+        rt.alloc(),
+        members.as_str(),
+        "> 0\n32\ntrue\n1\nnone\n33\n",
+    )
+}
+
+#[test]
+fn serves_by_text(rt: HostRuntime) -> Result<(), Fail> {
     let mut out = b"> ".to_vec(rt.alloc())?;
     for (form, way) in [
         (Form::Owned, Way::ByKnownKey),
-        (Form::Borrowed, Way::ByText),
         (Form::Borrowed, Way::ByKnownKey),
         (Form::Lazy, Way::ByText),
         (Form::Lazy, Way::ByKnownKey),

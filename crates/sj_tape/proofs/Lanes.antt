@@ -1,8 +1,9 @@
 -- A mask that is computed lane by lane is held to a predicate at each of the 256 bytes.
-use Rattle.std.proofs.Common.{◌≡◌, ℕ, zero, suc, ◌%◌, ◌^◌, ◌<◌, ◌≤◌, Bool, true, false, ◌&&◌, not, cond, T, ◌⊎◌, inl, inr, List, [], ◌∷◌, map, length, refl, sym, ap, ap₂, ◌∙◌, subst, arith, w8, Fits, not-suc-le-zero}
+use Rattle.std.proofs.Common.{◌≡◌, ℕ, zero, suc, ◌%◌, ◌^◌, ◌<◌, ◌≤◌, Bool, true, false, ◌&&◌, not, cond, T, ◌⊎◌, ⊎_elim, ◌==◌, inl, inr, List, [], ◌∷◌, map, length, refl, sym, ap, ap₂, ◌∙◌, subst, arith, w8, Fits, not-suc-le-zero}
 use Rattle.std.proofs.lemmas.Simd.{mask_l-mod}
 use Rattle.std.proofs.lemmas.List.{length-map}
 use Rattle.std.proofs.lemmas.Bool.{cases_order}
+use Rattle.std.proofs.lemmas.Bool.Decides.{eqb_tells}
 use lib.Lanes.{mask_l, top, Each1}
 
 -- a fact of each number below n, by computation
@@ -41,3 +42,10 @@ pub masked : (f : ℕ → ℕ) (p : ℕ → Bool) (v z : List ℕ) → length v 
     → mask_l (map (top 7) z) % 2 ^ 64 ≡ mask_l (map p v)
 masked f p v z short fits e all =
     ap (λ l. mask_l l % 2 ^ 64) (ap (map (top 7)) e ∙ each_byte f p all v fits) ∙ mask_l-mod (map p v) 64 (omega (arith, length-map v p))
+
+is_same : (a b : ℕ) → T (a == b) → a ≡ b
+is_same a b h = ⊎_elim (λ q. q.1) (λ q. absurd (subst (λ t. T t) q.0 h)) (eqb_tells a b)
+
+-- what agrees at each byte, by computation
+pub agree : (f g : ℕ → ℕ) → T (upto (λ x. f x == g x) 256) → (x : ℕ) → x < 256 → f x ≡ g x
+agree f g all x lt = is_same (f x) (g x) (upto_sound (λ y. f y == g y) 256 all x lt)

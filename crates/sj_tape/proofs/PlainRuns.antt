@@ -1,16 +1,14 @@
 -- The plain part of a text, up to the byte that stops it.
-use Rattle.std.proofs.Common.{◌≡◌, ◌≢◌, ℕ, suc, None, Some, ◌+◌, ◌-◌, ◌<◌, ◌≤◌, Bool, true, false, List, [], ◌∷◌, length, take, drop, get_or, refl, sym, ap, subst, ◌∙◌, arith, cond, length-drop}
+use Rattle.std.proofs.Common.{◌≡◌, ◌≢◌, ℕ, suc, ◌+◌, ◌-◌, ◌<◌, ◌≤◌, Bool, true, false, List, [], ◌∷◌, length, take, drop, get_or, refl, sym, ap, subst, ◌∙◌, arith, cond, length-drop}
 use Rattle.std.specs.Prelude.{slice_range}
 use Rattle.std.specs.List.{AllByRecursion, prefix_len}
-use Rattle.std.proofs.lemmas.Option.{none-some}
 use Rattle.std.proofs.lemmas.Bool.Decides.{nat_tests}
 use Rattle.std.proofs.lemmas.List.{take-append-drop, drop-drop, get_or-drop}
 use Rattle.std.proofs.lemmas.List.Sums.{prefix_len_stops}
-use Rattle.sj_text_core.specs.Parse.{Read, with_front, text_at}
-use Rattle.sj_tape.specs.Pieces.{after}
+use Rattle.sj_text_core.specs.Parse.{with_front, text_at}
 use Rattle.sj_tape.specs.Run.{is_plain}
 use Rattle.sj_text_core.proofs.parse.Escapes.{IsPlain, text_run}
-use Rattle.sj_tape.proofs.Places.{SoFar, after_front}
+use Rattle.sj_tape.proofs.Places.{SoFar}
 
 plain_is : (c : ℕ) → is_plain c ≡ true → IsPlain c
 plain_is c e = (low c e, quote c e, back c e)
@@ -55,12 +53,3 @@ stop_is b at e h lt =
     let n = prefix_len is_plain (drop at b) in
     let same : get_or (drop at b) n 0 ≡ get_or b e 0 = get_or-drop at b n 0 ∙ ap (λ k. get_or b k 0) (sym h) in
     subst (λ x. is_plain x ≡ false) same (prefix_len_stops is_plain (drop at b) 0 (omega (arith, h, lt, length-drop at b)))
-
--- what follows the text is what follows it behind the run
-pub plain_after : (b : List ℕ) (at e : ℕ) → e ≡ at + prefix_len is_plain (drop at b) → after (text_at (drop at b)) ≡ after (text_at (drop e b))
-plain_after b at e h = ap (λ o. after o) (plain_so_far b at e h) ∙ after_front (slice_range b at e) (text_at (drop e b))
-
--- where nothing follows nothing was read
-pub none_after : (o : Read (List ℕ)) → after o ≡ None → o ≡ None
-none_after None e = refl
-none_after (Some p) e = absurd (none-some p.1 (sym e))

@@ -1,41 +1,35 @@
 -- What is read is spelled, and what is spelled is read.
-use Rattle.std.proofs.Common.{◌≡◌, ◌≢◌, Result, Ok, Err, IfErr, ℕ, ◌≤◌, List, [], ◌∷◌, ◌++◌, max, Some, None, All, IsUtf8, refl, sym, ap, subst, ◌∙◌, arith, append-nil}
-use Rattle.std.specs.List.{AllByRecursion}
-use Rattle.sj_text_core.specs.declared.error.ErrorKind.{ErrorKind}
-use Rattle.sj_text_core.specs.declared.error.ErrorKind.TheVariants.{InvalidUtf8, OutOfMemory}
+use Rattle.std.proofs.Common.{◌≡◌, ℕ, ◌≤◌, List, [], ◌∷◌, ◌++◌, max, option_and_then, Some, None, IsUtf8, refl, sym, ap, subst, ◌∙◌, arith, append-nil}
 use Rattle.sj_text_core.specs.Tree.{Tree, depth}
 use Rattle.sj_text_core.specs.Grammar.{Spelling, Spells, IsReadable}
 use Rattle.sj_text_core.specs.Nodes.{Mark, flat, tree_of, IsPreorder}
 use Rattle.sj_text_core.specs.Code.{tree_of-flat}
-use Rattle.std.proofs.lemmas.List.Elements.{All-from_recursion}
 use Rattle.std.proofs.lemmas.Option.{none-some, same_Some, option_and_then_some}
 use Rattle.sj_text_core.specs.Parse.{tree_at, value_at, after_blank, last}
 use Rattle.sj_text_core.proofs.parse.Steps.{Blank, blank_off}
 use Rattle.sj_tape.proofs.Fronts.{Front}
 use Rattle.sj_tape.proofs.Sound.{Deep, value_sound}
-use Rattle.sj_tape.proofs.Texts.{texts, lift}
+use Rattle.sj_tape.proofs.Texts.{lift}
 use Rattle.sj_text_core.proofs.parse.One.{complete}
-use Rattle.sj_tape.specs.Pieces.{piece_mark, piece_marks, IsTextMark}
-use Rattle.sj_tape.specs.declared.reader.piece.Piece.{Piece}
+use Rattle.sj_tape.specs.Gives.{Scans}
 
 last_is : (t u : Tree) (b : List ℕ) → last t b ≡ Some u → (t ≡ u) × (b ≡ [])
 last_is t u [] e = (same_Some t u e, refl)
 last_is t u (c ∷ b) e = absurd (none-some u e)
 
-tree_of_value : (d : ℕ) (b : List ℕ) (q : Blank b) (u t : Tree) (r : List ℕ) → IsUtf8 b → Front (Deep d) (after_blank b) u r → u ≡ t → after_blank r ≡ [] → Spells b t × (depth t ≤ d) × AllByRecursion IsTextMark (flat t)
+tree_of_value : (d : ℕ) (b : List ℕ) (q : Blank b) (u t : Tree) (r : List ℕ) → IsUtf8 b → Front (Deep d) (after_blank b) u r → u ≡ t → after_blank r ≡ [] → Spells b t × (depth t ≤ d)
 tree_of_value d b q u t r utf8 f e z =
     let p = blank_off r in
     let back : r ≡ p.front = p.is ∙ (ap (λ l. p.front ++ l) z ∙ append-nil p.front) in
     let whole : b ≡ q.front ++ (f.front ++ p.front) = q.is ∙ ap (λ l. q.front ++ l) (f.is ∙ ap (λ l. f.front ++ l) back) in
     let spelled : Spelling u f.front = lift u f.front q.front p.front f.has.0 (subst (λ l. IsUtf8 l) whole utf8) in
-    subst (λ v. Spells b v × (depth v ≤ d) × AllByRecursion IsTextMark (flat v)) e (
+    subst (λ v. Spells b v × (depth v ≤ d)) e (
       record { before = q.front; word = f.front; after = p.front; is = whole; blank_before = q.blank; spelled = spelled; blank_after = p.blank },
       f.has.1,
-      texts u f.front spelled,
     )
 
--- what is read is spelled, in the limit, with texts in UTF-8
-pub sound : (d : ℕ) (b : List ℕ) (t : Tree) → IsUtf8 b → tree_at d b ≡ Some t → Spells b t × (depth t ≤ d) × AllByRecursion IsTextMark (flat t)
+-- what is read is spelled, in the limit
+pub sound : (d : ℕ) (b : List ℕ) (t : Tree) → IsUtf8 b → tree_at d b ≡ Some t → Spells b t × (depth t ≤ d)
 sound d b t u e =
     option_and_then_some _ (value_at d (after_blank b)) t e (λ p e1 e2.
     let k = last_is p.0 t (after_blank p.1) e2 in
@@ -52,19 +46,6 @@ only d b t u utf8 e s =
 -- what is not read is not readable
 pub unreadable : (b : List ℕ) → tree_at 1024 b ≡ None → IsReadable b → ⊥
 unreadable b e r = let k : tree_at 1024 b ≡ Some r.0 = complete 1024 b r.0 r.1 r.2 in cc
-
--- what is refused is not readable
-pub errs_read : {T : Type 0} (b : List ℕ) (r : Result T ErrorKind) → IfErr r (λ e. e ≢ OutOfMemory → tree_at 1024 b ≡ None) → IfErr r (λ e. e ≢ InvalidUtf8 → e ≢ OutOfMemory → ¬ (IsReadable b))
-errs_read b (Ok x) h = tt
-errs_read b (Err e) h = λ _ n r. unreadable b (h n) r
-
--- texts of nodes are those of their pieces
-pub texts_of : (b : List ℕ) (ps : List Piece) → AllByRecursion IsTextMark (piece_marks b ps) → All (λ p. IsTextMark (piece_mark b p)) ps
-texts_of b ps h = All-from_recursion (λ p. IsTextMark (piece_mark b p)) ps (texts b ps h)
-  where
-    texts : (b : List ℕ) (ps : List Piece) → AllByRecursion IsTextMark (piece_marks b ps) → AllByRecursion (λ p. IsTextMark (piece_mark b p)) ps
-    texts b [] h = tt
-    texts b (p ∷ ps) h = (h.0, texts b ps h.1)
 
 -- the nodes of a tree give it back
 pub tree_is : (ns : List Mark) (t : Tree) → ns ≡ flat t → tree_of ns ≡ t
@@ -86,10 +67,6 @@ is_read b t utf8 was =
     let k = sound 1024 b t utf8 was in
     record { spelled = k.0; within = k.1; only = λ u s. only 1024 b t u utf8 was s }
 
--- the tape's tree is the one that was read
-pub is_tree : (ns ms : List Mark) (t u : Tree) → u ≡ tree_of ns → ns ≡ ms → ms ≡ flat t → t ≡ u
-is_tree ns ms t u e f g = sym (e ∙ tree_is ns t (f ∙ g))
-
--- the texts of the pieces are UTF-8
-pub are_texts : (b lent : List ℕ) (ps : List Piece) (t : Tree) → IsUtf8 b → tree_at 1024 b ≡ Some t → piece_marks lent ps ≡ flat t → All (λ p. IsTextMark (piece_mark lent p)) ps
-are_texts b lent ps t utf8 was e = texts_of lent ps (subst (λ ns. AllByRecursion IsTextMark ns) (sym e) (sound 1024 b t utf8 was).2)
+-- the tree of the nodes is the one that was read
+pub is_taped : (b : List ℕ) (ns : List Mark) (u : Tree) → Scans (tree_at 1024 b) ns → u ≡ tree_of ns → tree_at 1024 b ≡ Some u
+is_taped b ns u s e = s.was ∙ ap (λ t. Some t) (sym (e ∙ tree_is ns s.tree s.nodes))

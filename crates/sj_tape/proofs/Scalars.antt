@@ -1,11 +1,11 @@
 -- One step of reading a value.
-use Rattle.std.proofs.Common.{◌≡◌, ◌≢◌, ℕ, true, false, codes, ◌+◌, ◌<◌, List, [], ◌∷◌, ◌++◌, length, drop, get_or, option_map, refl, sym, ap, ◌∙◌, arith}
+use Rattle.std.proofs.Common.{◌≡◌, ◌≢◌, ℕ, true, false, codes, ◌+◌, ◌<◌, List, [], ◌∷◌, length, drop, get_or, option_map, refl, sym, ap, ◌∙◌, arith}
 use Rattle.std.proofs.lemmas.List.{drop_more}
 use Rattle.std.proofs.lemmas.Grind.{common_steps}
 use Rattle.std.proofs.lemmas.Bool.Decides.{nat_tests}
 use Rattle.std.proofs.Common.{Result, Ok, Err, OnErr, None}
 use Rattle.sj_text_core.specs.Tree.{Tree, null, boolean, text}
-use Rattle.sj_text_core.specs.Nodes.{Mark, flat}
+use Rattle.sj_text_core.specs.Nodes.{flat}
 use Rattle.sj_tape.specs.Marks.{static_mark}
 use Rattle.sj_text_core.specs.Scalars.{static_tree}
 use Rattle.sj_text_core.specs.declared.static_node.StaticNode.{StaticNode}
@@ -13,8 +13,6 @@ use Rattle.sj_text_core.specs.declared.static_node.StaticNode.TheVariants.{Null,
 use Rattle.sj_text_core.specs.declared.static_node.StaticNode.TheVariants as nodes
 use Rattle.sj_text_core.proofs.parse.Values.{value_by_other}
 use Rattle.sj_text_core.specs.Parse.{Read, value_by, word_at, number_at, text_at}
-use Rattle.sj_tape.specs.Pieces.{Reads, Puts, PutsText}
-use Rattle.sj_tape.proofs.Order.{between_lower}
 
 -- the same at a place
 pub other_at : (f g : List ℕ → Read Tree) (b : List ℕ) (i : ℕ) → i < length b → get_or b i 0 ≢ 34 → get_or b i 0 ≢ 91 → get_or b i 0 ≢ 123 → get_or b i 0 ≢ 110 → get_or b i 0 ≢ 116 → get_or b i 0 ≢ 102
@@ -67,33 +65,3 @@ nothing_else f g b i h low h2 h3 h4 h5 h6 =
   where
     no_digit : (c : ℕ) (b : List ℕ) → 57 < c → number_at (c ∷ b) ≡ None
     no_digit c b h = grind (arith, common_steps, nat_tests)
-
--- the same of another way to read
-pub puts_by : (x y : Read Tree) (b : List ℕ) (at next : ℕ) (old new : List Mark) → x ≡ y → Puts y b at next old new → Puts x b at next old new
-puts_by x y b at next old new e h = record {
-  piece = h.piece;
-  items = h.items;
-  between = h.between;
-  reads = record { tree = h.reads.tree; was = e ∙ h.reads.was; node = h.reads.node };
-}
-
--- a text where a value begins with its quote
-pub puts_text : (f g : List ℕ → Read Tree) (b : List ℕ) (i next : ℕ) (old new : List Mark) → i < length b → get_or b i 0 ≡ 34 → PutsText b (i + 1) next old new → Puts (value_by f g (drop i b)) b i next old new
-puts_text f g b i next old new h q p = record {
-  piece = p.piece;
-  items = p.items;
-  between = between_lower b i (i + 1) next p.piece (omega arith) p.between;
-  reads = record {
-    tree = text p.reads.text;
-    was = text_is f g b i h q ∙ ap (λ o. option_map {U = Tree × List ℕ} (λ p. (text p.0, p.1)) o) p.reads.was;
-    node = ap (λ m. m ∷ []) (sym p.reads.node);
-  };
-}
-
--- what was put is what was read
-pub puts_reads : (x : Read Tree) (b : List ℕ) (at next : ℕ) (old new : List Mark) → Puts x b at next old new → Reads x b next old new
-puts_reads x b at next old new h = record {
-  tree = h.reads.tree;
-  was = h.reads.was;
-  nodes = h.items ∙ ap (λ ns. old ++ ns) (sym h.reads.node);
-}

@@ -1,20 +1,14 @@
 -- In UTF-8 what the reader takes for a string is one.
-use Rattle.std.proofs.Common.{◌≡◌, ℕ, ◌+◌, ◌-◌, ◌<◌, ◌≤◌, true, false, List, [], ◌∷◌, ◌++◌, length, length-drop, drop, get_or, IsUtf8, refl, sym, ap, subst, ◌∙◌, arith, append_assoc, length-append}
-use Rattle.std.specs.List.{AllByRecursion}
+use Rattle.std.proofs.Common.{◌≡◌, ℕ, ◌+◌, ◌<◌, true, false, List, [], ◌∷◌, ◌++◌, length, drop, get_or, IsUtf8, refl, sym, ap, subst, ◌∙◌, arith, append_assoc, length-append}
 use Rattle.std.proofs.lemmas.Str.{IsUtf8-drop, IsUtf8-take, IsCharBoundary-after_ascii, IsCharBoundary-before_ascii}
-use Rattle.std.specs.Str.{IsCharBoundary}
-use Rattle.std.specs.Prelude.{slice_range}
-use Rattle.std.proofs.lemmas.List.{drop_at, take_at, get_or_at, get_or-drop}
+use Rattle.std.proofs.lemmas.List.{drop_at, take_at, get_or_at}
 use Rattle.sj_text_core.specs.Tree.{Tree, null, boolean, int, text, list, obj, Items, no_items, item, Members, no_members, member}
-use Rattle.sj_text_core.specs.Nodes.{Mark, flat, flat_items, flat_members}
 use Rattle.sj_text_core.specs.Grammar.{IsString, Spaced, Spelling, SpellsItems, MoreItems, SpellsMembers, MoreMembers}
 use Rattle.sj_tape.proofs.Bytewise as raw
 use Rattle.sj_text_core.proofs.parse.Strings.{string_is}
-use Rattle.sj_text_core.proofs.Characters.{string_utf8}
-use Rattle.sj_tape.specs.Pieces.{IsTextMark}
 
 -- an ASCII byte cuts UTF-8 in two
-cut : (a b : List ℕ) (c : ℕ) → c < 128 → IsUtf8 (a ++ (c ∷ b)) → IsUtf8 a × IsUtf8 b
+pub cut : (a b : List ℕ) (c : ℕ) → c < 128 → IsUtf8 (a ++ (c ∷ b)) → IsUtf8 a × IsUtf8 b
 cut a b c h u =
     let at : get_or (a ++ (c ∷ b)) (length a) 0 < 128 = omega (arith, get_or_at a c b 0 (length a) refl) in
     let lt : length a < length (a ++ (c ∷ b)) = omega (arith, length-append a (c ∷ b)) in (
@@ -23,53 +17,12 @@ cut a b c h u =
           (IsUtf8-drop (a ++ (c ∷ b)) (length a + 1) u (IsCharBoundary-after_ascii (a ++ (c ∷ b)) (length a) u lt at)),
     )
 
--- what stands between two quotes in UTF-8
-pub cut_between : (b : List ℕ) (at e : ℕ) → IsUtf8 b → 0 < at → at ≤ length b → get_or b (at - 1) 0 ≡ 34 → at ≤ e → e < length b → get_or b e 0 ≡ 34 → IsUtf8 (slice_range b at e)
-cut_between b at e u opened within quote order lt closed =
-    let from : IsUtf8 (drop at b) = IsUtf8-drop b at u (subst (λ n. IsCharBoundary b n) (omega (arith, opened)) (IsCharBoundary-after_ascii b (at - 1) u (omega (arith, opened, within)) (omega (arith, quote)))) in
-    let same : get_or (drop at b) (e - at) 0 ≡ get_or b e 0 = get_or-drop at b (e - at) 0 ∙ ap (λ n. get_or b n 0) (omega (arith, order)) in
-    let here : get_or (drop at b) (e - at) 0 < 128 = omega (arith, same, closed) in
-    IsUtf8-take (drop at b) (e - at) from (IsCharBoundary-before_ascii (drop at b) (e - at) (omega (arith, length-drop at b, order, lt)) here)
-
 -- a string anywhere in UTF-8
 a_string : (p s x y : List ℕ) → raw.IsString p s → IsUtf8 (x ++ (p ++ y)) → IsString p s
 a_string p s x y h u =
     let e : x ++ (p ++ y) ≡ x ++ (34 ∷ (h.inside ++ (34 ∷ y))) = ap (λ l. x ++ (l ++ y)) h.is ∙ ap (λ l. x ++ (34 ∷ l)) (append_assoc h.inside (34 ∷ []) y) in
     subst (λ l. IsString l s) (sym h.is)
     (string_is h.inside h.rest s (cut h.inside y 34 (omega arith) (cut x (h.inside ++ (34 ∷ y)) 34 (omega arith) (subst (λ l. IsUtf8 l) e u)).1).0 h.was)
-
-abbrev Texts : List Mark → Type 0
-Texts ns = AllByRecursion IsTextMark ns
-
-both : (ms ns : List Mark) → Texts ms → Texts ns → Texts (ms ++ ns)
-both [] ns h k = k
-both (m ∷ ms) ns h k = (h.0, both ms ns h.1 k)
-
--- what is spelled has UTF-8 as texts
-mutual
-  pub texts : (t : Tree) (p : List ℕ) → Spelling t p → Texts (flat t)
-  texts null p h = (tt, tt)
-  texts (boolean b) p h = (tt, tt)
-  texts (int n c) p h = (tt, tt)
-  texts (text s) p h = (string_utf8 p s h, tt)
-  texts (list is) p h = (tt, texts_items is h.0 h.2)
-  texts (obj ms) p h = (tt, texts_members ms h.0 h.2)
-
-  texts_items : (is : Items) (p : List ℕ) → SpellsItems is p → Texts (flat_items is)
-  texts_items no_items p h = tt
-  texts_items (item t is) p h = both (flat t) (flat_items is) (texts t h.3.word h.3.spelled) (texts_more is h.1 h.4)
-
-  texts_more : (is : Items) (p : List ℕ) → MoreItems is p → Texts (flat_items is)
-  texts_more no_items p h = tt
-  texts_more (item t is) p h = both (flat t) (flat_items is) (texts t h.3.word h.3.spelled) (texts_more is h.1 h.4)
-
-  texts_members : (ms : Members) (p : List ℕ) → SpellsMembers ms p → Texts (flat_members ms)
-  texts_members no_members p h = tt
-  texts_members (member k t ms) p h = (string_utf8 h.4.word k h.4.spelled, both (flat t) (flat_members ms) (texts t h.5.word h.5.spelled) (texts_more_members ms h.2 h.6))
-
-  texts_more_members : (ms : Members) (p : List ℕ) → MoreMembers ms p → Texts (flat_members ms)
-  texts_more_members no_members p h = tt
-  texts_more_members (member k t ms) p h = (string_utf8 h.4.word k h.4.spelled, both (flat t) (flat_members ms) (texts t h.5.word h.5.spelled) (texts_more_members ms h.2 h.6))
 
 respaced : (b : List ℕ) (V W : List ℕ → Type 0) → (s : Spaced V b) → W s.word → Spaced W b
 respaced b V W s w = record { before = s.before; word = s.word; after = s.after; is = s.is; blank_before = s.blank_before; spelled = w; blank_after = s.blank_after }

@@ -1,14 +1,13 @@
 -- Steps of reading a value, as the recursion goes.
-use Rattle.std.proofs.Common.{◌≡◌, ◌≢◌, ℕ, suc, ◌+◌, ◌-◌, ◌<◌, ◌≤◌, List, [], ◌∷◌, ◌++◌, length, drop, get_or, set, option_map, option_and_then, Some, None, refl, sym, ap, ◌∙◌, arith, length-append, length-drop}
+use Rattle.std.proofs.Common.{◌≡◌, ◌≢◌, ℕ, zero, suc, ◌+◌, ◌-◌, ◌<◌, ◌≤◌, List, [], ◌∷◌, ◌++◌, length, drop, get_or, set, option_and_then, Some, None, refl, sym, ap, ◌∙◌, arith, length-append, length-drop}
 use Rattle.std.proofs.lemmas.List.{drop_more, drop_all, get_or-drop}
 use Rattle.std.proofs.lemmas.Grind.{common_steps}
 use Rattle.std.proofs.lemmas.Bool.Decides.{nat_tests}
 use Rattle.sj_text_core.specs.Tree.{Tree, list, obj}
 use Rattle.sj_text_core.specs.Nodes.{Mark, flat, array, object}
 use Rattle.sj_text_core.proofs.parse.Values.{in_list, in_obj, value_is}
-use Rattle.sj_text_core.specs.Parse.{Read, parts_at, all_parts_at, after_blank, list_at, obj_at, member_at, value_at, value_by, nothing_at, tree_at, last}
+use Rattle.sj_text_core.specs.Parse.{Read, parts_at, all_parts_at, after_blank, list_at, obj_at, value_at, value_by, nothing_at, tree_at, last}
 use Rattle.sj_text_core.specs.Tree.{items_from, members_from}
-use Rattle.sj_tape.specs.Pieces.{Reads}
 use Rattle.std.proofs.Common.{Result, Ok, Err, IfErr}
 use Rattle.sj_text_core.specs.declared.error.ErrorKind.{ErrorKind}
 use Rattle.sj_tape.proofs.Parts.{item_flats, member_flats, items_len-from, members_len-from}
@@ -55,10 +54,6 @@ value_scalar d b i h n m =
     let e : drop i b ≡ get_or b i 0 ∷ drop (i + 1) b = drop_more b i 0 h in
     ap (λ l. value_at d l) e ∙ (value_is d (get_or b i 0 ∷ drop (i + 1) b) ∙ (by_other (in_list d) (in_obj d) (get_or b i 0) (drop (i + 1) b) n m ∙ ap (λ l. value_by nothing_at nothing_at l) (sym e)))
 
--- what is read by another way to read
-pub reads_by : (read read' : Read Tree) (b : List ℕ) (next : ℕ) (old new : List Mark) → read ≡ read' → Reads read' b next old new → Reads read b next old new
-reads_by read read' b next old new e r = record { tree = r.tree; was = e ∙ r.was; nodes = r.nodes }
-
 -- the whole of the parts, behind the opening byte
 pub all_is : {X : Type 0} (close : ℕ) (read : List ℕ → Read X) (b : List ℕ) (first : ℕ) → get_or b first 0 ≢ close
     → all_parts_at close read (drop first b) ≡ parts_at close read (length b - first) (drop first b)
@@ -69,20 +64,6 @@ all_is close read b first ne =
   where
     all_by : {X : Type 0} (close : ℕ) (read : List ℕ → Read X) (b : List ℕ) → get_or b 0 0 ≢ close → all_parts_at close read b ≡ parts_at close read (length b) b
     all_by close read b ne = grind (arith, common_steps, nat_tests)
-
--- a list by its items
-pub list_reads : (read : List ℕ → Read Tree) (b : List ℕ) (at first next : ℕ) (trees : List Tree) → drop first b ≡ after_blank (drop at b) → get_or b first 0 ≢ 93
-    → parts_at 93 read (length b - first) (drop first b) ≡ Some (trees, drop next b) → list_at read (drop at b) ≡ Some (list (items_from trees), drop next b)
-list_reads read b at first next trees e ne h =
-    ap (λ l. option_map (λ p. (list (items_from p.0), p.1)) (all_parts_at 93 read l)) (sym e)
-    ∙ ap (λ o. option_map (λ p. (list (items_from p.0), p.1)) o) (all_is 93 read b first ne ∙ h)
-
--- an object by its members
-pub obj_reads : (read : List ℕ → Read Tree) (b : List ℕ) (at first next : ℕ) (pairs : List (List ℕ × Tree)) → drop first b ≡ after_blank (drop at b) → get_or b first 0 ≢ 125
-    → parts_at 125 (member_at read) (length b - first) (drop first b) ≡ Some (pairs, drop next b) → obj_at read (drop at b) ≡ Some (obj (members_from pairs), drop next b)
-obj_reads read b at first next pairs e ne h =
-    ap (λ l. option_map (λ p. (obj (members_from p.0), p.1)) (all_parts_at 125 (member_at read) l)) (sym e)
-    ∙ ap (λ o. option_map (λ p. (obj (members_from p.0), p.1)) o) (all_is 125 (member_at read) b first ne ∙ h)
 
 set_at : (O : List Mark) (x y : Mark) (F : List Mark) → set ((O ++ x ∷ []) ++ F) (length O) y ≡ O ++ (y ∷ F)
 set_at [] x y F = refl

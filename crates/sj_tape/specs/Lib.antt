@@ -1,7 +1,6 @@
 pub mod Marks
-pub mod Pieces
+pub mod Gives
 pub mod Room
-pub mod Sinks
 pub mod Run
 pub mod Parts
 pub mod Fronts

@@ -1,8 +1,7 @@
 -- How much room buffers have.
 use Rattle.std.specs.Prelude.{ℕ}
-use Rattle.std.specs.Vec.{vec_capacity}
 use Rattle.sj_tape.specs.declared.reader.buffers.Buffers.{Buffers}
 
 -- for how many nodes
 abbrev pub room : Buffers → ℕ
-room b = vec_capacity b.pieces
+room b = b.nodes

@@ -1,5 +1,20 @@
 //! Tapes: the nodes of one tree in preorder, the reader that makes them of a text, and reads of
 //! them.
+//!
+//! The texts of a tape lie in the bytes that were read. A part of a tape (`Value`) is a few words
+//! that may be copied; reads of it take no memory, and a member or an item is passed over in one
+//! step. A tape shows every member, repeats too; which one of several with one key a look-up finds,
+//! the first or the last, is a choice (`Repeats`) that each part carries.
+//!
+//! ```
+//! let tape = to_tape(alloc, bytes)?; // {"the_answer": 42, "texts": ["a", "b"]}
+//! let value = tape.as_value();
+//! value.get_u64("the_answer"); // Some(42)
+//! value.try_get("does_not_exist")?; // None
+//! value.try_get_str("the_answer"); // a fault: expected a text, got a number
+//! value.get("texts").and_then(|v| v.get_idx(1)); // the text b
+//! value.encode(alloc)?; // {"the_answer":42,"texts":["a","b"]}
+//! ```
 #![tactic(auto)]
 
 pub mod array;

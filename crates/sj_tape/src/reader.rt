@@ -2,31 +2,22 @@
 
 mod blank;
 mod buffers;
-mod decode;
+mod digit;
 mod escape;
 mod nodes;
 mod number;
-mod piece;
 mod run;
-mod scan;
-mod sink;
-mod string;
 mod structure;
+mod text;
+mod value;
 
-ghost use Rattle.std.specs.Prelude.{◌≡◌, ◌≢◌, ◌↔◌, Some, None, length, IfOk, IfErr, IsErrOf, IsUtf8};
+ghost use Rattle.std.specs.Prelude.{◌≡◌, ◌≢◌, ◌↔◌, IfOk, IfErr, IsErrOf, IsUtf8};
 ghost use Rattle.sj_text_core.specs.Tree.{Tree, IsWithin};
 ghost use Rattle.sj_text_core.specs.Grammar.{Spells, IsReadable};
-ghost use Rattle.sj_text_core.specs.Parse.{tree_at};
-ghost use Rattle.sj_tape.specs.Pieces.{HasBackslash, Scans, piece_marks};
-ghost use Rattle.sj_tape.specs.Sinks.{Holds};
 
 pub use crate::reader::buffers::Buffers;
-use crate::reader::decode::decode;
-use crate::reader::nodes::{Nodes, lend};
-use crate::reader::piece::Piece;
-use crate::reader::scan::scan;
+use crate::reader::value::whole;
 use crate::tape::Tape;
-use memchr::memchr;
 use sj_text_core::ErrorKind;
 use std::alloc::Global;
 
@@ -49,8 +40,7 @@ pub fn to_tape<'i>(alloc: Global, bytes: &'i mut [u8]) -> Result<Tape<'i>, Error
     ensures utf8 { IsErrOf result ErrorKind.InvalidUtf8 ↔ ¬ (IsUtf8 bytes.old) }
     ensures err { IfErr result (λ e. e ≢ ErrorKind.InvalidUtf8 → e ≢ ErrorKind.OutOfMemory → ¬ (IsReadable bytes.old)) }
 {
-    let mut pieces = Vec::new(alloc);
-    read(alloc, bytes, &mut pieces)
+    read(alloc, bytes, &mut 0)
 }
 
 /// Reads as `to_tape` does, with memory that the buffers keep for the next reading. The answer
@@ -68,15 +58,11 @@ pub fn to_tape_with_buffers<'i>(
     ensures utf8 { IsErrOf result ErrorKind.InvalidUtf8 ↔ ¬ (IsUtf8 bytes.old) }
     ensures err { IfErr result (λ e. e ≢ ErrorKind.InvalidUtf8 → e ≢ ErrorKind.OutOfMemory → ¬ (IsReadable bytes.old)) }
 {
-    read(alloc, bytes, &mut buffers.pieces)
+    read(alloc, bytes, &mut buffers.nodes)
 }
 
-/// Reads a text, with its pieces in place of those that were there.
-fn read<'i>(
-    alloc: Global,
-    bytes: &'i mut [u8],
-    pieces: &mut Vec<Piece>,
-) -> Result<Tape<'i>, ErrorKind>
+/// Reads a text, with room for so many nodes at once, where it may have as many.
+fn read<'i>(alloc: Global, bytes: &'i mut [u8], room: &mut usize) -> Result<Tape<'i>, ErrorKind>
     // What is read is spelled so, within the limit, and nothing else is.
     ensures spelled { IfOk result (λ t. Spells bytes.old t) }
     ensures within { IfOk result (λ t. IsWithin t) }
@@ -88,59 +74,10 @@ fn read<'i>(
     if simdutf8::basic::from_utf8(bytes).is_err() {
         return Err(ErrorKind::InvalidUtf8);
     }
-    if memchr(b'\\', bytes).is_some() {
-        read_escaped(alloc, bytes, pieces)
-    } else {
-        read_plain(alloc, bytes)
-    }
-}
-
-/// Reads a text without a backslash: the nodes are made while it is scanned.
-fn read_plain<'i>(alloc: Global, bytes: &'i [u8]) -> Result<Tape<'i>, ErrorKind>
-    requires utf8 { IsUtf8 bytes.now }
-    requires plain { ¬ (HasBackslash bytes.now) }
-    ensures ok { IfOk result (λ t. tree_at 1024 bytes.now ≡ Some t) }
-    ensures err { IfErr result (λ e. e ≢ ErrorKind.OutOfMemory → tree_at 1024 bytes.now ≡ None) }
-    ensures kind { IfErr result (λ e. e ≢ ErrorKind.InvalidUtf8) }
-{
-    let mut out = Nodes {
-        bytes,
-        nodes: Vec::new(alloc),
-    };
-    scan(bytes, DEPTH_LIMIT, &mut out)?;
-    Ok(Tape::from_nodes(out.nodes))
-}
-
-/// Reads a text in which escapes may stand, with its pieces in place of those that were there.
-fn read_escaped<'i>(
-    alloc: Global,
-    bytes: &'i mut [u8],
-    pieces: &mut Vec<Piece>,
-) -> Result<Tape<'i>, ErrorKind>
-    requires utf8 { IsUtf8 bytes.old }
-    ensures ok { IfOk result (λ t. tree_at 1024 bytes.old ≡ Some t) }
-    ensures err { IfErr result (λ e. e ≢ ErrorKind.OutOfMemory → tree_at 1024 bytes.old ≡ None) }
-    ensures kind { IfErr result (λ e. e ≢ ErrorKind.InvalidUtf8) }
-{
-    pieces.clear();
-    scan(bytes, DEPTH_LIMIT, pieces)?;
-    tape_of(alloc, bytes, pieces.as_mut_slice())
-}
-
-/// The tape of the pieces that a scan has left.
-fn tape_of<'i>(
-    alloc: Global,
-    bytes: &'i mut [u8],
-    pieces: &mut [Piece],
-) -> Result<Tape<'i>, ErrorKind>
-    requires utf8 { IsUtf8 bytes.old }
-    requires scanned { Scans (tree_at 1024 bytes.old) (piece_marks bytes.old pieces.old) }
-    requires order { Holds bytes.old pieces.old (length bytes.old) }
-    ensures ok { IfOk result (λ t. tree_at 1024 bytes.old ≡ Some t) }
-    ensures err { IfErr result (λ e. e ≡ ErrorKind.OutOfMemory) }
-{
-    decode(bytes, pieces);
-    let lent: &'i [u8] = bytes;
-    let nodes = lend(alloc, lent, pieces)?;
+    // A node takes two bytes at least, but for the last.
+    let most = bytes.len() / 2 + 1;
+    let mut nodes = Vec::with_capacity(alloc, most.min(*room))?;
+    whole(bytes, DEPTH_LIMIT, &mut nodes)?;
+    *room = nodes.len().max(*room);
     Ok(Tape::from_nodes(nodes))
 }

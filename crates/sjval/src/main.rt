@@ -12,16 +12,14 @@ mod words;
 
 use crate::fault::Fault;
 use crate::input::read_input;
-use crate::words::chosen;
+use crate::words::{chosen, words};
 use sj_run::session;
-use std::env;
 use std::io::{self, Write};
 use std::process::ExitCode;
 use std::rt::Env;
 
 fn run(rt: &(impl Env + Input + Print + AllocGlobal)) -> Result<(), Fault> {
-    let words: Vec<String> = env::args(rt)?.skip(1).collect(rt.alloc())?;
-    let Some((form, way)) = chosen(words.as_slice()) else {
+    let Some((form, way)) = chosen(words(rt)?.as_slice()) else {
         return Err(Fault::Usage);
     };
     let mut input = read_input(rt.alloc(), rt.reader())?;

@@ -2,9 +2,13 @@
 
 ghost use Rattle.std.specs.Prelude.{◌≡◌, IfOk, string_bytes};
 ghost use Rattle.std.specs.Cow.{cow_str_bytes};
-ghost use Rattle.sj_text_core.specs.Tree.{text, obj};
+ghost use Rattle.std.specs.List.Sorted.{IsPermutation};
+ghost use Rattle.std.specs.String.{string_cmp};
+ghost use Rattle.sj_text_core.specs.Tree.{text, obj, no_members};
 ghost use Rattle.sj_object.specs.Members.{entry_members};
-ghost use Rattle.sj_document.specs.Document.{tree};
+ghost use Rattle.sj_document.specs.Document.{tree, put_pairs};
+ghost use Rattle.sj_document.specs.SameWith.{SameEach};
+ghost use Rattle.sj_document.specs.Makes.{IsArrayOf, IsInByteOrder, IsOrdered};
 
 use crate::value::convert::{TextFrom, convert};
 use crate::value::{BorrowedValue, Document, Object, OwnedValue};
@@ -12,19 +16,101 @@ use sj_object::{KeyText, ObjectHasher};
 use sj_text_core::TryMake;
 use std::alloc::{AllocError, Global};
 use std::borrow::CowStr;
+use std::cmp::Ordering;
+use std::collections;
+use std::hash::BuildHasher;
 
 /// An object of the members.
 impl<T: KeyText + Drop> TryMake<Object<T>> for Document<T> {
-    ghost made = { λ m. obj (entry_members (tree T.text_of) m.entries) };
+    ghost makes = { λ m v. tree T.text_of v ≡ obj (entry_members (tree T.text_of) m.entries) };
 
     fn try_make(alloc: Global, members: Object<T>) -> Result<Self, AllocError> {
         Ok(Document::Object(Box::new(alloc, members)?))
     }
 }
 
+/// An array of what each value becomes, in order.
+impl<T: KeyText + Drop, X: Into<Document<T>> + Drop> TryMake<Vec<X>> for Document<T> {
+    ghost makes = { λ xs v. IsArrayOf T.text_of X.converts xs.items (tree T.text_of v) };
+
+    fn try_make(alloc: Global, values: Vec<X>) -> Result<Self, AllocError> {
+        let items = all_into(alloc, values)?;
+        Ok(Document::Array(Box::new(alloc, items)?))
+    }
+}
+
+/// What each value becomes, in order.
+fn all_into<T: KeyText + Drop, X: Into<Document<T>> + Drop>(
+    alloc: Global,
+    values: Vec<X>,
+) -> Result<Vec<Document<T>>, AllocError>
+    ensures { IfOk result (λ v. SameEach (λ d x. X.converts x d) v.items values.items) }
+{
+    let mut items = Vec::with_capacity(alloc, values.len())?;
+    for value in values {
+        items.push(value.into())?;
+    }
+    Ok(items)
+}
+
+/// An object of the map's pairs, in the byte order of their keys.
+impl<S: BuildHasher + Drop> TryMake<collections::HashMap<String, OwnedValue, S>> for OwnedValue {
+    ghost makes = { λ m v. IsOrdered m.entries (tree string_bytes v) };
+
+    fn try_make(
+        alloc: Global,
+        map: collections::HashMap<String, OwnedValue, S>,
+    ) -> Result<Self, AllocError> {
+        let members = put_all(alloc, in_order(alloc, map)?)?;
+        Ok(Document::Object(Box::new(alloc, members)?))
+    }
+}
+
+fn by_key(a: &(String, OwnedValue), b: &(String, OwnedValue)) -> Ordering
+    ensures { result ≡ string_cmp a.now.0 b.now.0 }
+{
+    a.0.cmp(&b.0)
+}
+
+/// The map's pairs in the byte order of their keys.
+fn in_order<S: BuildHasher + Drop>(
+    alloc: Global,
+    map: collections::HashMap<String, OwnedValue, S>,
+) -> Result<Vec<(String, OwnedValue)>, AllocError>
+    ensures permutation { IfOk result (λ v. IsPermutation map.entries v.items) }
+    ensures sorted { IfOk result (λ v. IsInByteOrder v.items) }
+{
+    let mut pairs = Vec::with_capacity(alloc, map.len())?;
+    for pair in map {
+        pairs.push(pair)?;
+    }
+    pairs.sort_by(by_key)?;
+    Ok(pairs)
+}
+
+/// The pairs, inserted in turn.
+fn put_all<T: KeyText + Drop>(
+    alloc: Global,
+    pairs: Vec<(T, Document<T>)>,
+) -> Result<Object<T>, AllocError>
+    ensures { IfOk result (λ m. entry_members (tree T.text_of) m.entries ≡ put_pairs T.text_of no_members pairs.items) }
+{
+    let mut members = Object::with_capacity_and_hasher(
+        alloc,
+        pairs.len(),
+        ObjectHasher::default(),
+    )?;
+    for (key, value) in pairs {
+        if members.insert(key, value).is_err() {
+            return Err(AllocError);
+        }
+    }
+    Ok(members)
+}
+
 /// A copy of the text.
 impl<'s> TryMake<&'s str> for OwnedValue {
-    ghost made = { λ s. text s.now };
+    ghost makes = { λ s v. tree string_bytes v ≡ text s.now };
 
     fn try_make(alloc: Global, string: &'s str) -> Result<Self, AllocError> {
         Ok(Document::String(String::from_str(alloc, string)?))
@@ -33,7 +119,7 @@ impl<'s> TryMake<&'s str> for OwnedValue {
 
 /// A copy of the text.
 impl<'s> TryMake<&'s String> for OwnedValue {
-    ghost made = { λ s. text (string_bytes s.now) };
+    ghost makes = { λ s v. tree string_bytes v ≡ text (string_bytes s.now) };
 
     fn try_make(alloc: Global, string: &'s String) -> Result<Self, AllocError> {
         Ok(Document::String(String::from_str(alloc, string.as_str())?))
@@ -42,7 +128,7 @@ impl<'s> TryMake<&'s String> for OwnedValue {
 
 /// The text, copied where it is lent.
 impl<'s> TryMake<CowStr<'s>> for OwnedValue {
-    ghost made = { λ s. text (cow_str_bytes s) };
+    ghost makes = { λ s v. tree string_bytes v ≡ text (cow_str_bytes s) };
 
     fn try_make(alloc: Global, string: CowStr<'s>) -> Result<Self, AllocError> {
         Ok(Document::String(String::text_from(alloc, string)?))
@@ -51,7 +137,7 @@ impl<'s> TryMake<CowStr<'s>> for OwnedValue {
 
 /// The same document with each text owned: a lent one is copied, an owned one is moved.
 impl<'v> TryMake<BorrowedValue<'v>> for OwnedValue {
-    ghost made = { tree cow_str_bytes };
+    ghost makes = { λ b v. tree string_bytes v ≡ tree cow_str_bytes b };
 
     fn try_make(alloc: Global, value: BorrowedValue<'v>) -> Result<Self, AllocError> {
         convert(alloc, value)
@@ -60,7 +146,7 @@ impl<'v> TryMake<BorrowedValue<'v>> for OwnedValue {
 
 /// The same document, with its texts moved.
 impl<'v> TryMake<OwnedValue> for BorrowedValue<'v> {
-    ghost made = { tree string_bytes };
+    ghost makes = { λ o v. tree cow_str_bytes v ≡ tree string_bytes o };
 
     fn try_make(alloc: Global, value: OwnedValue) -> Result<Self, AllocError> {
         convert(alloc, value)
@@ -86,8 +172,7 @@ impl<'v> BorrowedValue<'v> {
 impl<T: KeyText + Drop> Document<T> {
     ghost use Rattle.std.specs.Prelude.{List, map};
     ghost use Rattle.std.specs.Iterator.{IsFinite, Drains};
-    ghost use Rattle.sj_text_core.specs.Tree.{list, items_from, no_members};
-    ghost use Rattle.sj_document.specs.Document.{put_pairs};
+    ghost use Rattle.sj_text_core.specs.Tree.{list, items_from};
 
     /// An array of what the iterator gives, in order.
     pub fn try_from_items<I: Iterator<Item = Document<T>> + Drop>(

@@ -41,10 +41,11 @@ fn forms_are_compared(rt: HostRuntime) -> Result<(), Fail> {
         let borrowed = second.clone()?.into_value(alloc)?;
         let mut upgraded = first.clone()?;
         upgraded.as_mut(alloc)?;
-        assert_eq!(rt; first == second, same);
-        assert_eq!(rt; first == written, same);
-        assert_eq!(rt; written == first, same);
-        assert_eq!(rt; upgraded == written, same);
+        assert_eq!(rt; first.same_as(&second), same);
+        assert_eq!(rt; first.same_as(&written), same);
+        assert_eq!(rt; written.same_as(&first), same);
+        assert_eq!(rt; upgraded.same_as(&written), same);
+        assert!(rt; first == first.clone()?);
         assert_eq!(rt; first.same_as(&owned), same);
         assert_eq!(rt; upgraded.same_as(&owned), same);
         assert_eq!(rt; first.same_as(&borrowed), same);

@@ -1,9 +1,11 @@
 //! What each call makes of the form.
 
+use super::keys_of;
 use crate::{Shared, Value};
 use sj_document::Document;
 use sj_tape::to_tape;
 use sj_text_core::{AccessError, StaticNode, ValueAsScalar, Writable};
+use std::alloc::Global;
 use std::borrow::CowStr;
 use std::test::Fail;
 
@@ -100,8 +102,7 @@ fn the_first_write_upgrades(rt: HostRuntime) -> Result<(), Fail> {
     );
     assert!(rt; value.is_value());
     assert_eq!(rt; value.get_str("key"), Some("value"));
-    let keys = ["key", "snot", "new"];
-    assert!(rt; value.as_object().ok_or("an object")?.keys().eq(keys));
+    assert_eq!(rt; keys_of(alloc, &value)?.as_str(), "key snot new ");
     assert_eq!(rt; value.get_i8("snot"), Some(42));
     let gone = value.remove(alloc, "snot")?.ok_or("a member")?;
     assert_eq!(rt; gone.as_u64(), Some(42));
@@ -192,18 +193,23 @@ fn parts_are_written_in_place(rt: HostRuntime) -> Result<(), Fail> {
     Ok(())
 }
 
+/// What an item is displayed as.
+fn displayed(alloc: Global, value: &Value, place: usize) -> Result<String, Fail> {
+    let item = value.get_idx(place).ok_or("an item")?;
+    Ok(format!(in alloc; "{item}")?)
+}
+
 #[test]
 fn values_are_displayed(rt: HostRuntime) -> Result<(), Fail> {
     let alloc = rt.alloc();
     let mut text = br#"[null,-5,"a\"b",{"k":[]}]"#.to_vec(alloc)?;
     let tape = to_tape(alloc, text.as_mut_slice())?;
     let mut value: Value<'_, '_, '_> = Value::from_tape(tape.as_value());
-    let shown = ["null", "-5", "a\"b", r#"{"k":[]}"#];
     for _ in 0..2 {
-        for (place, text) in shown.iter().enumerate() {
-            let item = value.get_idx(place).ok_or("an item")?;
-            assert_eq!(rt; format!(in alloc; "{item}")?.as_str(), *text);
-        }
+        assert_eq!(rt; displayed(alloc, &value, 0)?.as_str(), "null");
+        assert_eq!(rt; displayed(alloc, &value, 1)?.as_str(), "-5");
+        assert_eq!(rt; displayed(alloc, &value, 2)?.as_str(), "a\"b");
+        assert_eq!(rt; displayed(alloc, &value, 3)?.as_str(), r#"{"k":[]}"#);
         value.as_mut(alloc)?;
     }
     Ok(())

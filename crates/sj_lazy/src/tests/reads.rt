@@ -50,28 +50,32 @@ fn members_are_read_by_type(rt: HostRuntime) -> Result<(), Fail> {
     Ok(())
 }
 
+/// The reads of `{"the_answer": 42}`.
+fn answers(rt: &impl Abort, value: &Value) -> Result<(), Fail> {
+    let answer = value.try_get("the_answer")?.ok_or("a member")?;
+    assert_eq!(rt; answer.as_u64(), Some(42));
+    assert!(rt; value.try_get("does_not_exist")?.is_none());
+    assert!(rt; value.contains_key("the_answer"));
+    assert!(rt; !answer.contains_key("the_answer"));
+    let Err(fault) = value.try_get_idx(0) else {
+        return Err("a fault".into());
+    };
+    assert_eq!(rt; fault.expected, ValueType::Array);
+    assert_eq!(rt; fault.got, ValueType::Object);
+    assert!(rt; answer.try_as_object().is_err());
+    assert_eq!(rt; value.try_as_object()?.len(), 1);
+    Ok(())
+}
+
 #[test]
 fn parts_are_read(rt: HostRuntime) -> Result<(), Fail> {
     let alloc = rt.alloc();
     let mut text = br#"{"the_answer": 42}"#.to_vec(alloc)?;
     let tape = to_tape(alloc, text.as_mut_slice())?;
     let mut value: Value<'_, '_, '_> = Value::from_tape(tape.as_value());
-    for _ in 0..2 {
-        let answer = value.try_get("the_answer")?.ok_or("a member")?;
-        assert_eq!(rt; answer.as_u64(), Some(42));
-        assert!(rt; value.try_get("does_not_exist")?.is_none());
-        assert!(rt; value.contains_key("the_answer"));
-        assert!(rt; !answer.contains_key("the_answer"));
-        let Err(fault) = value.try_get_idx(0) else {
-            return Err("a fault".into());
-        };
-        assert_eq!(rt; fault.expected, ValueType::Array);
-        assert_eq!(rt; fault.got, ValueType::Object);
-        assert!(rt; answer.try_as_object().is_err());
-        assert_eq!(rt; value.try_as_object()?.len(), 1);
-        value.as_mut(alloc)?;
-    }
-    Ok(())
+    answers(&rt, &value)?;
+    value.as_mut(alloc)?;
+    answers(&rt, &value)
 }
 
 /// The members of `{"snot":1,"badger":2}`.

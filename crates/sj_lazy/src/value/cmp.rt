@@ -58,6 +58,15 @@ impl<'b, 't, 'i> Eq for Value<'b, 't, 'i> {
     ghost laws = { on_equiv seen tree_eq-equivalence };
 }
 
+/// Same exactly where the two mean one document, each part of a tape by its own choice.
+impl<'b, 't, 'i, 'c, 'u, 'j> SameAs<Value<'c, 'u, 'j>> for Value<'b, 't, 'i> {
+    ghost same = { λ v w. SameBy (choice v) (choice w) (tree v) (tree w) };
+
+    fn same_as(&self, other: &Value<'c, 'u, 'j>) -> bool {
+        same_lazy(self, other)
+    }
+}
+
 /// Same exactly where the two mean one document, a part of a tape by its own choice.
 impl<'b, 't, 'i, T: KeyText> SameAs<Document<T>> for Value<'b, 't, 'i> {
     ghost same = { λ v w. SameBy (choice v) First (tree v) (document_tree T.text_of w) };

@@ -1,6 +1,7 @@
 use super::{owned, parsed};
 use crate::*;
 use sj_document::BorrowedValue;
+use std::collections;
 use std::test::Fail;
 
 const DOCUMENTS: [&str; 7] = [
@@ -104,5 +105,23 @@ fn repeats(rt: HostRuntime) -> Result<(), Fail> {
     assert_eq!(rt; value.encode(alloc)?.as_str(), "{\"a\":1}");
     let mut bytes = b"{\"a\":1,\"a\":2}".to_vec(alloc)?;
     assert_eq!(rt; to_owned_value(alloc, bytes.as_mut_slice())?, value);
+    Ok(())
+}
+
+#[test]
+fn made_of_lists_and_maps(rt: HostRuntime) -> Result<(), Fail> {
+    let alloc = rt.alloc();
+    let value = Value::try_make(alloc, vec![in alloc; true]?)?;
+    assert_eq!(rt; value.encode(alloc)?.as_str(), "[true]");
+    assert_eq!(rt; value.value_type(), ValueType::Array);
+    let numbers = vec![in alloc; Some(1_u8), None, Some(3)]?;
+    let value = Value::try_make(alloc, numbers)?;
+    assert_eq!(rt; value.encode(alloc)?.as_str(), "[1,null,3]");
+    let mut map = collections::HashMap::new(alloc);
+    for (key, number) in [("b", 1_u8), ("a", 2), ("", 3), ("\u{e9}", 4), ("aa", 5)] {
+        map.insert(owned(alloc, key)?, Value::from(number))?;
+    }
+    let value = Value::try_make(alloc, map)?;
+    assert_eq!(rt; value.encode(alloc)?.as_str(), "{\"\":3,\"a\":2,\"aa\":5,\"b\":1,\"\u{e9}\":4}");
     Ok(())
 }

@@ -2,8 +2,8 @@
 use Rattle.std.proofs.Common.{◌≡◌, ℕ, pos, negsuc, List, [], ◌∷◌, refl, codes}
 use Rattle.sj_text_core.specs.Tree.{u64, i64, u128, Tree, null, int, text, list, obj, no_items, no_members, member, items_from}
 use Rattle.sj_text_core.specs.Paths.{by_key, by_place}
-use Rattle.sj_run.specs.Commands.{unsigned, read, write, bad, fits, len, encode, insert, remove, has, push, put, pop}
-use Rattle.sj_run.specs.CommandLines.{command_in, served_first}
+use Rattle.sj_run.specs.Commands.{unsigned, read, write, bad, fits, len, insert, remove, has, push, put, pop}
+use Rattle.sj_run.specs.CommandLines.{command_in}
 
 abbrev line : List Tree → Tree
 line ts = list (items_from ts)
@@ -68,19 +68,6 @@ command_in-remove = refl
 
 command_in-has : command_in (line (word (codes "has") ∷ root ∷ word (codes "k") ∷ [])) ≡ read [] (has (codes "k"))
 command_in-has = refl
-
--- the first path serves two commands at the empty path
-served_first-encode : served_first (read [] encode) ≡ read [] encode
-served_first-encode = refl
-
-served_first-insert : served_first (write [] (insert (codes "k") null)) ≡ write [] (insert (codes "k") null)
-served_first-insert = refl
-
-served_first-len : served_first (read [] len) ≡ bad
-served_first-len = refl
-
-served_first-path : served_first (read (by_place 0 ∷ []) encode) ≡ bad
-served_first-path = refl
 
 -- ["encode",[],1,2,3]
 command_in-too_long : command_in (line (word (codes "encode") ∷ root ∷ int (pos 1) u64 ∷ int (pos 2) u64 ∷ int (pos 3) u64 ∷ [])) ≡ bad

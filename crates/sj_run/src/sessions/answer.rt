@@ -1,44 +1,79 @@
-//! Answers to command lines.
+//! Answers to command lines. What a read finds is written out where it stands: no reply is made a
+//! text of its own first.
 
-ghost use Rattle.std.specs.Prelude.{◌≡◌, OnOk, OnErr};
-ghost use Rattle.sj_text_core.specs.Keep.{IsKept};
-ghost use Rattle.sj_run.specs.Answered.{AnswersLine, AnswersLines};
-ghost use Rattle.sj_run.specs.Document.{document_tree, IsBegunBy};
+ghost use Rattle.std.specs.Prelude.{◌≡◌, ◌+◌, ◌^◌, ◌≤◌, length, OnOk, OnErr, IsErrOf};
+ghost use Rattle.sj_run.specs.Answered.{Answers, AnswersLine, AnswersLines, IsBegunBy, PassesOne, PassesLine, PassesLines};
 ghost use Rattle.sj_run.specs.Lines.{full_lines, line_texts};
+ghost use Rattle.sj_run.specs.Meant.{command_meant};
 
-use crate::command::command_of;
-use crate::document::Document;
+use crate::change::change_at;
+use crate::command::{Asked, Command, command_of, taken_apart};
+use crate::document::{BorrowedDoc, Document, OwnedDoc};
+use crate::find::find;
 use crate::lines::{line_len, text_len};
-use crate::reply::write_reply;
-use std::alloc::{AllocError, Global};
+use crate::runs::Why;
+use crate::texts::borrowed_write;
+use std::alloc::Global;
+
+/// A document that writes its replies out.
+pub(super) trait Tells: Document {
+    /// Answers a command, and appends the text of the reply.
+    fn tell(&mut self, alloc: Global, command: Command, out: &mut Vec<u8>) -> Result<(), Why>
+        ensures ok { OnOk result (Answers (Self.tree self.old) (command_meant command) (Self.tree self.new) out.old.items out.new.items) }
+        ensures err { OnErr result (IsBegunBy out.old.items out.new.items) }
+        ensures too_long { IsErrOf result Why.TooLong → PassesOne (Self.tree self.old) (command_meant command) (length out.old.items) };
+}
+
+impl Tells for OwnedDoc {
+    fn tell(&mut self, alloc: Global, command: Command, out: &mut Vec<u8>) -> Result<(), Why> {
+        match taken_apart(command) {
+            Asked::Read(path, read) => find(&self.value, &path, &read).write(out),
+            Asked::Write(path, write) => change_at(&mut self.value, &path, write)?.write(out),
+            Asked::Bad => Ok(out.extend_from_slice(b"bad command")?),
+        }
+    }
+}
+
+impl<'v> Tells for BorrowedDoc<'v> {
+    fn tell(&mut self, alloc: Global, command: Command, out: &mut Vec<u8>) -> Result<(), Why> {
+        match taken_apart(command) {
+            Asked::Read(path, read) => find(&self.value, &path, &read).write(out),
+            Asked::Write(path, write) => {
+                let write = borrowed_write(alloc, write)?;
+                change_at(&mut self.value, &path, write)?.write(out)
+            }
+            Asked::Bad => Ok(out.extend_from_slice(b"bad command")?),
+        }
+    }
+}
 
 /// Answers the command of a line. What was read of the line is gone when it is answered.
-fn answer_line(
+fn answer_line<D: Tells>(
     alloc: Global,
-    document: &mut Document,
+    document: &mut D,
     line: &mut [u8],
     out: &mut Vec<u8>,
-) -> Result<(), AllocError>
-    requires { IsKept (document_tree document.old) }
-    ensures ok { OnOk result (AnswersLine (document_tree document.old) line.old (document_tree document.new) out.old.items out.new.items) }
-    ensures kept { OnOk result (IsKept (document_tree document.new)) }
+) -> Result<(), Why>
+    ensures ok { OnOk result (AnswersLine (D.tree document.old) line.old (D.tree document.new) out.old.items out.new.items) }
     ensures err { OnErr result (IsBegunBy out.old.items out.new.items) }
+    ensures too_long { IsErrOf result Why.TooLong → PassesLine (D.tree document.old) line.old (length out.old.items) }
 {
     let command = command_of(alloc, line)?;
-    let reply = document.apply(alloc, command)?;
-    write_reply(&reply, out)
+    document.tell(alloc, command, out)?;
+    out.push(b'\n')?;
+    Ok(())
 }
 
 /// Answers the commands of lines in turn. Lines without bytes are passed over.
-fn answer_lines(
+fn answer_lines<D: Tells>(
     alloc: Global,
-    document: &mut Document,
+    document: &mut D,
     lines: &mut [u8],
     out: &mut Vec<u8>,
-) -> Result<(), AllocError>
-    requires { IsKept (document_tree document.old) }
-    ensures ok { OnOk result (AnswersLines (document_tree document.old) (line_texts (full_lines lines.old)) (document_tree document.new) out.old.items out.new.items) }
+) -> Result<(), Why>
+    ensures ok { OnOk result (AnswersLines (D.tree document.old) (line_texts (full_lines lines.old)) (D.tree document.new) out.old.items out.new.items) }
     ensures err { OnErr result (IsBegunBy out.old.items out.new.items) }
+    ensures too_long { IsErrOf result Why.TooLong → PassesLines (D.tree document.old) (line_texts (full_lines lines.old)) (length out.old.items) }
 {
     let mut at = 0;
     while at < lines.len() {
@@ -52,16 +87,16 @@ fn answer_lines(
     Ok(())
 }
 
-/// Answers the commands of lines in turn. On a refused request for memory the output is as it was.
-pub(super) fn answer_all(
+/// Answers the commands of lines in turn. On a fault the output is as it was.
+pub(super) fn answer_all<D: Tells>(
     alloc: Global,
-    document: &mut Document,
+    document: &mut D,
     lines: &mut [u8],
     out: &mut Vec<u8>,
-) -> Result<(), AllocError>
-    requires { IsKept (document_tree document.old) }
-    ensures ok { OnOk result (AnswersLines (document_tree document.old) (line_texts (full_lines lines.old)) (document_tree document.new) out.old.items out.new.items) }
+) -> Result<(), Why>
+    ensures ok { OnOk result (AnswersLines (D.tree document.old) (line_texts (full_lines lines.old)) (D.tree document.new) out.old.items out.new.items) }
     ensures err { OnErr result (out.new.items ≡ out.old.items) }
+    ensures too_long { IsErrOf result Why.TooLong → PassesLines (D.tree document.old) (line_texts (full_lines lines.old)) (length out.old.items) }
 {
     let start = out.len();
     let done = answer_lines(alloc, document, lines, out);

@@ -1,33 +1,14 @@
 //! Escapes.
 
 ghost use Rattle.std.specs.Prelude.{◌≡◌, ◌≢◌, ◌+◌, ◌-◌, ◌<◌, ◌≤◌, Some, None, length, drop, IfOk, IfErr, IfSome, OnErr};
-ghost use Rattle.std.specs.Char.{digit_value};
 ghost use Rattle.sj_text_core.specs.Grammar.{short_escape};
 ghost use Rattle.sj_text_core.specs.Parse as parse;
 
+use crate::reader::digit::digit;
 use sj_text_core::ErrorKind;
 
-fn digit(byte: u8) -> u32
-    ensures { result ≡ digit_value byte }
-{
-    if byte < b'0' {
-        36
-    } else if byte <= b'9' {
-        u32::from(byte - b'0')
-    } else if byte < b'A' {
-        36
-    } else if byte <= b'Z' {
-        u32::from(byte - b'A') + 10
-    } else if byte < b'a' {
-        36
-    } else if byte <= b'z' {
-        u32::from(byte - b'a') + 10
-    } else {
-        36
-    }
-}
-
 /// What four hexadecimal digits at `at` write.
+#[inline(always)]
 fn unit(bytes: &[u8], at: usize) -> Option<u32>
     requires { at ≤ length bytes.now }
     ensures value { result ≡ parse.unit_at (drop at bytes.now) }
@@ -56,6 +37,7 @@ fn unit(bytes: &[u8], at: usize) -> Option<u32>
 }
 
 /// The character of a two-byte escape.
+#[inline(always)]
 fn short(byte: u8) -> Option<u8>
     ensures { result ≡ short_escape byte }
 {
@@ -77,6 +59,7 @@ fn short(byte: u8) -> Option<u8>
 }
 
 /// Behind a high surrogate: the character of the pair, and the place after it.
+#[inline(never)]
 fn pair(bytes: &[u8], at: usize, high: u32) -> Result<(char, usize), ErrorKind>
     requires at { at ≤ length bytes.now }
     requires low { 0xD800 ≤ high }
@@ -112,6 +95,7 @@ fn pair(bytes: &[u8], at: usize, high: u32) -> Result<(char, usize), ErrorKind>
 }
 
 /// Behind `\u`: the character, and the place after its escape.
+#[inline(always)]
 fn code(bytes: &[u8], at: usize) -> Result<(char, usize), ErrorKind>
     requires { at ≤ length bytes.now }
     ensures within { IfOk result (λ p. (at < p.1) × (p.1 ≤ length bytes.now)) }
@@ -132,6 +116,7 @@ fn code(bytes: &[u8], at: usize) -> Result<(char, usize), ErrorKind>
 }
 
 /// Behind a backslash: the character, and the place after its escape.
+#[inline(always)]
 pub(crate) fn escape(bytes: &[u8], at: usize) -> Result<(char, usize), ErrorKind>
     requires { at ≤ length bytes.now }
     ensures within { IfOk result (λ p. (at < p.1) × (p.1 ≤ length bytes.now)) }

@@ -1,20 +1,15 @@
 //! Whole numbers.
 
-ghost use Rattle.std.specs.Prelude.{◌≡◌, ◌+◌, ◌-◌, ◌<◌, ◌≤◌, ◌^◌, ℕ, Some, None, length, drop, IfOk, IfErr, ◌≢◌, OnErr, MatchOption, option_map, IsTrue, ◌↔◌, EachIndex, slice_index, slice_range, pos, neg_ℤ, true, false, cond};
-ghost use Rattle.std.specs.Int.{cast_signed, w64};
-ghost use Rattle.sj_tape.specs.Pieces.{Puts};
+ghost use Rattle.std.specs.Prelude.{◌≡◌, ◌≢◌, ◌+◌, ◌-◌, ◌<◌, ◌≤◌, ◌%◌, ◌^◌, ℕ, Some, None, length, get_or, drop, IfOk, IfErr, OnErr, MatchOption, option_map, EachIndex, slice_index, slice_range};
 ghost use Rattle.sj_text_core.specs.Parse as parse;
 ghost use Rattle.sj_text_core.specs.Grammar.{value_of, number_of};
 ghost use Rattle.sj_text_core.specs.Scalars.{static_tree};
 
 use crate::reader::blank::byte_at;
-use crate::reader::piece::Piece;
-use crate::reader::sink::Sink;
-use core::dec2flt::read_digits;
+use core::dec2flt::{read_digits, ten_to};
 use sj_text_core::{ErrorKind, StaticNode};
 
-/// The first place from `at` on that is no digit, and what the digits write, where they are at
-/// most 19.
+/// The first place from `at` on that is no digit, and the last 64 bits of what the digits write.
 #[inline(always)]
 fn digits(bytes: &[u8], at: usize) -> (usize, u64)
     requires { at ≤ length bytes.now }
@@ -22,29 +17,44 @@ fn digits(bytes: &[u8], at: usize) -> (usize, u64)
     ensures high { result.0 ≤ length bytes.now }
     ensures count { parse.digits_len (drop at bytes.now) ≡ result.0 - at }
     ensures digits { (k : ℕ) → at ≤ k → k < result.0 → (48 ≤ slice_index bytes.now k) × (slice_index bytes.now k ≤ 57) }
-    ensures value { result.0 - at ≤ 19 → result.1 ≡ value_of (slice_range bytes.now at result.0) }
-    ensures bound { result.0 - at ≤ 18 → result.1 < 10 ^ 18 }
+    ensures value { result.1 ≡ value_of (slice_range bytes.now at result.0) % 2 ^ 64 }
+    ensures bound { value_of (slice_range bytes.now at result.0) < 10 ^ (result.0 - at) }
 {
     read_digits(bytes, at, 0)
 }
 
-#[tactic(auto, using(sj_text_core::proofs::parse::Numbers::too_large))]
-/// The number that digits write, if it is below 2 ^ 128.
+/// The number that at most 19 digits write.
+#[inline(always)]
+fn word(digits: &[u8]) -> u64
+    requires digits { EachIndex digits.now (λ k. (48 ≤ slice_index digits.now k) × (slice_index digits.now k ≤ 57)) }
+    requires few { length digits.now ≤ 19 }
+    ensures { result ≡ value_of digits.now }
+{
+    let (_, value) = read_digits(digits, 0, 0);
+    value
+}
+
+/// The number that 19 digits or more write, the first of them no zero, if it is below 2 ^ 128.
+/// Such a number has 39 digits at most.
 fn large(digits: &[u8]) -> Option<u128>
-    requires { EachIndex digits.now (λ k. (48 ≤ slice_index digits.now k) × (slice_index digits.now k ≤ 57)) }
+    requires digits { EachIndex digits.now (λ k. (48 ≤ slice_index digits.now k) × (slice_index digits.now k ≤ 57)) }
+    requires first { get_or digits.now 0 0 ≢ 48 }
+    requires many { 19 ≤ length digits.now }
     ensures { MatchOption result (2 ^ 128 ≤ value_of digits.now) (λ n. n ≡ value_of digits.now) }
 {
-    let mut n: u128 = 0;
-    for digit in digits {
-        let Some(tens) = n.checked_mul(10) else {
-            return None;
-        };
-        let Some(next) = tens.checked_add(u128::from(*digit - b'0')) else {
-            return None;
-        };
-        n = next;
+    if digits.len() > 39 {
+        return None;
     }
-    Some(n)
+    let middle = digits.len().min(38);
+    let high = u128::from(word(&digits[..19])) * u128::from(ten_to((middle - 19) as u64));
+    let n = high + u128::from(word(&digits[19..middle]));
+    if digits.len() <= 38 {
+        return Some(n);
+    }
+    match n.checked_mul(10) {
+        None => None,
+        Some(tens) => tens.checked_add(u128::from(digits[38] - b'0')),
+    }
 }
 
 /// The number with its carrier, where one has it.
@@ -70,22 +80,6 @@ fn carried(is_negative: bool, n: u128) -> Option<StaticNode>
     }
 }
 
-/// The whole number that stands at `at`, and the place after it.
-#[inline(never)]
-pub(crate) fn number(bytes: &[u8], at: usize) -> Result<(StaticNode, usize), ErrorKind>
-    requires { at < length bytes.now }
-    ensures within { IfOk result (λ p. (at < p.1) × (p.1 ≤ length bytes.now)) }
-    ensures ok { IfOk result (λ p. parse.number_at (drop at bytes.now) ≡ Some (static_tree p.0, drop p.1 bytes.now)) }
-    ensures err { OnErr result (parse.number_at (drop at bytes.now) ≡ None) }
-    ensures kind { IfErr result (λ e. e ≢ ErrorKind.InvalidUtf8) }
-{
-    if bytes[at] == b'-' {
-        numeral(bytes, at + 1, true)
-    } else {
-        numeral(bytes, at, false)
-    }
-}
-
 /// Whether a fraction or an exponent stands at `at`.
 #[inline(always)]
 fn goes_on(bytes: &[u8], at: usize) -> bool
@@ -96,8 +90,56 @@ fn goes_on(bytes: &[u8], at: usize) -> bool
     byte == b'.' || byte == b'e' || byte == b'E'
 }
 
+/// The number of at most 18 digits.
+#[inline(always)]
+fn few(is_negative: bool, n: u64) -> StaticNode
+    requires { n < 10 ^ 18 }
+    ensures { number_of is_negative n ≡ Some (static_tree result) }
+{
+    if is_negative {
+        StaticNode::I64(0 - n as i64)
+    } else {
+        StaticNode::U64(n)
+    }
+}
+
+/// The number of 19 digits or more, where it has a carrier. `low` is its last 64 bits: they are the
+/// whole of a number of 19 digits, and of one of 20 that begins with a 1 where they are no less.
+#[inline(never)]
+fn many(digits: &[u8], is_negative: bool, low: u64) -> Option<StaticNode>
+    requires digits { EachIndex digits.now (λ k. (48 ≤ slice_index digits.now k) × (slice_index digits.now k ≤ 57)) }
+    requires low { low ≡ value_of digits.now % 2 ^ 64 }
+    requires first { get_or digits.now 0 0 ≢ 48 }
+    ensures { option_map static_tree result ≡ number_of is_negative (value_of digits.now) }
+{
+    if digits.len() <= 19 {
+        return carried(is_negative, u128::from(low));
+    }
+    if digits.len() == 20 && digits[0] == b'1' && low >= 10_000_000_000_000_000_000 {
+        return carried(is_negative, u128::from(low));
+    }
+    match large(digits) {
+        None => None,
+        Some(n) => carried(is_negative, n),
+    }
+}
+
+/// The whole number at the front, and the place behind it.
+#[inline(always)]
+pub(crate) fn number(bytes: &[u8]) -> Result<(StaticNode, usize), ErrorKind>
+    requires { 0 < length bytes.now }
+    ensures within { IfOk result (λ p. (0 < p.1) × (p.1 ≤ length bytes.now)) }
+    ensures ok { IfOk result (λ p. parse.number_at bytes.now ≡ Some (static_tree p.0, drop p.1 bytes.now)) }
+    ensures err { OnErr result (parse.number_at bytes.now ≡ None) }
+    ensures kind { IfErr result (λ e. e ≢ ErrorKind.InvalidUtf8) }
+{
+    let is_negative = bytes[0] == b'-';
+    numeral(bytes, usize::from(is_negative), is_negative)
+}
+
 #[tactic(auto, using(sj_text_core::proofs::parse::Numbers::numeral_is))]
 /// The digits that stand at `at`, and the place after them.
+#[inline(always)]
 fn numeral(bytes: &[u8], at: usize, is_negative: bool) -> Result<(StaticNode, usize), ErrorKind>
     requires { at ≤ length bytes.now }
     ensures within { IfOk result (λ p. (at < p.1) × (p.1 ≤ length bytes.now)) }
@@ -105,7 +147,7 @@ fn numeral(bytes: &[u8], at: usize, is_negative: bool) -> Result<(StaticNode, us
     ensures err { OnErr result (parse.numeral_at is_negative (parse.digits_len (drop at bytes.now)) (drop at bytes.now) ≡ None) }
     ensures kind { IfErr result (λ e. e ≢ ErrorKind.InvalidUtf8) }
 {
-    let (end, _) = digits(bytes, at);
+    let (end, low) = digits(bytes, at);
     if end == at {
         return Err(ErrorKind::Syntax);
     }
@@ -115,108 +157,11 @@ fn numeral(bytes: &[u8], at: usize, is_negative: bool) -> Result<(StaticNode, us
     if goes_on(bytes, end) {
         return Err(ErrorKind::Float);
     }
-    match large(&bytes[at..end]) {
+    if end - at <= 18 {
+        return Ok((few(is_negative, low), end));
+    }
+    match many(&bytes[at..end], is_negative, low) {
         None => Err(ErrorKind::NumberTooLarge),
-        Some(n) => match carried(is_negative, n) {
-            None => Err(ErrorKind::NumberTooLarge),
-            Some(node) => Ok((node, end)),
-        },
+        Some(node) => Ok((node, end)),
     }
-}
-
-/// Reads the whole number at `at`, puts its piece at the end, and answers the place after it.
-#[inline(always)]
-pub(crate) fn number_piece<S: Sink>(
-    bytes: &[u8],
-    at: usize,
-    out: &mut S,
-) -> Result<usize, ErrorKind>
-    requires at { at < length bytes.now }
-    requires takes { S.Takes bytes.now out.old at }
-    ensures within { IfOk result (λ next. (at < next) × (next ≤ length bytes.now)) }
-    ensures ok { IfOk result (λ next. Puts (parse.number_at (drop at bytes.now)) bytes.now at next (S.marks bytes.now out.old) (S.marks bytes.now out.new)) }
-    ensures takes { IfOk result (λ next. S.Takes bytes.now out.new next) }
-    ensures err { IfErr result (λ e. e ≢ ErrorKind.OutOfMemory → parse.number_at (drop at bytes.now) ≡ None) }
-    ensures kind { IfErr result (λ e. e ≢ ErrorKind.InvalidUtf8) }
-{
-    let is_negative = bytes[at] == b'-';
-    let start = if is_negative { at + 1 } else { at };
-    numeral_piece(bytes, at, start, is_negative, out)
-}
-
-/// The same, where the digits begin at `start`.
-#[inline(always)]
-fn numeral_piece<S: Sink>(
-    bytes: &[u8],
-    at: usize,
-    start: usize,
-    is_negative: bool,
-    out: &mut S,
-) -> Result<usize, ErrorKind>
-    requires at { at < length bytes.now }
-    requires takes { S.Takes bytes.now out.old at }
-    requires low { at ≤ start }
-    requires high { start ≤ length bytes.now }
-    requires sign { parse.number_at (drop at bytes.now) ≡ parse.numeral_at is_negative (parse.digits_len (drop start bytes.now)) (drop start bytes.now) }
-    ensures within { IfOk result (λ next. (at < next) × (next ≤ length bytes.now)) }
-    ensures ok { IfOk result (λ next. Puts (parse.number_at (drop at bytes.now)) bytes.now at next (S.marks bytes.now out.old) (S.marks bytes.now out.new)) }
-    ensures takes { IfOk result (λ next. S.Takes bytes.now out.new next) }
-    ensures err { IfErr result (λ e. e ≢ ErrorKind.OutOfMemory → parse.number_at (drop at bytes.now) ≡ None) }
-    ensures kind { IfErr result (λ e. e ≢ ErrorKind.InvalidUtf8) }
-{
-    let (end, n) = digits(bytes, start);
-    let count = end - start;
-    if count == 0 {
-        return Err(ErrorKind::Syntax);
-    }
-    if bytes[start] == b'0' && count > 1 {
-        return Err(ErrorKind::Syntax);
-    }
-    if goes_on(bytes, end) {
-        return Err(ErrorKind::Float);
-    }
-    if count > most_digits(is_negative) {
-        return wide_piece(bytes, at, out);
-    }
-    let bits = word_of(is_negative, n);
-    out.put(bytes, Piece::Integer { is_negative, bits })?;
-    Ok(end)
-}
-
-/// How many digits are sure to fit one word.
-#[inline(always)]
-fn most_digits(is_negative: bool) -> usize
-    ensures { result ≡ cond is_negative 18 19 }
-{
-    19 - is_negative as usize
-}
-
-/// The word of a number whose digits write `n`.
-#[inline(always)]
-fn word_of(is_negative: bool, n: u64) -> u64
-    requires { is_negative ≡ true → n < 2 ^ 63 }
-    ensures negative { is_negative ≡ true → cast_signed w64 result ≡ neg_ℤ (pos n) }
-    ensures plain { is_negative ≡ false → result ≡ n }
-{
-    if is_negative {
-        (0 - n as i64).cast_unsigned()
-    } else {
-        n
-    }
-}
-
-/// The same for a number of many digits.
-#[inline(never)]
-fn wide_piece<S: Sink>(bytes: &[u8], at: usize, out: &mut S) -> Result<usize, ErrorKind>
-    requires at { at < length bytes.now }
-    requires takes { S.Takes bytes.now out.old at }
-    ensures within { IfOk result (λ next. (at < next) × (next ≤ length bytes.now)) }
-    ensures ok { IfOk result (λ next. Puts (parse.number_at (drop at bytes.now)) bytes.now at next (S.marks bytes.now out.old) (S.marks bytes.now out.new)) }
-    ensures takes { IfOk result (λ next. S.Takes bytes.now out.new next) }
-    ensures err { IfErr result (λ e. e ≢ ErrorKind.OutOfMemory → parse.number_at (drop at bytes.now) ≡ None) }
-    ensures kind { IfErr result (λ e. e ≢ ErrorKind.InvalidUtf8) }
-{
-    let (_, end) = number(bytes, at)?;
-    out.put(bytes, Piece::Wide { start: at, end })?;
-    Ok(end)
 }

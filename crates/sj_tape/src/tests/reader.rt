@@ -41,6 +41,10 @@ fn nodes_and_counts(rt: HostRuntime) -> Result<(), AllocError> {
         ),
         (" [ ] ", "Array { len: 0, count: 0 }"),
         (
+            "[\"a\\u0041\",\"b\\n\",{\"k\\u00e9\":\"\\ud83d\\ude00x\",\"plain\":1},\"q\"]",
+            "Array { len: 4, count: 8 }, String(\"aA\"), String(\"b\\n\"), Object { len: 2, count: 4 }, String(\"k\u{e9}\"), String(\"\u{1f600}x\"), String(\"plain\"), Static(U64(1)), String(\"q\")",
+        ),
+        (
             "[null,[true,false],{},\"\"]",
             "Array { len: 4, count: 6 }, Static(Null), Array { len: 2, count: 2 }, Static(Bool(true)), Static(Bool(false)), Object { len: 0, count: 0 }, String(\"\")",
         ),
@@ -74,6 +78,17 @@ fn numbers(rt: HostRuntime) -> Result<(), AllocError> {
             "-170141183460469231731687303715884105728",
             "I128(-170141183460469231731687303715884105728)",
         ),
+        (
+            "99999999999999999999999999999999999999",
+            "U128(99999999999999999999999999999999999999)",
+        ),
+        ("9999999999999999999", "U64(9999999999999999999)"),
+        ("18446744073709551617", "U128(18446744073709551617)"),
+        ("19999999999999999999", "U128(19999999999999999999)"),
+        ("20000000000000000000", "U128(20000000000000000000)"),
+        ("-9223372036854775807", "I64(-9223372036854775807)"),
+        ("-9999999999999999999", "I128(-9999999999999999999)"),
+        ("-10000000000000000000", "I128(-10000000000000000000)"),
         ("-0", "I64(0)"),
         ("7", "U64(7)"),
     ] {
@@ -104,6 +119,10 @@ fn texts(rt: HostRuntime) -> Result<(), AllocError> {
         (
             "\"0123456789abcdef0123456789abcdef0123456789abcdef\\u0041\u{e9}\"",
             "0123456789abcdef0123456789abcdef0123456789abcdefA\u{e9}",
+        ),
+        (
+            "\"\\n0123456789abcdef0123456789abcdef\\u00e9\\/0123456789abcdefx\\t\"",
+            "\n0123456789abcdef0123456789abcdef\u{e9}/0123456789abcdefx\t",
         ),
     ] {
         assert!(rt; text_is(rt.alloc(), spelled, wanted)?, "{spelled}");
@@ -149,7 +168,9 @@ fn refusals(rt: HostRuntime) -> Result<(), AllocError> {
         ("340282366920938463463374607431768211456e1", "Float"),
         ("340282366920938463463374607431768211456", "NumberTooLarge"),
         ("-170141183460469231731687303715884105729", "NumberTooLarge"),
+        ("1000000000000000000000000000000000000000", "NumberTooLarge"),
         ("\u{feff}1", "Syntax"),
+        ("[\"a\\n\",\"\\x\"]", "Syntax"),
     ] {
         assert_eq!(rt;
             answer(rt.alloc(), text.as_bytes())?.as_str(),

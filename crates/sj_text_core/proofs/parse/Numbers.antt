@@ -23,7 +23,7 @@ value_of-take ds i =
     ap (λ xs. value_of xs) (sym (take-append-drop i ds)) ∙ fold-append step 0 (take i ds) (drop i ds) in
     rw e (fold_grows (drop i ds) (value_of (take i ds)))
 
-value_of_more : (ds : List ℕ) (i : ℕ) → i < length ds → value_of (take (i + 1) ds) ≡ value_of (take i ds) * 10 + (get_or ds i 0 - 48)
+pub value_of_more : (ds : List ℕ) (i : ℕ) → i < length ds → value_of (take (i + 1) ds) ≡ value_of (take i ds) * 10 + (get_or ds i 0 - 48)
 value_of_more ds i h = ap (λ xs. value_of xs) (take_more ds i 0 h) ∙ fold-append step 0 (take i ds) (get_or ds i 0 ∷ [])
 
 -- where the digits so far and one more pass a limit, all digits do

@@ -1,4 +1,4 @@
-use Rattle.sj_run.proofs.Runs.{length-replies_of}
+use Rattle.sj_run.proofs.Series.{length-replies_of}
 use Rattle.sj_run.proofs.laws.replies_are_many.Goals as goal
 
 pub returns : goal.returns

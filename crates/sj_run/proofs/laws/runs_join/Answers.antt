@@ -1,4 +1,4 @@
-use Rattle.sj_run.proofs.Runs.{replies_of-append, tree_after-append}
+use Rattle.sj_run.proofs.Series.{replies_of-append, tree_after-append}
 use Rattle.sj_run.proofs.laws.runs_join.Goals as goal
 
 pub returns : goal.returns

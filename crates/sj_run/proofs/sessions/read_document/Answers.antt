@@ -3,7 +3,7 @@ use Rattle.sj_run.proofs.Unread.{unreadable}
 use Rattle.sj_run.proofs.sessions.read_document.Goals as goal
 
 pub returns-in-Err-clause-refused : goal.returns-in-Err-clause-refused
-returns-in-Err-clause-refused c =
+returns-in-Err-clause-refused g c =
     λ k e.
     let parts = refused_kind c.in-Err.kind k c.refused.result c.refused.ensures.memory c.refused.ensures.named e in
     (parts.0, λ r. unreadable c.in-Err.kind c.args.text.now c.in-Err.ensures.utf8 c.in-Err.ensures.err parts.1 r)

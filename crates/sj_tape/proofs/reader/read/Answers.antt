@@ -1,40 +1,28 @@
 use Rattle.std.proofs.Common.{IsUtf8, rules}
-use Rattle.std.proofs.lemmas.Result.{IfOk-weaker}
-use Rattle.sj_tape.proofs.Reading.{is_read, errs_read}
+use Rattle.std.proofs.lemmas.Result.{err_from_is_err_and}
+use Rattle.sj_tape.specs.Marks.{marks}
+use Rattle.sj_tape.proofs.Reading.{is_read, is_taped, preorder_is, unreadable}
 use Rattle.sj_tape.proofs.reader.read.Goals as goal
 
-pub returns-then-is_some-clause-spelled : goal.returns-then-is_some-clause-spelled
-returns-then-is_some-clause-spelled c =
+pub from_nodes-requires : goal.from_nodes-requires
+from_nodes-requires c = preorder_is (marks c.whole.new.nodes.items) c.in_ok-whole.ensures.ok.tree c.in_ok-whole.ensures.ok.nodes
+
+pub returns-clause-spelled : goal.returns-clause-spelled
+returns-clause-spelled c =
     let utf8 : IsUtf8 c.args.bytes.now = search rules in
-    IfOk-weaker _ _ _ (λ t e. (is_read c.args.bytes.now t utf8 e).spelled) c.read_escaped.ensures.ok
+    (is_read c.args.bytes.now c.from_nodes.result utf8 (is_taped c.args.bytes.now _ _ c.in_ok-whole.ensures.ok c.from_nodes.ensures)).spelled
 
-pub returns-then-is_some-clause-within : goal.returns-then-is_some-clause-within
-returns-then-is_some-clause-within c =
+pub returns-clause-within : goal.returns-clause-within
+returns-clause-within c =
     let utf8 : IsUtf8 c.args.bytes.now = search rules in
-    IfOk-weaker _ _ _ (λ t e. (is_read c.args.bytes.now t utf8 e).within) c.read_escaped.ensures.ok
+    (is_read c.args.bytes.now c.from_nodes.result utf8 (is_taped c.args.bytes.now _ _ c.in_ok-whole.ensures.ok c.from_nodes.ensures)).within
 
-pub returns-then-is_some-clause-only : goal.returns-then-is_some-clause-only
-returns-then-is_some-clause-only c =
+pub returns-clause-only : goal.returns-clause-only
+returns-clause-only c =
     let utf8 : IsUtf8 c.args.bytes.now = search rules in
-    IfOk-weaker _ _ _ (λ t e. (is_read c.args.bytes.now t utf8 e).only) c.read_escaped.ensures.ok
+    (is_read c.args.bytes.now c.from_nodes.result utf8 (is_taped c.args.bytes.now _ _ c.in_ok-whole.ensures.ok c.from_nodes.ensures)).only
 
-pub returns-then-is_some-clause-err : goal.returns-then-is_some-clause-err
-returns-then-is_some-clause-err c = errs_read c.args.bytes.now c.read_escaped.result c.read_escaped.ensures.err
-
-pub returns-else-is_some-clause-spelled : goal.returns-else-is_some-clause-spelled
-returns-else-is_some-clause-spelled c =
-    let utf8 : IsUtf8 c.args.bytes.now = search rules in
-    IfOk-weaker _ _ _ (λ t e. (is_read c.args.bytes.now t utf8 e).spelled) c.read_plain.ensures.ok
-
-pub returns-else-is_some-clause-within : goal.returns-else-is_some-clause-within
-returns-else-is_some-clause-within c =
-    let utf8 : IsUtf8 c.args.bytes.now = search rules in
-    IfOk-weaker _ _ _ (λ t e. (is_read c.args.bytes.now t utf8 e).within) c.read_plain.ensures.ok
-
-pub returns-else-is_some-clause-only : goal.returns-else-is_some-clause-only
-returns-else-is_some-clause-only c =
-    let utf8 : IsUtf8 c.args.bytes.now = search rules in
-    IfOk-weaker _ _ _ (λ t e. (is_read c.args.bytes.now t utf8 e).only) c.read_plain.ensures.ok
-
-pub returns-else-is_some-clause-err : goal.returns-else-is_some-clause-err
-returns-else-is_some-clause-err c = errs_read c.args.bytes.now c.read_plain.result c.read_plain.ensures.err
+pub returns-in_err-whole-clause-err : goal.returns-in_err-whole-clause-err
+returns-in_err-whole-clause-err c =
+    let p = err_from_is_err_and c.from_residual-in_err-whole.result c.from_residual-in_err-whole.ensures.1 in
+    rw (p.1, p.2) (λ _ n. unreadable c.args.bytes.now (c.in_err-whole.ensures.err n))

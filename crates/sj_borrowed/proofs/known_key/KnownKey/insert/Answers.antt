@@ -6,13 +6,13 @@ use Rattle.sj_object.specs.Members.{entry_members}
 use Rattle.sj_object.proofs.Shown.{entry_members-put}
 use Rattle.sj_document.specs.Document.{tree, with_member}
 use Rattle.sj_document.proofs.Trees.{object_is}
-use Rattle.sj_borrowed.proofs.Objects.{object_of_lem, found_in, there}
+use Rattle.sj_borrowed.proofs.Objects.{found_in, there}
 use Rattle.sj_borrowed.proofs.known_key.KnownKey.insert.Goals as goal
 
 pub returns-in-Ok-clause-answer : goal.returns-in-Ok-clause-answer
 returns-in-Ok-clause-answer c =
     let u = tree cow_str_bytes c.args.target.now in
-    found_in cow_str_bytes c.in-Some.members.now (cow_str_bytes c.args.self.now) u (c.in-Some.ensures.value ∙ object_of_lem u) c.in-Ok.before c.in-Ok.ensures.answer
+    found_in cow_str_bytes c.in-Some.members.now (cow_str_bytes c.args.self.now) u c.in-Some.ensures.value c.in-Ok.before c.in-Ok.ensures.answer
 
 pub returns-in-Ok-clause-after : goal.returns-in-Ok-clause-after
 returns-in-Ok-clause-after c =
@@ -34,4 +34,4 @@ returns-in-Err-clause-refused c =
 pub returns-in-Err-clause-succeeds : goal.returns-in-Err-clause-succeeds
 returns-in-Err-clause-succeeds c =
     let u = tree cow_str_bytes c.args.target.now in
-    λ h. c.in-Err.ensures.succeeds (there cow_str_bytes c.in-Some.members.now (cow_str_bytes c.args.self.now) u (c.in-Some.ensures.value ∙ object_of_lem u) h)
+    λ h. c.in-Err.ensures.succeeds (there cow_str_bytes c.in-Some.members.now (cow_str_bytes c.args.self.now) u c.in-Some.ensures.value h)

@@ -1,20 +1,23 @@
-use Rattle.std.proofs.Common.{◌≡◌, ap, ◌∙◌, rules, refl}
+use Rattle.std.proofs.Common.{◌≡◌, string_bytes, rules, refl}
 use Rattle.std.proofs.lemmas.Result.{IfOk-weaker}
-use Rattle.sj_tape.specs.Value.{tree}
-use Rattle.sj_run.specs.Answered.{ReadsCommand}
-use Rattle.sj_run.specs.FirstPath.{first_in, kept_command}
+use Rattle.sj_document.specs.Document.{tree}
+use Rattle.sj_run.specs.Commands.{PlainCommand, bad}
+use Rattle.sj_run.specs.CommandLines.{IsCommandOf, command_in}
 use Rattle.sj_run.specs.Meant.{command_meant}
 use Rattle.sj_run.specs.declared.command.Command.{Command}
-use Rattle.sj_run.specs.declared.command.Command.TheVariants.{Bad}
-use Rattle.sj_run.proofs.CommandLemmas.{reads_tree, reads_bad}
+use Rattle.sj_run.proofs.CommandLemmas.{reads_one, reads_bad, reads_bad_only}
 use Rattle.sj_run.proofs.Unread.{unreadable}
 use Rattle.sj_run.proofs.command.line.command_of.Goals as goal
 
-pub returns-in-Ok : goal.returns-in-Ok
-returns-in-Ok c =
-    IfOk-weaker c.of_value.result (λ (x : Command). command_meant x ≡ kept_command (first_in (tree c.as_value.result))) (λ (x : Command). ReadsCommand c.args.line.now x)
-    (λ x h. reads_tree c.args.line.now c.in-Ok.tape x c.in-Ok.ensures.spelled c.in-Ok.ensures.within (h ∙ ap (λ t. kept_command (first_in t)) c.as_value.ensures.tree))
-    c.of_value.ensures
+pub returns-in-Ok-clause-only : goal.returns-in-Ok-clause-only
+returns-in-Ok-clause-only c =
+    let m = c.in-Ok.ensures.means in
+    let b = c.args.line.now in
+    IfOk-weaker c.command_in.result (λ (x : Command). command_meant x ≡ command_in (tree string_bytes c.in-Ok.value)) (λ (x : Command). (d : PlainCommand) → IsCommandOf b d → d ≡ command_meant x)
+    (λ x h d. reads_one b (tree string_bytes c.in-Ok.value) (command_meant x) d c.in-Ok.ensures.only (m.0, m.1, m.2) h) c.command_in.ensures
 
 pub returns-else-eq : goal.returns-else-eq
-returns-else-eq c = reads_bad c.args.line.now Bad (unreadable c.in-Err.kind c.args.line.now c.in-Err.ensures.utf8 c.in-Err.ensures.err (search rules)) refl
+returns-else-eq c =
+    let b = c.args.line.now in
+    let no = unreadable c.in-Err.kind b c.in-Err.ensures.utf8 c.in-Err.ensures.err (search rules) in
+    record { is = reads_bad b bad no refl; only = λ d h. reads_bad_only b bad d no refl h }

@@ -1,0 +1,2 @@
+-- What the words of documents give on small examples, by computation.
+pub mod Edited

@@ -1,0 +1,67 @@
+use Rattle.std.proofs.Common.{◌≡◌, rules, Box, Vec, Global, map, option_map, sym, ap, ◌∙◌, arith}
+use Rattle.sj_text_core.specs.Tree.{list, obj, items_from}
+use Rattle.sj_text_core.specs.Paths.{by_key, by_place}
+use Rattle.sj_object.specs.Members.{entry_members}
+use Rattle.sj_object.proofs.Shown.{lookup-entry_members, entry_members-set_value}
+use Rattle.sj_document.specs.Document.{tree}
+use Rattle.sj_document.specs.declared.value.Document.{Document, Object, Array, the_lemmas}
+use Rattle.sj_document.proofs.Trees.{Map, tree-Object, tree-Array}
+use Rattle.sj_run.specs.Asked.{write_meant}
+use Rattle.sj_run.specs.Meant.{step_meant}
+use Rattle.sj_run.proofs.Edits.{answered_below, answered_as, edit_missing, item_at, item_set, no_item}
+use Rattle.sj_run.proofs.change.edit.+edit.Goals as goal
+
+pub edit_member-returns-in-Some : goal.edit_member-returns-in-Some
+edit_member-returns-in-Some g r c =
+    let t = g.T.KeyText.text_of in
+    let es = c.args.members.now.entries in
+    let k = c.args.key.now in
+    answered_below t (by_key k) (map step_meant c.args.rest.now) (write_meant t c.args.write) (obj (entry_members (tree t) es)) _ (tree t c.in-Some.child.now) (tree t c.edit_at.new.value) c.edit_at.result
+    (sym (lookup-entry_members (tree t) k es) ∙ ap (option_map (tree t)) (sym c.in-Some.ensures.value))
+    (ap obj (entry_members-set_value (tree t) k c.edit_at.new.value c.in-Some.child.now es (sym c.in-Some.ensures.value))) c.edit_at.ensures
+
+pub edit_member-returns-in-None : goal.edit_member-returns-in-None
+edit_member-returns-in-None g r c =
+    let t = g.T.KeyText.text_of in
+    let es = c.args.members.now.entries in
+    let k = c.args.key.now in
+    sym (edit_missing (by_key k) (map step_meant c.args.rest.now) (write_meant t c.args.write) (obj (entry_members (tree t) es))
+    (sym (lookup-entry_members (tree t) k es) ∙ ap (option_map (tree t)) (sym c.in-None.ensures.value)))
+
+pub edit_item-returns-then-at-len : goal.edit_item-returns-then-at-len
+edit_item-returns-then-at-len g r c =
+    let t = g.T.KeyText.text_of in
+    let vs = c.args.items.now.items in
+    answered_below t (by_place c.args.at) (map step_meant c.args.rest.now) (write_meant t c.args.write) (list (items_from (map (tree t) vs))) _ (tree t c.index_mut.result.now) (tree t c.edit_at.new.value) c.edit_at.result
+    (item_at t vs c.args.at c.index_mut.result.now (omega (arith, c.if-at-len.true, c.len.ensures, c.args.items.now.ok.0)) c.index_mut.ensures.value)
+    (ap list (item_set t vs c.args.at c.edit_at.new.value)) c.edit_at.ensures
+
+pub edit_item-returns-else-at-len : goal.edit_item-returns-else-at-len
+edit_item-returns-else-at-len g r c =
+    let t = g.T.KeyText.text_of in
+    sym (edit_missing (by_place c.args.at) (map step_meant c.args.rest.now) (write_meant t c.args.write) (list (items_from (map (tree t) c.args.items.now.items)))
+    (no_item t c.args.items.now.items c.args.at (omega (arith, c.if-at-len.false, c.len.ensures, c.args.items.now.ok.0))))
+
+pub edit_step-returns-in-Object : goal.edit_step-returns-in-Object
+edit_step-returns-in-Object g r c =
+    let t = g.T.KeyText.text_of in
+    let m = c.deref_mut.result.now in
+    let n = c.edit_member.new.members in
+    let b : Box (Map g.row.T.Denot) Global = record c.in-Object.members { value = n } in
+    let same : tree t c.args.value.now ≡ obj (entry_members (tree t) m.entries) =
+    (ap (tree t) c.in-Object.is ∙ tree-Object t c.in-Object.members) ∙ sym (ap (λ n. obj (entry_members (tree t) n.entries)) (c.deref_mut.ensures.value ∙ ap (λ b. b.value) c.in-Object.members-is)) in
+    answered_as t (by_key c.as_str.result.now) (step_meant c.args.step.now) (map step_meant c.args.rest.now) (write_meant t c.args.write) (obj (entry_members (tree t) m.entries)) (tree t c.args.value.now)
+    (obj (entry_members (tree t) n.entries)) _ c.edit_member.result (ap step_meant c.in-Key.is ∙ ap by_key (sym c.as_str.ensures.value)) same
+    (ap (tree t) (let e : _ ≡ Object b = search (rules, the_lemmas) in e) ∙ tree-Object t b) c.edit_member.ensures
+
+pub edit_step-returns-in-Array : goal.edit_step-returns-in-Array
+edit_step-returns-in-Array g r c =
+    let t = g.T.KeyText.text_of in
+    let m = c.deref_mut-in-Array.result.now in
+    let n = c.edit_item.new.items in
+    let b : Box (Vec (Document g.row.T.Denot) Global) Global = record c.in-Array.items { value = n } in
+    let same : tree t c.args.value.now ≡ list (items_from (map (tree t) m.items)) =
+    (ap (tree t) c.in-Array.is ∙ tree-Array t c.in-Array.items) ∙ sym (ap (λ n. list (items_from (map (tree t) n.items))) (c.deref_mut-in-Array.ensures.value ∙ ap (λ b. b.value) c.in-Array.items-is)) in
+    answered_as t (by_place c.in-Idx.at) (step_meant c.args.step.now) (map step_meant c.args.rest.now) (write_meant t c.args.write) (list (items_from (map (tree t) m.items))) (tree t c.args.value.now)
+    (list (items_from (map (tree t) n.items))) _ c.edit_item.result (ap step_meant c.in-Idx.is) same
+    (ap (tree t) (let e : _ ≡ Array b = search (rules, the_lemmas) in e) ∙ tree-Array t b) c.edit_item.ensures

@@ -1,0 +1,135 @@
+//! Writes at a value.
+
+ghost use Rattle.std.specs.Prelude.{◌≡◌, [], map, IfOk, OnOk, OnErr};
+ghost use Rattle.sj_document.specs.Document.{tree};
+ghost use Rattle.sj_run.specs.Commands as command;
+ghost use Rattle.sj_run.specs.Asked.{write_meant};
+ghost use Rattle.sj_run.specs.Answers.{answer, IsLong};
+ghost use Rattle.sj_run.specs.Changed.{changed_meant, Edits};
+ghost use Rattle.sj_run.specs.Meant.{step_meant};
+
+mod edit;
+mod told;
+
+use crate::command::Step;
+use edit::edit_at;
+use sj_document::Document;
+use sj_object::KeyText;
+use sj_text_core::AccessError;
+use std::alloc::AllocError;
+use std::mem;
+pub(crate) use told::{owned_changed, reply_of};
+
+/// How a value is changed.
+#[derive(Drop)]
+pub(crate) enum Write<T: KeyText> {
+    /// The value goes to the key of an object.
+    Insert(T, Document<T>),
+    /// The key's member goes.
+    Remove(String),
+    /// The value goes behind the items of an array.
+    Push(Document<T>),
+    /// The last item goes.
+    Pop,
+    /// The value takes the place.
+    Put(Document<T>),
+}
+
+/// What a write answers.
+#[derive(Drop)]
+pub(crate) enum Changed<T: KeyText> {
+    /// The value that was there.
+    Old(Document<T>),
+    /// None was there.
+    Nothing,
+    /// It is done.
+    Done,
+    /// Nothing stands at the path.
+    Missing,
+    /// The value is no object, and stays as it was.
+    NotAnObject,
+    /// The value is no array, and stays as it was.
+    NotAnArray,
+}
+
+fn insert<T: KeyText + Drop>(
+    value: &mut Document<T>,
+    key: T,
+    new: Document<T>,
+) -> Result<Changed<T>, AllocError>
+    ensures { Edits T.text_of [] (command.insert (T.text_of key) (tree T.text_of new)) (tree T.text_of value.old) (tree T.text_of value.new) result }
+{
+    match value.insert(key, new) {
+        Ok(Some(before)) => Ok(Changed::Old(before)),
+        Ok(None) => Ok(Changed::Nothing),
+        Err(refused) => match refused.why {
+            AccessError::OutOfMemory => Err(AllocError),
+            _ => Ok(Changed::NotAnObject),
+        },
+    }
+}
+
+fn push<T: KeyText + Drop>(
+    value: &mut Document<T>,
+    new: Document<T>,
+) -> Result<Changed<T>, AllocError>
+    ensures { Edits T.text_of [] (command.push (tree T.text_of new)) (tree T.text_of value.old) (tree T.text_of value.new) result }
+{
+    match value.push(new) {
+        Ok(()) => Ok(Changed::Done),
+        Err(refused) => match refused.why {
+            AccessError::OutOfMemory => Err(AllocError),
+            _ => Ok(Changed::NotAnArray),
+        },
+    }
+}
+
+fn pop<T: KeyText + Drop>(value: &mut Document<T>) -> Result<Changed<T>, AllocError>
+    ensures { Edits T.text_of [] command.pop (tree T.text_of value.old) (tree T.text_of value.new) result }
+{
+    match value.pop() {
+        Ok(Some(last)) => Ok(Changed::Old(last)),
+        Ok(None) => Ok(Changed::Nothing),
+        Err(_) => Ok(Changed::NotAnArray),
+    }
+}
+
+fn remove<T: KeyText + Drop>(value: &mut Document<T>, key: &str) -> Result<Changed<T>, AllocError>
+    ensures { Edits T.text_of [] (command.remove key.now) (tree T.text_of value.old) (tree T.text_of value.new) result }
+{
+    match value.remove(key) {
+        Ok(Some(before)) => Ok(Changed::Old(before)),
+        Ok(None) => Ok(Changed::Nothing),
+        Err(_) => Ok(Changed::NotAnObject),
+    }
+}
+
+/// Changes the value itself.
+fn change<T: KeyText + Drop>(
+    value: &mut Document<T>,
+    write: Write<T>,
+) -> Result<Changed<T>, AllocError>
+    ensures { Edits T.text_of [] (write_meant T.text_of write) (tree T.text_of value.old) (tree T.text_of value.new) result }
+{
+    match write {
+        Write::Insert(key, new) => insert(value, key, new),
+        Write::Remove(key) => remove(value, key.as_str()),
+        Write::Push(new) => push(value, new),
+        Write::Pop => pop(value),
+        Write::Put(new) => Ok(Changed::Old(mem::replace(value, new))),
+    }
+}
+
+/// Changes the value at a path, as the command does on the tree.
+pub(crate) fn change_at<T: KeyText + Drop>(
+    value: &mut Document<T>,
+    path: &[Step],
+    write: Write<T>,
+) -> Result<Changed<T>, AllocError>
+    ensures reply { IfOk result (λ changed. changed_meant T.text_of changed ≡ (answer (tree T.text_of value.old) (command.write (map step_meant path.now) (write_meant T.text_of write))).1) }
+    ensures after { OnOk result (tree T.text_of value.new ≡ (answer (tree T.text_of value.old) (command.write (map step_meant path.now) (write_meant T.text_of write))).0) }
+    ensures refused { OnErr result (tree T.text_of value.new ≡ tree T.text_of value.old) }
+    ensures short { ¬ (IsLong (answer (tree T.text_of value.old) (command.write (map step_meant path.now) (write_meant T.text_of write))).1) }
+{
+    edit_at(value, path, write)
+}

@@ -1,0 +1,84 @@
+//! Writes at a path.
+
+ghost use Rattle.std.specs.Prelude.{map, ◌∷◌};
+ghost use Rattle.sj_text_core.specs.Paths.{by_key, by_place};
+ghost use Rattle.sj_text_core.specs.Tree.{list, obj, items_from};
+ghost use Rattle.sj_object.specs.Members.{entry_members};
+ghost use Rattle.sj_document.specs.Document.{tree};
+ghost use Rattle.sj_run.specs.Asked.{write_meant};
+ghost use Rattle.sj_run.specs.Changed.{Edits};
+ghost use Rattle.sj_run.specs.Meant.{step_meant};
+
+use super::{Changed, Write, change};
+use crate::command::Step;
+use sj_document::{Document, Object};
+use sj_object::KeyText;
+use std::alloc::AllocError;
+
+/// Changes the value at the path in its place; where nothing stands there, it changes nothing.
+/// Refused for want of memory, it leaves the document as it was.
+#[cycle(edit)]
+pub(crate) fn edit_at<T: KeyText + Drop>(
+    value: &mut Document<T>,
+    path: &[Step],
+    write: Write<T>,
+) -> Result<Changed<T>, AllocError>
+    ensures { Edits T.text_of (map step_meant path.now) (write_meant T.text_of write) (tree T.text_of value.old) (tree T.text_of value.new) result }
+{
+    match path {
+        [] => change(value, write),
+        [first, rest @ ..] => edit_step(value, first, rest, write),
+    }
+}
+
+#[cycle(edit)]
+fn edit_step<T: KeyText + Drop>(
+    value: &mut Document<T>,
+    step: &Step,
+    rest: &[Step],
+    write: Write<T>,
+) -> Result<Changed<T>, AllocError>
+    ensures { Edits T.text_of (step_meant step.now ∷ map step_meant rest.now) (write_meant T.text_of write) (tree T.text_of value.old) (tree T.text_of value.new) result }
+{
+    match step {
+        Step::Key(key) => match value {
+            Document::Object(members) => edit_member(members, key.as_str(), rest, write),
+            _ => Ok(Changed::Missing),
+        },
+        Step::Idx(at) => match value {
+            Document::Array(items) => edit_item(items, *at, rest, write),
+            _ => Ok(Changed::Missing),
+        },
+    }
+}
+
+#[cycle(edit)]
+fn edit_member<T: KeyText + Drop>(
+    members: &mut Object<T>,
+    key: &str,
+    rest: &[Step],
+    write: Write<T>,
+) -> Result<Changed<T>, AllocError>
+    ensures { Edits T.text_of (by_key key.now ∷ map step_meant rest.now) (write_meant T.text_of write) (obj (entry_members (tree T.text_of) members.old.entries)) (obj (entry_members (tree T.text_of) members.new.entries)) result }
+{
+    match members.get_mut(key) {
+        Some(child) => edit_at(child, rest, write),
+        None => Ok(Changed::Missing),
+    }
+}
+
+#[cycle(edit)]
+fn edit_item<T: KeyText + Drop>(
+    items: &mut Vec<Document<T>>,
+    at: usize,
+    rest: &[Step],
+    write: Write<T>,
+) -> Result<Changed<T>, AllocError>
+    ensures { Edits T.text_of (by_place at ∷ map step_meant rest.now) (write_meant T.text_of write) (list (items_from (map (tree T.text_of) items.old.items))) (list (items_from (map (tree T.text_of) items.new.items))) result }
+{
+    if at < items.len() {
+        edit_at(&mut items[at], rest, write)
+    } else {
+        Ok(Changed::Missing)
+    }
+}

@@ -1,7 +1,0 @@
-use Rattle.std.proofs.lemmas.List.{map-set}
-use Rattle.sj_tape.specs.Marks.{mark}
-use Rattle.sj_tape.specs.declared.node.Node.TheVariants.{Object}
-use Rattle.sj_tape.proofs.reader.nodes.NodesSink.close_object.Goals as goal
-
-pub returns-clause-marks : goal.returns-clause-marks
-returns-clause-marks c = map-set mark c.args.self.now.nodes.items c.args.place (Object c.args.len c.args.count)
