@@ -100,8 +100,8 @@ fn put_all<T: KeyText + Drop>(
         pairs.len(),
         ObjectHasher::default(),
     )?;
-    for (key, value) in pairs {
-        if members.insert(key, value).is_err() {
+    for (name, value) in pairs {
+        if members.insert(name, value).is_err() {
             return Err(AllocError);
         }
     }

@@ -122,6 +122,9 @@ fn made_of_lists_and_maps(rt: HostRuntime) -> Result<(), Fail> {
         map.insert(owned(alloc, key)?, Value::from(number))?;
     }
     let value = Value::try_make(alloc, map)?;
-    assert_eq!(rt; value.encode(alloc)?.as_str(), "{\"\":3,\"a\":2,\"aa\":5,\"b\":1,\"\u{e9}\":4}");
+    assert_eq!(rt;
+        value.encode(alloc)?.as_str(),
+        "{\"\":3,\"a\":2,\"aa\":5,\"b\":1,\"\u{e9}\":4}"
+    );
     Ok(())
 }

@@ -6,12 +6,12 @@ use Rattle.sj_document.specs.Document.{tree, put_pairs}
 use Rattle.sj_document.proofs.Walks.{done_ok}
 use Rattle.sj_document.proofs.value.make.put_all.Goals as goal
 
-pub loop-key-preserved : goal.loop-key-preserved
-loop-key-preserved g c =
+pub loop-name-preserved : goal.loop-name-preserved
+loop-name-preserved g c =
     let t = g.T.KeyText.text_of in
     let rest = into_iter_items c.next.new.self in
-    let old = c.loop-key.members.entries in
+    let old = c.loop-name.members.entries in
     let done = done_ok c.insert.result (sym c.is_err.ensures.value ∙ c.if-is_err.false) c.insert.ensures.entries in
     ap (λ es. put_pairs t (entry_members (tree t) es) rest) done
-    ∙ ap (λ ms. put_pairs t ms rest) (entry_members-put (tree t) (c.in-Some.key, t c.in-Some.key) c.in-Some.value old)
-    ∙ sym (ap (put_pairs t (entry_members (tree t) old)) c.in-Some.ensures.steps.0) ∙ c.loop-key.invariant
+    ∙ ap (λ ms. put_pairs t ms rest) (entry_members-put (tree t) (c.in-Some.name, t c.in-Some.name) c.in-Some.value old)
+    ∙ sym (ap (put_pairs t (entry_members (tree t) old)) c.in-Some.ensures.steps.0) ∙ c.loop-name.invariant
