@@ -9,8 +9,6 @@ pub mod Value
 pub mod Items
 pub mod Members
 pub mod Lookup
-<<<<<<< HEAD
-pub mod Laws
 pub use Rattle.sj_text_core.specs.Tree
 pub use Rattle.sj_text_core.specs.Grammar
 pub use Rattle.sj_text_core.specs.Find
@@ -20,11 +18,9 @@ pub use Rattle.sj_text_core.specs.Edits
 pub use Rattle.sj_text_core.specs.Same
 pub use Rattle.sj_text_core.specs.Agree
 pub use Rattle.sj_text_core.specs.Print
-pub use Rattle.sj_text_core.specs.Generators
+pub use Rattle.sj_print.specs.Generators
 pub use Rattle.sj_text_core.specs.Nodes
 pub use Rattle.sj_text_core.specs.Scalars
 pub use Rattle.sj_text_core.specs.Reads
 pub use Rattle.sj_text_core.specs.Nulls
 pub use Rattle.sj_text_core.specs.Code
-=======
->>>>>>> h-core
