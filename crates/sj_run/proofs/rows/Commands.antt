@@ -2,7 +2,7 @@
 use Rattle.std.proofs.Common.{◌≡◌, ℕ, pos, negsuc, List, [], ◌∷◌, refl, codes}
 use Rattle.sj_text_core.specs.Tree.{u64, i64, u128, Tree, null, int, text, list, obj, no_items, no_members, member, items_from}
 use Rattle.sj_text_core.specs.Paths.{by_key, by_place}
-use Rattle.sj_run.specs.Commands.{unsigned, read, write, bad, fits, len, insert, remove, has, push, put, pop}
+use Rattle.sj_run.specs.Commands.{unsigned, read, write, bad, kind, fits, str, len, keys, has, encode, encode_pp, insert, remove, push, put, pop}
 use Rattle.sj_run.specs.CommandLines.{command_in}
 
 abbrev line : List Tree → Tree
