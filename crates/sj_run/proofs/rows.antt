@@ -2,3 +2,4 @@
 pub mod Sessions
 pub mod Cuts
 pub mod Commands
+mod Kinds

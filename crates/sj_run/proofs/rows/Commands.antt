@@ -2,7 +2,7 @@
 use Rattle.std.proofs.Common.{◌≡◌, ℕ, pos, negsuc, List, [], ◌∷◌, refl, codes}
 use Rattle.sj_text_core.specs.Tree.{u64, i64, u128, Tree, null, int, text, list, obj, no_items, no_members, member, items_from}
 use Rattle.sj_text_core.specs.Paths.{by_key, by_place}
-use Rattle.sj_run.specs.Commands.{unsigned, read, write, bad, fits, len, insert, remove, has, push, put, pop}
+use Rattle.sj_run.specs.Commands.{unsigned, read, write, bad, kind, fits, str, len, keys, has, encode, encode_pp, insert, remove, push, put, pop}
 use Rattle.sj_run.specs.CommandLines.{command_in}
 
 abbrev line : List Tree → Tree
@@ -72,3 +72,46 @@ command_in-has = refl
 -- ["encode",[],1,2,3]
 command_in-too_long : command_in (line (word (codes "encode") ∷ root ∷ int (pos 1) u64 ∷ int (pos 2) u64 ∷ int (pos 3) u64 ∷ [])) ≡ bad
 command_in-too_long = refl
+
+-- the rows of a name and a path
+command_in-kind : command_in (line (word (codes "kind") ∷ root ∷ [])) ≡ read [] kind
+command_in-kind = refl
+
+command_in-str : command_in (line (word (codes "str") ∷ root ∷ [])) ≡ read [] str
+command_in-str = refl
+
+command_in-len : command_in (line (word (codes "len") ∷ root ∷ [])) ≡ read [] len
+command_in-len = refl
+
+command_in-keys : command_in (line (word (codes "keys") ∷ root ∷ [])) ≡ read [] keys
+command_in-keys = refl
+
+command_in-encode : command_in (line (word (codes "encode") ∷ root ∷ [])) ≡ read [] encode
+command_in-encode = refl
+
+command_in-encode_pp : command_in (line (word (codes "encode_pp") ∷ root ∷ [])) ≡ read [] encode_pp
+command_in-encode_pp = refl
+
+-- the empty key and the empty text
+command_in-empty : command_in (line (word (codes "insert") ∷ line (word [] ∷ []) ∷ word [] ∷ word [] ∷ [])) ≡ write (by_key [] ∷ []) (insert [] (text []))
+command_in-empty = refl
+
+command_in-no_name : command_in (line (word [] ∷ root ∷ [])) ≡ bad
+command_in-no_name = refl
+
+-- no row has an item too few
+command_in-has_few : command_in (line (word (codes "has") ∷ root ∷ [])) ≡ bad
+command_in-has_few = refl
+
+command_in-insert_few : command_in (line (word (codes "insert") ∷ root ∷ word (codes "k") ∷ [])) ≡ bad
+command_in-insert_few = refl
+
+command_in-put_few : command_in (line (word (codes "put") ∷ root ∷ [])) ≡ bad
+command_in-put_few = refl
+
+-- a path that is none
+command_in-no_path : command_in (line (word (codes "kind") ∷ word (codes "a") ∷ [])) ≡ bad
+command_in-no_path = refl
+
+command_in-no_step : command_in (line (word (codes "kind") ∷ line (null ∷ []) ∷ [])) ≡ bad
+command_in-no_step = refl

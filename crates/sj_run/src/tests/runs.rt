@@ -1,9 +1,9 @@
-//! Runs of commands at documents.
+//! Commands at documents, one by one and in a run.
 
 use crate::{BorrowedDoc, Command, Document, OwnedDoc, Reply, Step, Way, Width, run};
 use sj_document::{BorrowedValue, OwnedValue};
 use sj_object::deserialize;
-use sj_text_core::{StaticNode, ValueType, Writable};
+use sj_text_core::ValueType;
 use std::alloc::Global;
 use std::borrow::CowStr;
 use std::process::Abort;
@@ -22,7 +22,10 @@ fn text(alloc: Global, text: &str) -> Result<String, Fail> {
 
 /// The path to the object of `TEXT`.
 fn inside(alloc: Global) -> Result<Vec<Step>, Fail> {
-    Ok(vec![in alloc; Step::Idx(1), Step::Idx(1)]?)
+    let mut path = Vec::new(alloc);
+    path.push(Step::Idx(1))?;
+    path.push(Step::Idx(1))?;
+    Ok(path)
 }
 
 /// The path to its key.
@@ -32,93 +35,91 @@ fn key(alloc: Global, key: &str) -> Result<Vec<Step>, Fail> {
     Ok(path)
 }
 
-/// A command of each kind, in the order of the replies below.
-fn commands(alloc: Global) -> Result<Vec<Command>, Fail> {
-    let root = Vec::new(alloc);
-    let null = OwnedValue::Static(StaticNode::Null);
-    Ok(vec![in alloc;
-        Command::Kind(key(alloc, "a")?),
-        Command::Fits(key(alloc, "a")?, Width::I8),
-        Command::Fits(key(alloc, "a")?, Width::U8),
-        Command::Str(key(alloc, "k")?),
-        Command::Str(inside(alloc)?),
-        Command::Len(inside(alloc)?),
-        Command::Len(key(alloc, "a")?),
-        Command::Keys(inside(alloc)?),
-        Command::Has(inside(alloc)?, text(alloc, "k")?),
-        Command::Has(root, text(alloc, "k")?),
-        Command::Encode(inside(alloc)?),
-        Command::EncodePp(vec![in alloc; Step::Idx(1)]?),
-        Command::Bad,
-        Command::Insert(inside(alloc)?, text(alloc, "n")?, owned(alloc, "[true]")?),
-        Command::Insert(inside(alloc)?, text(alloc, "k")?, null),
-        Command::Insert(key(alloc, "a")?, text(alloc, "k")?, owned(alloc, "1")?),
-        Command::Remove(inside(alloc)?, text(alloc, "a")?),
-        Command::Remove(inside(alloc)?, text(alloc, "a")?),
-        Command::Push(key(alloc, "n")?, owned(alloc, "{\"x\":\"y\"}")?),
-        Command::Pop(key(alloc, "n")?),
-        Command::Push(inside(alloc)?, owned(alloc, "0")?),
-        Command::Pop(key(alloc, "zz")?),
-        Command::Put(key(alloc, "n")?, owned(alloc, "7")?),
-        Command::Encode(Vec::new(alloc)),
-    ]?)
-}
-
-fn replies(alloc: Global) -> Result<Vec<Reply>, Fail> {
-    Ok(vec![in alloc;
-        Reply::Kind(ValueType::I64),
-        Reply::Truth(true),
-        Reply::Truth(false),
-        Reply::Text(text(alloc, "t")?),
-        Reply::NotAString,
-        Reply::Count(2),
-        Reply::NoLength,
-        Reply::Keys(vec![in alloc; text(alloc, "k")?, text(alloc, "a")?]?),
-        Reply::Truth(true),
-        Reply::Truth(false),
-        Reply::Printed(text(alloc, "{\"k\":\"t\",\"a\":-5}")?),
-        Reply::Printed(text(
-            alloc,
-            "[\n  2,\n  {\n    \"k\": \"t\",\n    \"a\": -5\n  }\n]"
-        )?),
-        Reply::BadCommand,
-        Reply::Nothing,
-        Reply::Old(owned(alloc, "\"t\"")?),
-        Reply::NotAnObject,
-        Reply::Old(owned(alloc, "-5")?),
-        Reply::Nothing,
-        Reply::Done,
-        Reply::Old(owned(alloc, "{\"x\":\"y\"}")?),
-        Reply::NotAnArray,
-        Reply::Missing,
-        Reply::Old(owned(alloc, "[true]")?),
-        Reply::Printed(text(alloc, "[1,[2,{\"k\":null,\"n\":7}]]")?),
-    ]?)
-}
-
-/// A run with memory answers every command.
-fn check<D: Document>(rt: &impl Abort, alloc: Global, document: &mut D) -> Result<(), Fail> {
-    let Ok(answers) = run(alloc, document, commands(alloc)?) else {
+/// With memory the command is answered so.
+fn check<D: Document>(
+    rt: &impl Abort,
+    alloc: Global,
+    document: &mut D,
+    command: Command,
+    want: &Reply,
+) -> Result<(), Fail> {
+    let Ok(reply) = document.apply(alloc, command) else {
         return Err("refused".into());
     };
-    assert!(rt; answers == replies(alloc)?);
+    assert!(rt; reply == *want);
     Ok(())
 }
 
+fn check_reads<D: Document>(rt: &impl Abort, alloc: Global, document: &mut D) -> Result<(), Fail> {
+    let kind = Command::Kind(key(alloc, "a")?);
+    check(rt, alloc, document, kind, &Reply::Kind(ValueType::I64))?;
+    let fits = Command::Fits(key(alloc, "a")?, Width::U8);
+    check(rt, alloc, document, fits, &Reply::Truth(false))?;
+    let str = Command::Str(key(alloc, "k")?);
+    check(rt, alloc, document, str, &Reply::Text(text(alloc, "t")?))?;
+    let len = Command::Len(inside(alloc)?);
+    check(rt, alloc, document, len, &Reply::Count(2))?;
+    let print = Reply::Printed(text(alloc, "{\"k\":\"t\",\"a\":-5}")?);
+    check(rt, alloc, document, Command::Encode(inside(alloc)?), &print)
+}
+
+fn check_writes<D: Document>(rt: &impl Abort, alloc: Global, document: &mut D) -> Result<(), Fail> {
+    let insert = Command::Insert(inside(alloc)?, text(alloc, "n")?, owned(alloc, "[true]")?);
+    check(rt, alloc, document, insert, &Reply::Nothing)?;
+    let put = Command::Put(key(alloc, "k")?, owned(alloc, "{\"x\":\"y\"}")?);
+    check(
+        rt,
+        alloc,
+        document,
+        put,
+        &Reply::Old(owned(alloc, "\"t\"")?),
+    )?;
+    let remove = Command::Remove(inside(alloc)?, text(alloc, "k")?);
+    check(
+        rt,
+        alloc,
+        document,
+        remove,
+        &Reply::Old(owned(alloc, "{\"x\":\"y\"}")?),
+    )?;
+    let pop = Command::Pop(key(alloc, "zz")?);
+    check(rt, alloc, document, pop, &Reply::Missing)
+}
+
 #[test]
-fn runs_at_both_forms(rt: HostRuntime) -> Result<(), Fail> {
+fn both_forms_answer(rt: HostRuntime) -> Result<(), Fail> {
     let alloc = rt.alloc();
-    for way in [Way::ByText, Way::ByKnownKey] {
-        let value = owned(alloc, TEXT)?;
-        check(&rt, alloc, &mut OwnedDoc { way, value })?;
-        let mut bytes = TEXT.as_bytes().to_vec(alloc)?;
-        let value = deserialize::<BorrowedValue<'_>, CowStr<'_>>(alloc, bytes.as_mut_slice())?;
-        let mut document = BorrowedDoc { way, value };
-        check(&rt, alloc, &mut document)?;
-        assert_eq!(rt;
-            document.value.encode(alloc)?.as_str(),
-            "[1,[2,{\"k\":null,\"n\":7}]]"
-        );
-    }
+    let way = Way::ByText;
+    let value = owned(alloc, TEXT)?;
+    let mut document = OwnedDoc { way, value };
+    check_reads(&rt, alloc, &mut document)?;
+    check_writes(&rt, alloc, &mut document)?;
+    let mut bytes = TEXT.as_bytes().to_vec(alloc)?;
+    let value = deserialize::<BorrowedValue<'_>, CowStr<'_>>(alloc, bytes.as_mut_slice())?;
+    let mut document = BorrowedDoc { way, value };
+    check_reads(&rt, alloc, &mut document)?;
+    check_writes(&rt, alloc, &mut document)
+}
+
+/// A run answers its commands in order.
+#[test]
+fn runs_answer_in_order(rt: HostRuntime) -> Result<(), Fail> {
+    let alloc = rt.alloc();
+    let value = owned(alloc, "[]")?;
+    let mut commands = Vec::new(alloc);
+    commands.push(Command::Push(Vec::new(alloc), owned(alloc, "1")?))?;
+    commands.push(Command::Bad)?;
+    commands.push(Command::Len(Vec::new(alloc)))?;
+    let mut document = OwnedDoc {
+        way: Way::ByText,
+        value,
+    };
+    let Ok(replies) = run(alloc, &mut document, commands) else {
+        return Err("refused".into());
+    };
+    assert_eq!(rt; replies.len(), 3);
+    assert!(rt; replies[0] == Reply::Done);
+    assert!(rt; replies[1] == Reply::BadCommand);
+    assert!(rt; replies[2] == Reply::Count(1));
     Ok(())
 }

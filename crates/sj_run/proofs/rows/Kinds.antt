@@ -1,0 +1,191 @@
+-- Integer types by name and range, and kinds by name.
+use Rattle.std.proofs.Common.{◌≡◌, pos, negsuc, true, false, Some, None, [], ◌∷◌, refl, codes}
+use Rattle.sj_text_core.specs.Tree.{i64, u64, i128, u128, Tree, null, boolean, int, text, list, obj, no_items, no_members, member}
+use Rattle.sj_run.specs.Commands.{signed, unsigned, read, kind, str, keys}
+use Rattle.sj_run.specs.CommandLines.{width_named}
+use Rattle.sj_run.specs.Answers.{is_in, replies_of}
+use Rattle.sj_run.specs.Shown.{shown_all}
+
+width_named-i8 : width_named (codes "i8") ≡ Some (signed 8)
+width_named-i8 = refl
+
+width_named-i16 : width_named (codes "i16") ≡ Some (signed 16)
+width_named-i16 = refl
+
+width_named-i32 : width_named (codes "i32") ≡ Some (signed 32)
+width_named-i32 = refl
+
+width_named-i64 : width_named (codes "i64") ≡ Some (signed 64)
+width_named-i64 = refl
+
+width_named-i128 : width_named (codes "i128") ≡ Some (signed 128)
+width_named-i128 = refl
+
+width_named-u8 : width_named (codes "u8") ≡ Some (unsigned 8)
+width_named-u8 = refl
+
+width_named-u16 : width_named (codes "u16") ≡ Some (unsigned 16)
+width_named-u16 = refl
+
+width_named-u32 : width_named (codes "u32") ≡ Some (unsigned 32)
+width_named-u32 = refl
+
+width_named-u64 : width_named (codes "u64") ≡ Some (unsigned 64)
+width_named-u64 = refl
+
+width_named-u128 : width_named (codes "u128") ≡ Some (unsigned 128)
+width_named-u128 = refl
+
+width_named-usize : width_named (codes "usize") ≡ Some (unsigned 64)
+width_named-usize = refl
+
+width_named-i7 : width_named (codes "i7") ≡ None
+width_named-i7 = refl
+
+width_named-upper : width_named (codes "I8") ≡ None
+width_named-upper = refl
+
+-- the last number in range and the first past it, at both ends
+is_in-i8_last : is_in (signed 8) (int (pos 127) u64) ≡ true
+is_in-i8_last = refl
+
+is_in-i8_past : is_in (signed 8) (int (pos 128) u64) ≡ false
+is_in-i8_past = refl
+
+is_in-i8_first : is_in (signed 8) (int (negsuc 127) i64) ≡ true
+is_in-i8_first = refl
+
+is_in-i8_before : is_in (signed 8) (int (negsuc 128) i64) ≡ false
+is_in-i8_before = refl
+
+is_in-i16_last : is_in (signed 16) (int (pos 32767) u64) ≡ true
+is_in-i16_last = refl
+
+is_in-i16_past : is_in (signed 16) (int (pos 32768) u64) ≡ false
+is_in-i16_past = refl
+
+is_in-i16_first : is_in (signed 16) (int (negsuc 32767) i64) ≡ true
+is_in-i16_first = refl
+
+is_in-i16_before : is_in (signed 16) (int (negsuc 32768) i64) ≡ false
+is_in-i16_before = refl
+
+is_in-i32_last : is_in (signed 32) (int (pos 2147483647) u64) ≡ true
+is_in-i32_last = refl
+
+is_in-i32_past : is_in (signed 32) (int (pos 2147483648) u64) ≡ false
+is_in-i32_past = refl
+
+is_in-i32_first : is_in (signed 32) (int (negsuc 2147483647) i64) ≡ true
+is_in-i32_first = refl
+
+is_in-i32_before : is_in (signed 32) (int (negsuc 2147483648) i64) ≡ false
+is_in-i32_before = refl
+
+is_in-i64_last : is_in (signed 64) (int (pos 9223372036854775807) u64) ≡ true
+is_in-i64_last = refl
+
+is_in-i64_past : is_in (signed 64) (int (pos 9223372036854775808) u64) ≡ false
+is_in-i64_past = refl
+
+is_in-i64_first : is_in (signed 64) (int (negsuc 9223372036854775807) i64) ≡ true
+is_in-i64_first = refl
+
+is_in-i64_before : is_in (signed 64) (int (negsuc 9223372036854775808) i128) ≡ false
+is_in-i64_before = refl
+
+is_in-i128_last : is_in (signed 128) (int (pos 170141183460469231731687303715884105727) u128) ≡ true
+is_in-i128_last = refl
+
+is_in-i128_past : is_in (signed 128) (int (pos 170141183460469231731687303715884105728) u128) ≡ false
+is_in-i128_past = refl
+
+is_in-i128_first : is_in (signed 128) (int (negsuc 170141183460469231731687303715884105727) i128) ≡ true
+is_in-i128_first = refl
+
+is_in-u8_last : is_in (unsigned 8) (int (pos 255) u64) ≡ true
+is_in-u8_last = refl
+
+is_in-u8_past : is_in (unsigned 8) (int (pos 256) u64) ≡ false
+is_in-u8_past = refl
+
+is_in-u8_below : is_in (unsigned 8) (int (negsuc 0) i64) ≡ false
+is_in-u8_below = refl
+
+is_in-u16_last : is_in (unsigned 16) (int (pos 65535) u64) ≡ true
+is_in-u16_last = refl
+
+is_in-u16_past : is_in (unsigned 16) (int (pos 65536) u64) ≡ false
+is_in-u16_past = refl
+
+is_in-u16_below : is_in (unsigned 16) (int (negsuc 0) i64) ≡ false
+is_in-u16_below = refl
+
+is_in-u32_last : is_in (unsigned 32) (int (pos 4294967295) u64) ≡ true
+is_in-u32_last = refl
+
+is_in-u32_past : is_in (unsigned 32) (int (pos 4294967296) u64) ≡ false
+is_in-u32_past = refl
+
+is_in-u32_below : is_in (unsigned 32) (int (negsuc 0) i64) ≡ false
+is_in-u32_below = refl
+
+is_in-u64_last : is_in (unsigned 64) (int (pos 18446744073709551615) u64) ≡ true
+is_in-u64_last = refl
+
+is_in-u64_past : is_in (unsigned 64) (int (pos 18446744073709551616) u128) ≡ false
+is_in-u64_past = refl
+
+is_in-u64_below : is_in (unsigned 64) (int (negsuc 0) i64) ≡ false
+is_in-u64_below = refl
+
+is_in-u128_last : is_in (unsigned 128) (int (pos 340282366920938463463374607431768211455) u128) ≡ true
+is_in-u128_last = refl
+
+is_in-u128_below : is_in (unsigned 128) (int (negsuc 0) i64) ≡ false
+is_in-u128_below = refl
+
+-- whatever carries the number, and no other kind
+is_in-wide : is_in (unsigned 8) (int (pos 255) u128) ≡ true
+is_in-wide = refl
+
+is_in-text : is_in (unsigned 8) (text (codes "1")) ≡ false
+is_in-text = refl
+
+-- each kind's name
+shown-null : shown_all (replies_of null (read [] kind ∷ [])) ≡ codes "Null\n"
+shown-null = refl
+
+shown-truth : shown_all (replies_of (boolean true) (read [] kind ∷ [])) ≡ codes "Bool\n"
+shown-truth = refl
+
+shown-i64 : shown_all (replies_of (int (pos 0) i64) (read [] kind ∷ [])) ≡ codes "I64\n"
+shown-i64 = refl
+
+shown-u64 : shown_all (replies_of (int (pos 0) u64) (read [] kind ∷ [])) ≡ codes "U64\n"
+shown-u64 = refl
+
+shown-i128 : shown_all (replies_of (int (pos 0) i128) (read [] kind ∷ [])) ≡ codes "I128\n"
+shown-i128 = refl
+
+shown-u128 : shown_all (replies_of (int (pos 0) u128) (read [] kind ∷ [])) ≡ codes "U128\n"
+shown-u128 = refl
+
+shown-text : shown_all (replies_of (text []) (read [] kind ∷ [])) ≡ codes "String\n"
+shown-text = refl
+
+shown-list : shown_all (replies_of (list no_items) (read [] kind ∷ [])) ≡ codes "Array\n"
+shown-list = refl
+
+shown-object : shown_all (replies_of (obj no_members) (read [] kind ∷ [])) ≡ codes "Object\n"
+shown-object = refl
+
+-- the empty text and the empty key
+shown-no_text : shown_all (replies_of (text []) (read [] str ∷ [])) ≡ codes "\"\"\n"
+shown-no_text = refl
+
+shown-no_key : shown_all (replies_of (obj (member [] null no_members)) (read [] keys ∷ [])) ≡ codes "[\"\"]\n"
+shown-no_key = refl
+
+shown-no_keys : shown_all (replies_of (obj no_members) (read [] keys ∷ [])) ≡ codes "[]\n"
+shown-no_keys = refl
