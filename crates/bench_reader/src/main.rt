@@ -1,7 +1,8 @@
 //! Rates of reading: `to_tape`, `to_tape_with_buffers` and the tape of `json`, in turns, on texts
-//! that a seeded generator writes. Run `rt run -- ROUNDS MEGABYTES KIND` in this folder (without
-//! KIND: each kind), or `rt run -- ROUNDS stdin` for the text on standard input; each line has the
-//! best rate of so many rounds, by the thread's own clock. Without words it does nothing.
+//! that a seeded generator writes. Run `rt run -- ROUNDS MEGABYTES KIND WAY` in this folder (without
+//! WAY, a number below 3: each way; without KIND: each kind), or `rt run -- ROUNDS stdin` for the
+//! text on standard input; each line has the best rate of so many rounds, by the thread's own clock.
+//! Without words it does nothing.
 #![tactic(auto)]
 
 mod texts;
@@ -46,14 +47,22 @@ fn once(
     }
 }
 
-/// The least time of so many rounds, for each way.
-fn best(rt: &HostRuntime, bytes: &Vec<u8>, rounds: u32) -> io::Result<[u64; WAYS]> {
+/// The least time of so many rounds, for each way, or for that one alone.
+fn best(
+    rt: &HostRuntime,
+    bytes: &Vec<u8>,
+    rounds: u32,
+    only: Option<usize>,
+) -> io::Result<[u64; WAYS]> {
     let alloc = rt.alloc();
     let mut best = [u64::MAX; WAYS];
     let mut buffers = Buffers::new(alloc, bytes.len())?;
     let mut scratch = Scratch::new(alloc);
     for _ in 0..rounds {
         for way in 0..WAYS {
+            if only.is_some_and(|wanted| way != wanted) {
+                continue;
+            }
             let mut work = bytes.clone()?;
             let before = rt.thread_cpu_time()?;
             let is_read = once(alloc, way, work.as_mut_slice(), &mut buffers, &mut scratch);
@@ -67,10 +76,19 @@ fn best(rt: &HostRuntime, bytes: &Vec<u8>, rounds: u32) -> io::Result<[u64; WAYS
     Ok(best)
 }
 
-fn report(rt: &HostRuntime, kind: &str, bytes: &Vec<u8>, rounds: u32) -> io::Result<()> {
-    let best = best(rt, bytes, rounds)?;
+fn report(
+    rt: &HostRuntime,
+    kind: &str,
+    bytes: &Vec<u8>,
+    rounds: u32,
+    only: Option<usize>,
+) -> io::Result<()> {
+    let best = best(rt, bytes, rounds, only)?;
     let len = bytes.len();
     for way in 0..WAYS {
+        if best[way] == u64::MAX {
+            continue;
+        }
         let name = name_of(way);
         let rate = (len as u64)
             .wrapping_mul(1000)
@@ -91,13 +109,16 @@ fn main(rt: HostRuntime) -> io::Result<()> {
     if words.get(2).is_some_and(|word| word.as_str() == "stdin") {
         let mut bytes = Vec::new(alloc);
         rt.reader().read_to_end(&mut bytes)?;
-        return report(&rt, "stdin", &bytes, rounds);
+        return report(&rt, "stdin", &bytes, rounds, None);
     }
     let megabytes = match words.get(2) {
         Some(word) => word.as_str().parse::<usize>().unwrap_or(1),
         None => 1,
     };
     let size = megabytes.min(1000) * 1_000_000;
+    let only = words
+        .get(4)
+        .and_then(|word| word.as_str().parse::<usize>().ok());
     for kind in Kind::ALL {
         let is_wanted = match words.get(3) {
             Some(word) => word.as_str() == kind.name(),
@@ -105,7 +126,7 @@ fn main(rt: HostRuntime) -> io::Result<()> {
         };
         if is_wanted {
             let bytes = text_of(alloc, kind, size)?;
-            report(&rt, kind.name(), &bytes, rounds)?;
+            report(&rt, kind.name(), &bytes, rounds, only)?;
         }
     }
     Ok(())

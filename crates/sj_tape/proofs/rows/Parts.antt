@@ -1,12 +1,12 @@
 -- What parts of tapes, arrays, objects and iterators mean.
-use Rattle.std.proofs.Common.{◌≡◌, ℕ, pos, List, [], ◌∷◌, refl, ap, ◌∙◌, codes, Some, None, Bor}
-use Rattle.sj_text_core.specs.Tree.{u64, i64, Tree, null, boolean, int, text, list, obj, no_items, item, no_members, member, listed, paired}
+use Rattle.std.proofs.Common.{◌≡◌, ℕ, pos, List, [], ◌∷◌, refl, ap, codes, Some, None, Bor}
+use Rattle.sj_text_core.specs.Tree.{u64, i64, Tree, null, int, text, list, obj, no_items, item, no_members, member, listed, paired}
 use Rattle.sj_text_core.specs.Nodes.{number, array, nothing, tree_of, members_in}
 use Rattle.sj_text_core.specs.declared.repeats.Repeats.TheVariants.{First, Last}
 use Rattle.sj_text_core.specs.declared.static_node.StaticNode.TheVariants.{Null, U64}
-use Rattle.sj_tape.specs.Items.{items, items_ahead, array_choice, parts_ahead}
+use Rattle.sj_tape.specs.Items.{items, items_ahead, parts_ahead}
 use Rattle.sj_tape.specs.Marks.{marks}
-use Rattle.sj_tape.specs.Members.{members, members_ahead, keys_ahead, values_ahead, object_choice, chosen, value_parts_ahead}
+use Rattle.sj_tape.specs.Members.{members, members_ahead, keys_ahead, values_ahead, chosen, value_parts_ahead}
 use Rattle.sj_tape.specs.Parts.{items_in}
 use Rattle.sj_tape.specs.Value.{tree, choice, part, found, as_scalar, displayed}
 use Rattle.sj_tape.specs.declared.array.Array.{Array}
