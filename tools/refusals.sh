@@ -87,7 +87,7 @@ for call in owned owned_with_buffers borrowed borrowed_with_buffers; do
   [ $call = borrowed ] && borrowed=$requests
   reads $call escapes '{"q\"k":"a/bA"}'
 done
-each buffers $'call: AllocError\nagain made\n' $'call: made\nagain made\n'
+free buffers $'call: made\nagain made\n'
 
 for members in 0 32 64; do
   after="$((members + 1)) members"$'\n'

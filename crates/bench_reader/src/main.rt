@@ -1,9 +1,9 @@
 //! Rates of reading: `to_tape`, `to_tape_with_buffers` and the tape of `json`, in turns, on texts
 //! that a seeded generator writes; and rates of documents, by both forms, by tapes and by
-//! `serde_json`. Run `rt run -- ROUNDS MEGABYTES KIND` in this folder (without KIND: each kind), or
-//! `rt run -- ROUNDS stdin` for the text on standard input, with the word `documents` in front for
-//! documents; each line has the best rate of so many rounds, by the thread's own clock. Without
-//! words it does nothing.
+//! `serde_json`. Run `rt run -- ROUNDS MEGABYTES KIND WAY` in this folder (without WAY, a number
+//! below 3: each way; without KIND: each kind), or `rt run -- ROUNDS stdin` for the text on standard
+//! input, with the word `documents` in front for documents; each line has the best rate of so many
+//! rounds, by the thread's own clock. Without words it does nothing.
 #![tactic(auto)]
 
 mod documents;
@@ -18,6 +18,14 @@ use std::time::CpuClock;
 use std::{env, io};
 
 const WAYS: usize = 3;
+
+/// What is timed: so many rounds, of readings (by one way alone, or by each) or of documents.
+#[derive(Clone, Copy, Debug)]
+struct Wanted {
+    rounds: u32,
+    only: Option<usize>,
+    are_documents: bool,
+}
 
 fn name_of(way: usize) -> &'static str {
     match way {
@@ -49,14 +57,22 @@ fn once(
     }
 }
 
-/// The least time of so many rounds, for each way.
-fn best(rt: &HostRuntime, bytes: &Vec<u8>, rounds: u32) -> io::Result<[u64; WAYS]> {
+/// The least time of so many rounds, for each way, or for that one alone.
+fn best(
+    rt: &HostRuntime,
+    bytes: &Vec<u8>,
+    rounds: u32,
+    only: Option<usize>,
+) -> io::Result<[u64; WAYS]> {
     let alloc = rt.alloc();
     let mut best = [u64::MAX; WAYS];
     let mut buffers = Buffers::new(alloc, bytes.len())?;
     let mut scratch = Scratch::new(alloc);
     for _ in 0..rounds {
         for way in 0..WAYS {
+            if only.is_some_and(|wanted| way != wanted) {
+                continue;
+            }
             let mut work = bytes.clone()?;
             let before = rt.thread_cpu_time()?;
             let is_read = once(alloc, way, work.as_mut_slice(), &mut buffers, &mut scratch);
@@ -74,11 +90,14 @@ fn report_readings(
     rt: &HostRuntime,
     kind: &str,
     bytes: &Vec<u8>,
-    rounds: u32,
+    wanted: &Wanted,
 ) -> io::Result<()> {
-    let best = best(rt, bytes, rounds)?;
+    let best = best(rt, bytes, wanted.rounds, wanted.only)?;
     let len = bytes.len();
     for way in 0..WAYS {
+        if best[way] == u64::MAX {
+            continue;
+        }
         let name = name_of(way);
         let rate = (len as u64)
             .wrapping_mul(1000)
@@ -89,30 +108,30 @@ fn report_readings(
     Ok(())
 }
 
-fn report(
-    rt: &HostRuntime,
-    kind: &str,
-    bytes: &Vec<u8>,
-    rounds: u32,
-    are_documents: bool,
-) -> io::Result<()> {
-    if are_documents {
-        documents::report(rt, kind, bytes, rounds)
+fn report(rt: &HostRuntime, kind: &str, bytes: &Vec<u8>, wanted: &Wanted) -> io::Result<()> {
+    if wanted.are_documents {
+        documents::report(rt, kind, bytes, wanted.rounds)
     } else {
-        report_readings(rt, kind, bytes, rounds)
+        report_readings(rt, kind, bytes, wanted)
     }
 }
 
-/// What the words ask for: rounds, megabytes and a kind.
+/// What the words ask for: rounds, megabytes, a kind and a way.
 fn report_all(rt: &HostRuntime, words: &[String], are_documents: bool) -> io::Result<()> {
     let Some(rounds) = words.get(0) else {
         return Ok(());
     };
-    let rounds = rounds.as_str().parse::<u32>().unwrap_or(1);
+    let wanted = Wanted {
+        rounds: rounds.as_str().parse::<u32>().unwrap_or(1),
+        only: words
+            .get(3)
+            .and_then(|word| word.as_str().parse::<usize>().ok()),
+        are_documents,
+    };
     if words.get(1).is_some_and(|word| word.as_str() == "stdin") {
         let mut bytes = Vec::new(rt.alloc());
         rt.reader().read_to_end(&mut bytes)?;
-        return report(rt, "stdin", &bytes, rounds, are_documents);
+        return report(rt, "stdin", &bytes, &wanted);
     }
     let megabytes = match words.get(1) {
         Some(word) => word.as_str().parse::<usize>().unwrap_or(1),
@@ -126,7 +145,7 @@ fn report_all(rt: &HostRuntime, words: &[String], are_documents: bool) -> io::Re
         };
         if is_wanted {
             let bytes = text_of(rt.alloc(), kind, size)?;
-            report(rt, kind.name(), &bytes, rounds, are_documents)?;
+            report(rt, kind.name(), &bytes, &wanted)?;
         }
     }
     Ok(())

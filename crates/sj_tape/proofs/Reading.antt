@@ -1,5 +1,5 @@
 -- What is read is spelled, and what is spelled is read.
-use Rattle.std.proofs.Common.{◌≡◌, ℕ, ◌≤◌, List, [], ◌∷◌, ◌++◌, max, option_and_then, Some, None, IsUtf8, refl, sym, ap, subst, ◌∙◌, arith, append-nil}
+use Rattle.std.proofs.Common.{◌≡◌, ℕ, ◌≤◌, List, [], ◌∷◌, ◌++◌, max, Some, None, IsUtf8, refl, sym, ap, subst, ◌∙◌, arith, append-nil}
 use Rattle.sj_text_core.specs.Tree.{Tree, depth}
 use Rattle.sj_text_core.specs.Grammar.{Spelling, Spells, IsReadable}
 use Rattle.sj_text_core.specs.Nodes.{Mark, flat, tree_of, IsPreorder}

@@ -43,7 +43,7 @@ pub fn to_tape<'i>(alloc: Global, bytes: &'i mut [u8]) -> Result<Tape<'i>, Error
     read(alloc, bytes, &mut 0)
 }
 
-/// Reads as `to_tape` does, with memory that the buffers keep for the next reading. The answer
+/// Reads as `to_tape` does, with room at once for as many nodes as the buffers tell. The answer
 /// depends on the text alone, and the buffers can be used again whatever it is.
 pub fn to_tape_with_buffers<'i>(
     alloc: Global,
