@@ -4,7 +4,7 @@ use Rattle.std.specs.Prelude.{MatchOption, if◌then◌else◌}
 use Rattle.std.specs.Option.{option_or}
 use Rattle.std.proofs.lemmas.Slice.Eq.{bytes_eq-Decides}
 use Rattle.sj_text_core.specs.Keep.{is_seen}
-use Rattle.sj_text_core.specs.Tree.{Tree, Members, no_members, member, members_len, paired}
+use Rattle.sj_text_core.specs.Tree.{Tree, Members, no_members, member, members_len, paired, keys_of}
 use Rattle.sj_text_core.specs.Repeats.{find_member_by}
 use Rattle.sj_text_core.specs.declared.repeats.Repeats.{Repeats}
 use Rattle.sj_text_core.specs.declared.repeats.Repeats.TheVariants.{First, Last}
@@ -15,10 +15,6 @@ use Rattle.sj_lazy.specs.SameMap.{EachFound, SameEntries, HasKeys}
 
 abbrev pub names : {L X : Type 0} → (L → List ℕ) → List (L × X) → List (List ℕ)
 names text ps = map (λ (p : _ × _). text p.0) ps
-
--- the texts of members
-abbrev pub keys_of : Members → List (List ℕ)
-keys_of ms = map (λ (p : List ℕ × Tree). p.0) (paired ms)
 
 pub keys_len : (ms : Members) → length (keys_of ms) ≡ members_len ms
 keys_len no_members = refl

@@ -4,7 +4,7 @@ use Rattle.std.specs.Bool.{if◌then◌else◌}
 use Rattle.std.specs.List.{AllByRecursion}
 use Rattle.std.proofs.lemmas.List.Elements.{All-pop, All-from_recursion, recursion_from_All}
 use Rattle.sj_object.specs.Builder.{AreMade}
-use Rattle.sj_text_core.specs.Tree.{Tree, null, boolean, int, text, list, obj, Items, no_items, item, Members, no_members, member, items_len, members_len, items_from, members_from}
+use Rattle.sj_text_core.specs.Tree.{Tree, null, boolean, int, text, list, obj, Items, no_items, item, Members, no_members, member, items_len, members_len, items_from, members_from, listed}
 use Rattle.sj_text_core.specs.Nodes.{Mark, nothing, truth, number, string, array, object, flat, flat_items, flat_members, trees_of, tree_of, items_of, members_of, IsPreorder}
 use Rattle.sj_text_core.specs.Keep.{is_seen, keep, keep_items, keep_members}
 use Rattle.sj_text_core.specs.Edits as members
@@ -261,11 +261,6 @@ grown_static c (scalar.U128 n) ps = refl
 abbrev pub IsFull : Repeats → List Mark → Type 0
 IsFull c [] = Unit {0}
 IsFull c (m ∷ ns) = Needs m (ahead c ns) × IsFull c ns
-
--- items as a list
-abbrev listed : Items → List Tree
-listed no_items = []
-listed (item t is) = t ∷ listed is
 
 trees_of-flat_items : (is : Items) (ns : List Mark) → trees_of (flat_items is ++ ns) ≡ listed is ++ trees_of ns
 trees_of-flat_items no_items ns = refl

@@ -1,6 +1,6 @@
 -- What commands answer on one plain tree, and the tree that they leave.
 use Rattle.std.specs.Prelude.{ℕ, ◌^◌, ◌≤◌, Bool, length, List, [], ◌∷◌, Option, Some, None, is_some}
-use Rattle.sj_text_core.specs.Tree.{Tree, null, boolean, int, text, list, obj, Members, no_members, member, items_len, members_len}
+use Rattle.sj_text_core.specs.Tree.{Tree, null, boolean, int, text, list, obj, Members, no_members, member, items_len, members_len, keys_of}
 use Rattle.sj_text_core.specs.Find.{find, find_member}
 use Rattle.sj_text_core.specs.Keep.{keep}
 use Rattle.sj_text_core.specs.Edits.{put as put_member, cut, push as push_item, front, last}
@@ -31,10 +31,6 @@ len_reply (int n c) = reply.no_length
 len_reply (text s) = reply.no_length
 len_reply (list is) = reply.count (items_len is)
 len_reply (obj ms) = reply.count (members_len ms)
-
-abbrev pub keys_of : Members → List (List ℕ)
-keys_of no_members = []
-keys_of (member k t ms) = k ∷ keys_of ms
 
 abbrev pub keys_reply : Option Members → PlainReply
 keys_reply (Some ms) = reply.keys (keys_of ms)

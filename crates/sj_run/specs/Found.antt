@@ -3,7 +3,7 @@ use Rattle.std.specs.Prelude.{ℕ, List}
 use Rattle.sj_text_core.specs.Print.{compact, pretty}
 use Rattle.sj_object.specs.Members.{entry_members}
 use Rattle.sj_document.specs.Document.{tree}
-use Rattle.sj_run.specs.Answers.{keys_of}
+use Rattle.sj_text_core.specs.Tree.{keys_of}
 use Rattle.sj_run.specs.Replies as said
 use Rattle.sj_run.specs.declared.find.found.Found.{Found}
 use Rattle.sj_run.specs.declared.find.found.Found.TheVariants as found

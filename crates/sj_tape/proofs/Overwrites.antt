@@ -8,7 +8,7 @@ use Rattle.std.proofs.lemmas.Str.{IsUtf8-take, IsCharBoundary-before_ascii}
 use Rattle.sj_text_core.proofs.Characters.{string_utf8}
 use Rattle.sj_tape.specs.Gives.{EndsUtf8}
 use Rattle.sj_text_core.specs.Parse.{escape_at, with_front, text_at}
-use Rattle.sj_tape.specs.Run.{is_plain}
+use Rattle.sj_print.specs.Runs.{is_plain}
 use Rattle.sj_tape.proofs.Decode.{written, written_size, written_rest, written_text, same_byte, same_rest}
 use Rattle.sj_text_core.proofs.parse.Escapes.{text_ends, with_front_front, escape_sound}
 use Rattle.sj_tape.proofs.Places.{place_quote, place_control, place_escape, place_bad, place_end}

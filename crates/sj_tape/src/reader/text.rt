@@ -6,7 +6,7 @@ ghost use Rattle.std.specs.Char.{encode_utf8};
 ghost use Rattle.sj_tape.specs.Gives.{EndsUtf8, GivesText};
 ghost use Rattle.sj_tape.specs.Marks.{marks};
 ghost use Rattle.sj_text_core.specs.Parse as parse;
-ghost use Rattle.sj_tape.specs.Run.{is_plain};
+ghost use Rattle.sj_print.specs.Runs.{is_plain};
 
 use crate::node::Node;
 use crate::reader::escape::escape;

@@ -2,7 +2,7 @@ use Rattle.std.proofs.Common.{◌≡◌, ◌++◌, map, string_bytes}
 use Rattle.sj_object.specs.Entries.{entries_of}
 use Rattle.sj_object.specs.Members.{entry_members}
 use Rattle.sj_document.specs.Document.{tree}
-use Rattle.sj_run.specs.Answers.{keys_of}
+use Rattle.sj_text_core.specs.Tree.{keys_of}
 use Rattle.sj_run.proofs.find.found.keys_copied.Given as goal
 
 abbrev pub invariant-loop-key : goal.invariant-loop-key

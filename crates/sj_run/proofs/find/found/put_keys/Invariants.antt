@@ -3,7 +3,7 @@ use Rattle.sj_object.specs.Entries.{entries_of}
 use Rattle.sj_object.specs.Members.{entry_members}
 use Rattle.sj_document.specs.Document.{tree}
 use Rattle.sj_run.specs.Answered.{IsBegunBy}
-use Rattle.sj_run.specs.Answers.{keys_of}
+use Rattle.sj_text_core.specs.Tree.{keys_of}
 use Rattle.sj_run.specs.Shown.{more_texts, text_array}
 use Rattle.sj_run.proofs.find.found.put_keys.Given as goal
 

@@ -7,7 +7,8 @@ use Rattle.sj_document.specs.Document.{tree}
 use Rattle.sj_document.proofs.Maps.{names_apart}
 use Rattle.sj_lazy.specs.Object.{members, object_choice}
 use Rattle.sj_lazy.proofs.Lists.{length-members, texts-members}
-use Rattle.sj_lazy.proofs.Mapped.{keys_of, keys_len, keys_from_len, len_from_keys}
+use Rattle.sj_text_core.specs.Tree.{keys_of}
+use Rattle.sj_lazy.proofs.Mapped.{keys_len, keys_from_len, len_from_keys}
 use Rattle.sj_lazy.proofs.value.cmp.map.has_keys.Goals as goal
 
 pub returns-in-Value : goal.returns-in-Value
