@@ -3,7 +3,6 @@ use Rattle.std.specs.Prelude.{ℕ, Bool, true, ◌&&◌, List, [], ◌∷◌, Op
 use Rattle.std.specs.List.{list_all}
 use Rattle.sj_text_core.specs.Tree.{Tree, text, list, obj, items_from, Members}
 use Rattle.sj_text_core.specs.Scalars.{static_tree}
-use Rattle.sj_text_core.specs.Print.{compact}
 use Rattle.sj_text_core.specs.Edits.{put, cut, push, front, last}
 use Rattle.sj_object.specs.Members.{entry_members}
 use Rattle.sj_text_core.specs.declared.error.AccessError.{AccessError}
@@ -63,11 +62,6 @@ last_item t = None
 abbrev pub why_of : {A : Type 0} → AccessError → Option A → AccessError
 why_of wrong None = wrong
 why_of wrong (Some x) = OutOfMemory
-
--- what a reader is shown: a text as it is, all else as its compact print
-abbrev pub shown : Tree → List ℕ
-shown (text s) = s
-shown t = compact t
 
 -- members with pairs put into them in turn
 abbrev pub put_pairs : {T : Type 0} → (T → List ℕ) → Members → List (T × Document T) → Members

@@ -4,7 +4,8 @@ use Rattle.std.specs.Prelude.{MatchOption, if◌then◌else◌}
 use Rattle.std.specs.Option.{option_or}
 use Rattle.std.proofs.lemmas.Slice.Eq.{bytes_eq-Decides}
 use Rattle.sj_text_core.specs.Keep.{is_seen}
-use Rattle.sj_text_core.specs.Tree.{Tree, Members, no_members, member, members_len, paired, keys_of}
+use Rattle.sj_text_core.specs.Tree.{Tree, Members, no_members, member, members_len, paired}
+use Rattle.sj_text_core.specs.Agree.{texts}
 use Rattle.sj_text_core.specs.Repeats.{find_member_by}
 use Rattle.sj_text_core.specs.declared.repeats.Repeats.{Repeats}
 use Rattle.sj_text_core.specs.declared.repeats.Repeats.TheVariants.{First, Last}
@@ -16,7 +17,7 @@ use Rattle.sj_lazy.specs.SameMap.{EachFound, SameEntries, HasKeys}
 abbrev pub names : {L X : Type 0} → (L → List ℕ) → List (L × X) → List (List ℕ)
 names text ps = map (λ (p : _ × _). text p.0) ps
 
-pub keys_len : (ms : Members) → length (keys_of ms) ≡ members_len ms
+pub keys_len : (ms : Members) → length (texts (paired ms)) ≡ members_len ms
 keys_len no_members = refl
 keys_len (member k t ms) = ap suc (keys_len ms)
 
@@ -30,13 +31,13 @@ last_none None false t e = (refl, refl)
 last_none (Some u) b t e = cc
 
 -- a text that counts no member is none of the members'
-missing : (c : Repeats) (k : List ℕ) (ms : Members) → find_member_by c k ms ≡ None → is_seen k (keys_of ms) ≡ false
+missing : (c : Repeats) (k : List ℕ) (ms : Members) → find_member_by c k ms ≡ None → is_seen k (texts (paired ms)) ≡ false
 missing First k no_members e = refl
 missing First k (member l t ms) e = let p = first_none (bytes_eq k l) t (find_member_by First k ms) e in or_of_false _ _ p.0 (missing First k ms p.1)
 missing Last k no_members e = refl
 missing Last k (member l t ms) e = let p = last_none (find_member_by Last k ms) (bytes_eq k l) t e in or_of_false _ _ p.1 (missing Last k ms p.0)
 
-absent : (c : Repeats) (k : List ℕ) (ms : Members) → is_seen k (keys_of ms) ≡ false → find_member_by c k ms ≡ None
+absent : (c : Repeats) (k : List ℕ) (ms : Members) → is_seen k (texts (paired ms)) ≡ false → find_member_by c k ms ≡ None
 absent First k no_members e = refl
 absent First k (member l t ms) e = let p = or_false (bytes_eq k l) _ e in (λ i. if p.0 i then Some t else find_member_by First k ms) ∙ absent First k ms p.1
 absent Last k no_members e = refl
@@ -47,11 +48,11 @@ either true P f g = f refl
 either false P f g = g refl
 
 -- what is seen counts
-counts : (c : Repeats) (k : List ℕ) (ms : Members) → is_seen k (keys_of ms) ≡ true → find_member_by c k ms ≡ None → ⊥
+counts : (c : Repeats) (k : List ℕ) (ms : Members) → is_seen k (texts (paired ms)) ≡ true → find_member_by c k ms ≡ None → ⊥
 counts c k ms h e = true≢false (sym h ∙ missing c k ms e)
 
-there : (c : Repeats) (k : List ℕ) (ms : Members) → (find_member_by c k ms ≡ None → ⊥) → is_seen k (keys_of ms) ≡ true
-there c k ms n = either (is_seen k (keys_of ms)) _ (λ b. b) (λ b. absurd (n (absent c k ms b)))
+there : (c : Repeats) (k : List ℕ) (ms : Members) → (find_member_by c k ms ≡ None → ⊥) → is_seen k (texts (paired ms)) ≡ true
+there c k ms n = either (is_seen k (texts (paired ms))) _ (λ b. b) (λ b. absurd (n (absent c k ms b)))
 
 is_some-none : {A : Type 0} (o : Option A) → is_some o ≡ true → o ≡ None → ⊥
 is_some-none None e h = true≢false (sym e)
@@ -141,33 +142,33 @@ module _ {X L : Type 0} (R : Tree → X → Type 0) (text : L → List ℕ) (c :
   abbrev at : List ℕ → Option Tree
   at k = find_member_by c k ms
 
-  none_at : (k : List ℕ) → HasKeys text (keys_of ms) ps → value_at text k ps ≡ None → at k ≡ None
-  none_at k h e = either (is_seen k (keys_of ms)) _ (λ b. absurd (is_some-none (value_at text k ps) (h k b) e)) (absent c k ms)
+  none_at : (k : List ℕ) → HasKeys text (texts (paired ms)) ps → value_at text k ps ≡ None → at k ≡ None
+  none_at k h e = either (is_seen k (texts (paired ms))) _ (λ b. absurd (is_some-none (value_at text k ps) (h k b) e)) (absent c k ms)
 
   -- each there, and no more keys: the same at every text
-  pub same_from_each : EachFound R text at ps → HasKeys text (keys_of ms) ps → SameEntries R text at ps
+  pub same_from_each : EachFound R text at ps → HasKeys text (texts (paired ms)) ps → SameEntries R text at ps
   same_from_each h n = λ k. each_at R text at k ps h (none_at k n)
 
   -- the same at every text: no more keys
-  pub keys_from_same : SameEntries R text at ps → HasKeys text (keys_of ms) ps
+  pub keys_from_same : SameEntries R text at ps → HasKeys text (texts (paired ms)) ps
   keys_from_same h = λ k e. some-of (value_at text k ps) (λ n. counts c k ms e (in_back R text at (at k) (value_at text k ps) (h k) n))
 
   -- each there, and as many: no more keys
-  pub keys_from_len : no_repeats (names text ps) ≡ true → length (keys_of ms) ≡ length ps → EachFound R text at ps → HasKeys text (keys_of ms) ps
+  pub keys_from_len : no_repeats (names text ps) ≡ true → length (texts (paired ms)) ≡ length ps → EachFound R text at ps → HasKeys text (texts (paired ms)) ps
   keys_from_len d e h = λ k s.
-      sym (named text k ps) ∙ within_back (names text ps) (keys_of ms) d (names_len text ps ∙ sym e) (has_within R text at (keys_of ms) (λ k n. there c k ms n) ps h) k s
+      sym (named text k ps) ∙ within_back (names text ps) (texts (paired ms)) d (names_len text ps ∙ sym e) (has_within R text at (texts (paired ms)) (λ k n. there c k ms n) ps h) k s
 
   -- each there, and no more keys: as many
-  pub len_from_keys : no_repeats (names text ps) ≡ true → no_repeats (keys_of ms) ≡ true → EachFound R text at ps → HasKeys text (keys_of ms) ps → length (keys_of ms) ≡ length ps
+  pub len_from_keys : no_repeats (names text ps) ≡ true → no_repeats (texts (paired ms)) ≡ true → EachFound R text at ps → HasKeys text (texts (paired ms)) ps → length (texts (paired ms)) ≡ length ps
   len_from_keys d f h n = omega (arith, more, fewer, names_len text ps) where
-    more : length (keys_of ms) ≤ length (names text ps)
-    more = within_len (keys_of ms) (names text ps) f (λ k s. named text k ps ∙ n k s)
+    more : length (texts (paired ms)) ≤ length (names text ps)
+    more = within_len (texts (paired ms)) (names text ps) f (λ k s. named text k ps ∙ n k s)
 
-    fewer : length (names text ps) ≤ length (keys_of ms)
-    fewer = within_len (names text ps) (keys_of ms) d (has_within R text at (keys_of ms) (λ k n. there c k ms n) ps h)
+    fewer : length (names text ps) ≤ length (texts (paired ms))
+    fewer = within_len (names text ps) (texts (paired ms)) d (has_within R text at (texts (paired ms)) (λ k n. there c k ms n) ps h)
 
   -- the same at every text: no fewer
   pub len_from_same : no_repeats (names text ps) ≡ true → SameEntries R text at ps → length ps ≤ members_len ms
   len_from_same d h = omega (arith, fewer, names_len text ps, keys_len ms) where
-    fewer : length (names text ps) ≤ length (keys_of ms)
-    fewer = within_len (names text ps) (keys_of ms) d (has_within R text at (keys_of ms) (λ k n. there c k ms n) ps (each_from_same R text at ps d h))
+    fewer : length (names text ps) ≤ length (texts (paired ms))
+    fewer = within_len (names text ps) (texts (paired ms)) d (has_within R text at (texts (paired ms)) (λ k n. there c k ms n) ps (each_from_same R text at ps d h))

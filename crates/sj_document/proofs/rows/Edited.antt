@@ -1,9 +1,9 @@
--- Edits of small trees, and what a reader is shown.
+-- Edits of small trees.
 use Rattle.std.proofs.Common.{◌≡◌, ℕ, pos, refl, codes, Some, None}
 use Rattle.sj_text_core.specs.Tree.{u64, Tree, null, int, text, list, obj, no_items, item, no_members, member}
 use Rattle.sj_text_core.specs.Reads.{as_items, as_members}
 use Rattle.sj_text_core.specs.declared.error.AccessError.TheVariants.{NotAnObject, NotAnArray, OutOfMemory}
-use Rattle.sj_document.specs.Document.{with_member, without_member, with_item, without_last, last_item, why_of, shown}
+use Rattle.sj_document.specs.Document.{with_member, without_member, with_item, without_last, last_item, why_of}
 
 abbrev n : ℕ → Tree
 n m = int (pos m) u64
@@ -59,10 +59,3 @@ why-object = refl
 
 why-array : why_of NotAnArray (as_items ab) ≡ NotAnArray
 why-array = refl
-
--- a text is shown as it is, a list as it is printed
-shown-text : shown (text (codes "a")) ≡ codes "a"
-shown-text = refl
-
-shown-list : shown (list (item null no_items)) ≡ codes "[null]"
-shown-list = refl

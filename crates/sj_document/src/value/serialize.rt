@@ -1,13 +1,12 @@
 //! A document level by level, and its prints.
 
 ghost use Rattle.std.specs.Prelude.{Some};
-ghost use Rattle.std.specs.Fmt.{DisplaysOnOk};
-ghost use Rattle.sj_text_core.specs.Print.{compact};
-ghost use Rattle.sj_document.specs.Document.{tree, shown};
+ghost use Rattle.sj_tape.specs.Value.{displayed};
+ghost use Rattle.sj_document.specs.Document.{tree};
 
 use crate::value::Document;
 use sj_object::KeyText;
-use sj_print::{Level, Parts, encode, write};
+use sj_print::{Level, Parts, display, encode, write};
 use sj_text_core::{Writable, WriteError};
 use std::alloc::Global;
 use std::{fmt, slice};
@@ -75,31 +74,16 @@ impl<T: KeyText> Writable for Document<T> {
     }
 }
 
-/// A scalar as it is printed, a text as it is, and a container as its compact print. It is refused
-/// where the formatter refuses, and for a container as `encode` is.
+/// A scalar as it is printed, a text as it is, and a container as its compact print, without memory.
+/// It is refused where the formatter refuses.
 impl<T: KeyText> fmt::Display for Document<T> {
-    ghost output = { λ v. Some (shown (tree T.text_of v)) };
+    ghost output = { λ v. Some (displayed (tree T.text_of v)) };
 
     fn fmt<W: fmt::Write>(&self, f: &mut fmt::Formatter<W>) -> fmt::Result {
         match self {
             Document::Static(scalar) => write!(f, "{scalar}"),
             Document::String(text) => f.write_str(text.text()),
-            Document::Array(items) => print(self, *items.allocator(), f),
-            Document::Object(members) => print(self, members.allocator(), f),
+            _ => display(&self, f),
         }
-    }
-}
-
-/// Writes the compact print.
-fn print<T: KeyText, W: fmt::Write>(
-    value: &Document<T>,
-    alloc: Global,
-    f: &mut fmt::Formatter<W>,
-) -> fmt::Result
-    ensures { DisplaysOnOk W.write_str_gives f.old result (Some (compact (tree T.text_of value.now))) f.new }
-{
-    match value.encode(alloc) {
-        Ok(text) => f.write_str(text.as_str()),
-        Err(_) => Err(fmt::Error),
     }
 }

@@ -7,7 +7,8 @@ use Rattle.sj_document.specs.Document.{tree}
 use Rattle.sj_document.proofs.Maps.{names_apart}
 use Rattle.sj_lazy.specs.Object.{members, object_choice}
 use Rattle.sj_lazy.proofs.Lists.{length-members, texts-members}
-use Rattle.sj_text_core.specs.Tree.{keys_of}
+use Rattle.sj_text_core.specs.Tree.{paired}
+use Rattle.sj_text_core.specs.Agree.{texts}
 use Rattle.sj_lazy.proofs.Mapped.{keys_len, keys_from_len, len_from_keys}
 use Rattle.sj_lazy.proofs.value.cmp.map.has_keys.Goals as goal
 
@@ -19,8 +20,8 @@ returns-in-Value g c =
     let es = c.in-Value.members.now.entries in
     let ps = c.args.entries.now.entries in
     let apart = names_apart t g.K.PartialEq.eq g.met.K.KeyText.equal_texts ps c.len-in-Value.ensures.unique in
-    let many : c.len.result ≡ length (keys_of ms) = c.len.ensures ∙ length-members (tree cow_str_bytes) es ∙ sym (ap (λ o. members_len (members o)) c.in-Value.is) ∙ sym (keys_len ms) in
-    let once : no_repeats (keys_of ms) ≡ _ = ap (λ o. no_repeats (keys_of (members o))) c.in-Value.is ∙ ap no_repeats (sym (texts-members (tree cow_str_bytes) es)) ∙ c.in-Value.members.now.distinct in (
+    let many : c.len.result ≡ length (texts (paired ms)) = c.len.ensures ∙ length-members (tree cow_str_bytes) es ∙ sym (ap (λ o. members_len (members o)) c.in-Value.is) ∙ sym (keys_len ms) in
+    let once : no_repeats (texts (paired ms)) ≡ _ = ap (λ o. no_repeats (texts (paired (members o)))) c.in-Value.is ∙ ap no_repeats (sym (texts-members (tree cow_str_bytes) es)) ∙ c.in-Value.members.now.distinct in (
       λ f. keys_from_len (λ u x. g.X.SameAsLazy.same_lazy (d, u) x) t d ms ps apart (sym many ∙ eqb-true _ _ f ∙ c.len-in-Value.ensures.len) c.requires,
       λ n. eq-eqb _ _ (many ∙ len_from_keys (λ u x. g.X.SameAsLazy.same_lazy (d, u) x) t d ms ps apart once c.requires n ∙ sym c.len-in-Value.ensures.len),
     )
