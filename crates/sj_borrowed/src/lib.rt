@@ -9,7 +9,8 @@
 //! ```
 //! let mut bytes = b"{\"some\":[\"key\",\"value\",2],\"some\":3}".to_vec(alloc)?;
 //! let mut value = sj_borrowed::to_value(alloc, bytes.as_mut_slice())?;
-//! assert!(rt; matches!(&value["some"][0], Value::String(CowStr::Borrowed("key"))));
+//! assert!(rt; value.contains_key("some"));
+//! assert!(rt; matches!(value["some"].get_idx(0), Some(Value::String(CowStr::Borrowed("key")))));
 //! value.insert(CowStr::Borrowed("n"), Value::from("lent"))?;
 //! assert_eq!(rt; value.get_str("n"), Some("lent"));
 //! let copy = value.clone_static(alloc)?;

@@ -8,8 +8,10 @@
 //! ```
 //! let mut bytes = b"{\"some\":[\"key\",\"value\",2],\"some\":3}".to_vec(alloc)?;
 //! let mut value = sj_owned::to_value(alloc, bytes.as_mut_slice())?;
-//! assert_eq!(rt; value["some"][2].as_u8(), Some(2));
+//! assert!(rt; value.contains_key("some"));
+//! assert!(rt; value["some"].get_idx(2).is_some_and(|item| item.is_u8()));
 //! value.insert(String::from_str(alloc, "n")?, Value::from(true))?;
+//! assert!(rt; value.contains_key("some"));
 //! value["some"].push(Value::null())?;
 //! assert_eq!(rt; value.remove("n")?, Some(Value::from(true)));
 //! assert_eq!(rt; value.encode(alloc)?.as_str(), "{\"some\":[\"key\",\"value\",2,null]}");

@@ -8,7 +8,13 @@ fn an_example(rt: HostRuntime) -> Result<(), Fail> {
     let alloc = rt.alloc();
     let mut bytes = b"{\"some\":[\"key\",\"value\",2],\"some\":3}".to_vec(alloc)?;
     let mut value = crate::to_value(alloc, bytes.as_mut_slice())?;
-    assert!(rt; matches!(&value["some"][0], Value::String(CowStr::Borrowed("key"))));
+    assert!(rt; value.contains_key("some"));
+    assert!(rt;
+        matches!(
+            value["some"].get_idx(0),
+            Some(Value::String(CowStr::Borrowed("key")))
+        )
+    );
     value.insert(CowStr::Borrowed("n"), Value::from("lent"))?;
     assert_eq!(rt; value.get_str("n"), Some("lent"));
     let copy = value.clone_static(alloc)?;
@@ -32,8 +38,9 @@ fn object_and_array(rt: HostRuntime) -> Result<(), Fail> {
         value.insert(CowStr::Borrowed("key"), Value::from(2_u8))?,
         Some(Value::from(1_u8))
     );
+    assert!(rt; value.contains_key("key"));
     value["key"] = Value::from(3_u8);
-    assert_eq!(rt; value["key"].as_u8(), Some(3));
+    assert_eq!(rt; value.get_u8("key"), Some(3));
     assert_eq!(rt;
         value.try_insert(CowStr::Borrowed("more"), Value::from(4_u8))?,
         None
@@ -44,7 +51,9 @@ fn object_and_array(rt: HostRuntime) -> Result<(), Fail> {
     let mut value = Value::array_with_capacity(alloc, 2)?;
     value.push(Value::from(1_u8))?;
     value.push(Value::from(2_u8))?;
+    assert!(rt; value.get_idx(0).is_some());
     value[0] = Value::from(0_u8);
+    assert!(rt; value.get_idx(1).is_some());
     value[1] = Value::from(1_u8);
     assert_eq!(rt; value.pop()?, Some(Value::from(1_u8)));
     assert_eq!(rt; value.pop()?, Some(Value::from(0_u8)));
@@ -79,9 +88,15 @@ fn nested_writes(rt: HostRuntime) -> Result<(), Fail> {
     let alloc = rt.alloc();
     let mut value = Value::object_with_capacity(alloc, 1)?;
     value.insert(CowStr::Borrowed("key"), Value::array(alloc)?)?;
-    value["key"].push(Value::object(alloc)?)?;
+    let Some(items) = value.get_mut("key") else {
+        return Err("no such key".into());
+    };
+    items.push(Value::object(alloc)?)?;
     let text = Value::from("value");
-    value["key"][0].insert(CowStr::Borrowed("other"), text)?;
+    let Some(item) = items.get_idx_mut(0) else {
+        return Err("no such item".into());
+    };
+    item.insert(CowStr::Borrowed("other"), text)?;
     assert_eq!(rt;
         value.encode(alloc)?.as_str(),
         "{\"key\":[{\"other\":\"value\"}]}"
@@ -140,10 +155,10 @@ fn numbers(rt: HostRuntime) -> Result<(), Fail> {
         assert_eq!(rt; value.value_type(), carrier);
         let fits = fits(&value);
         for place in 0..5 {
-            assert_eq!(rt; fits[place], place + signed >= 5, "{value} signed {place}");
+            assert_eq!(rt; fits[place], signed >= 5 - place, "{value} signed {place}");
             assert_eq!(rt;
                 fits[5 + place],
-                place + unsigned >= 5,
+                unsigned >= 5 - place,
                 "{value} unsigned {place}"
             );
         }
