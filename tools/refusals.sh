@@ -62,6 +62,17 @@ each() {
   count $good "$1"
 }
 
+# goes_on WORDS REFUSED DONE: as each, where the call asks for more once it was refused
+goes_on() {
+  local n=1
+  good=no
+  while run $n "$1"; [ "$requests" -ge $n ] && told "$2"; do
+    n=$((n + 1))
+  done
+  told "$3" && [ $n -gt 1 ] && [ "$requests" = $((n - 1)) ] && good=yes
+  count $good "$1"
+}
+
 # reads CALL TEXT SEEN: a reading, of which the run tells what it has seen
 reads() {
   each "read $1 $2" $'call: OutOfMemory\nagain read, '"$3"$'\n' \
@@ -107,9 +118,11 @@ each capacity $'call: AllocError\nagain made\n' $'call: made\nagain made\n'
 free room $'call: filled, 32 members\n'
 free 'map reads' $'call: found, 32 members\n'
 
-# writes CALL GENERATOR WRITTEN
+# writes CALL GENERATOR WRITTEN; a text between quotes is put to its end, and cut back then
 writes() {
-  each "write $1 $2" "call: AllocError, then done: [$3"$'\n' "call: done: [$3"$'\n'
+  local way=each
+  [ $1 = write_string ] && way=goes_on
+  $way "write $1 $2" "call: AllocError, then done: [$3"$'\n' "call: done: [$3"$'\n'
 }
 
 for generator in dump writer pretty pretty_writer; do

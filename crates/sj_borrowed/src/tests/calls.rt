@@ -53,8 +53,10 @@ fn object_and_array(rt: HostRuntime) -> Result<(), Fail> {
     value.push(Value::from(2_u8))?;
     assert!(rt; value.get_idx(0).is_some());
     value[0] = Value::from(0_u8);
-    assert!(rt; value.get_idx(1).is_some());
-    value[1] = Value::from(1_u8);
+    let Some(last) = value.get_idx_mut(1) else {
+        return Err("no such item".into());
+    };
+    *last = Value::from(1_u8);
     assert_eq!(rt; value.pop()?, Some(Value::from(1_u8)));
     assert_eq!(rt; value.pop()?, Some(Value::from(0_u8)));
     assert_eq!(rt; value.pop()?, None);
