@@ -199,15 +199,23 @@ fn containers_are_taken_apart(rt: HostRuntime) -> Result<(), Fail> {
     assert_eq!(rt; members.len(), 1);
     let value = Value::try_make(alloc, members)?;
     assert_eq!(rt; value.get_str("a"), None);
-    assert_eq!(rt; value.get_array("a").map(|items| items.len()), Some(2));
+    let Some(items) = value.get_array("a") else {
+        return Err("no array".into());
+    };
+    assert_eq!(rt; items.len(), 2);
     assert_eq!(rt; value.get_idx(0), None);
-    let Some(Some(items)) = value.into_object().map(|mut members| members.remove("a")) else {
+    let Some(mut members) = value.into_object() else {
+        return Err("no object".into());
+    };
+    let Some(items) = members.remove("a") else {
         return Err("no member".into());
     };
     let Some(mut items) = items.into_array() else {
         return Err("no array".into());
     };
-    let last = items.pop().and_then(|item| item.into_string());
-    assert_eq!(rt; last, Some(owned(alloc, "x")?));
+    let Some(last) = items.pop() else {
+        return Err("no item".into());
+    };
+    assert_eq!(rt; last.into_string(), Some(owned(alloc, "x")?));
     Ok(())
 }
