@@ -9,7 +9,7 @@ demo:
 test:
 	rt ci
 
-# Runs the built program as a user would.
+# Runs the built program as a user would. Needs python3.
 check-program:
 	cd crates/sjval && rt run -- owned < stdin > /dev/null
 	tools/program.sh crates/sjval/out/sjval
