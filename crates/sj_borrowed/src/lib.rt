@@ -20,6 +20,7 @@
 #![tactic(auto)]
 
 pub mod known_key;
+pub mod laws;
 mod read;
 
 pub use known_key::KnownKey;

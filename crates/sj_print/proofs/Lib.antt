@@ -1,5 +1,6 @@
 pub mod Runs
 pub mod Lanes
+pub mod Alike
 pub mod Escapes
 pub mod Utf8
 pub mod Puts

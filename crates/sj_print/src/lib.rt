@@ -22,6 +22,7 @@
 
 mod formatter;
 mod generator;
+pub mod laws;
 mod layout;
 mod output;
 mod parts;

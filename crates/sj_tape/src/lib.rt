@@ -18,6 +18,7 @@
 #![tactic(auto)]
 
 pub mod array;
+pub mod laws;
 mod node;
 pub mod object;
 mod preorder;

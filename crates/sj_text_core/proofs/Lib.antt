@@ -13,3 +13,5 @@ pub mod Equal
 pub mod Recarried
 pub mod Printed
 pub mod parse
+pub mod Back
+pub mod Unread

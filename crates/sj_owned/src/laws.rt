@@ -1,0 +1,41 @@
+//! What holds of prints and readings together. A call goes over documents and changes nothing.
+
+ghost use Rattle.std.specs.Prelude.{◌↔◌, ◌^◌, ◌≤◌, ◌⊎◌, length, IfOk, IsErrOf, IsTrue, string_bytes};
+ghost use Rattle.sj_text_core.specs.Grammar.{Spells};
+ghost use Rattle.sj_text_core.specs.Print.{compact, pretty, recarry};
+ghost use Rattle.sj_text_core.specs.Tree.{IsWithin};
+ghost use Rattle.sj_document.specs.Document.{tree};
+
+use crate::{Value, to_value};
+use sj_tape::laws::prints_spell;
+use sj_text_core::{ErrorKind, SameAs, Writable, WriteError};
+use std::alloc::{AllocError, Global};
+
+/// Whether both prints of a document are read to documents that are the same: so it is exactly
+/// where the document is within the limit. It is refused where a print or a reading is.
+pub fn reads_back(alloc: Global, value: &Value) -> Result<bool, WriteError>
+    ensures ok { IfOk result (λ same. IsTrue same ↔ IsWithin (tree string_bytes value.now)) }
+    ensures too_long { IsErrOf result WriteError.TooLong → (2 ^ 64 ≤ length (compact (tree string_bytes value.now))) ⊎ (2 ^ 64 ≤ length (pretty 0 (tree string_bytes value.now))) }
+{
+    prints_spell(&value);
+    let text = value.encode(alloc)?;
+    let lines = value.encode_pp(alloc)?;
+    Ok(is_read_as(alloc, text, value)? && is_read_as(alloc, lines, value)?)
+}
+
+/// Whether the text is read to a document that is the same.
+fn is_read_as(alloc: Global, text: String, value: &Value) -> Result<bool, AllocError>
+    requires { Spells (string_bytes text) (recarry (tree string_bytes value.now)) }
+    ensures { IfOk result (λ same. IsTrue same ↔ IsWithin (tree string_bytes value.now)) }
+{
+    let mut bytes = text.into_bytes();
+    match to_value(alloc, bytes.as_mut_slice()) {
+        Ok(read) => Ok(value.same_as(&read)),
+        Err(kind) => {
+            if kind == ErrorKind::OutOfMemory {
+                return Err(AllocError);
+            }
+            Ok(false)
+        }
+    }
+}
