@@ -59,11 +59,3 @@ module _ {T : Type 0} (t : T → List ℕ) where
   pub get_nth : {R : Type 0} (now : R → Document T) (vs : List (Document T)) (i : ℕ) (r : Option R) → MatchOption r (length vs ≤ i) (λ x. (i < length vs) × HoldsAt (λ y. now x ≡ y) vs i) → option_map (λ v. tree (now v)) r ≡ nth_item i (items_seen vs)
   get_nth now vs i None h = none_nth vs i h
   get_nth now vs i (Some x) h = some_nth vs i (now x) h.0 h.1
-
-pub array_is : (t : Tree) (is : Items) → Some is ≡ as_items t → t ≡ list is
-array_is null is e = cc
-array_is (boolean b) is e = cc
-array_is (int n c) is e = cc
-array_is (text s) is e = cc
-array_is (list js) is e = cc
-array_is (obj ms) is e = cc

@@ -13,7 +13,9 @@ use Rattle.sj_text_core.specs.Same.{Same, SameItems}
 use Rattle.sj_text_core.specs.Agree.{SameFound}
 use Rattle.sj_text_core.specs.Equal.{tree_eq}
 use Rattle.sj_text_core.proofs.Equal.{tree_eq-decides}
-use Rattle.sj_text_core.proofs.Equality.{found_from_at, at_from_found, same-sym}
+use Rattle.sj_text_core.proofs.Equality.{found_from_at, at_from_found, none_on, same-sym}
+use Rattle.sj_text_core.proofs.Comparing.{by_either, absent_by, there_by}
+use Rattle.sj_text_core.proofs.Shapes.{same_items_len}
 use Rattle.sj_object.specs.Texts.{no_repeats, not_and, or_false, bytes_eq-sym}
 use Rattle.sj_object.specs.Entries.{Entry, texts, entries_of}
 use Rattle.sj_object.specs.Edits.{lookup}
@@ -39,30 +41,19 @@ each_at : (k : List ℕ) (ms ns : Members) → EachFound ms ns → (find_member 
 each_at k no_members ns h n = n refl
 each_at k (member l t ms) ns h n = found_by k l t ns (find_member k ms) (bytes_eq k l) refl h.0 n (λ n. each_at k ms ns h.1 n)
 
-absent_by : (b x : Bool) (t : Tree) (r : Option Tree) → (b || x) ≡ false → (x ≡ false → r ≡ None) → (if b then Some t else r) ≡ None
-absent_by true x t r e h = cc
-absent_by false x t r e h = h e
-
 absent : (k : List ℕ) (ms : Members) → is_seen k (member_texts ms) ≡ false → find_member k ms ≡ None
 absent k no_members e = refl
 absent k (member l t ms) e = absent_by (bytes_eq k l) (is_seen k (member_texts ms)) t (find_member k ms) e (absent k ms)
 
-missing_by : (b x : Bool) (t : Tree) (r : Option Tree) → (if b then Some t else r) ≡ None → (r ≡ None → x ≡ false) → (b || x) ≡ false
-missing_by true x t r e h = cc
-missing_by false x t r e h = h e
-
 missing : (k : List ℕ) (ms : Members) → find_member k ms ≡ None → is_seen k (member_texts ms) ≡ false
 missing k no_members e = refl
-missing k (member l t ms) e = missing_by (bytes_eq k l) (is_seen k (member_texts ms)) t (find_member k ms) e (missing k ms)
-
-either : (b : Bool) (P : Type 0) → (b ≡ true → P) → (b ≡ false → P) → P
-either true P f g = f refl
-either false P f g = g refl
+missing k (member l t ms) e = there_by (bytes_eq k l) (is_seen k (member_texts ms)) t (find_member k ms) e (missing k ms)
 
 there : (k : List ℕ) (ns : Members) (P : Tree → Type 0) → MatchOption (find_member k ns) ⊥ P → is_seen k (member_texts ns) ≡ true
-there k ns P h = either (is_seen k (member_texts ns)) _ (λ b. b) (λ b. absurd (subst (λ f. MatchOption f ⊥ P) (absent k ns b) h))
+there k ns P h = by_either (is_seen k (member_texts ns)) _ (λ b. b) (λ b. absurd (subst (λ f. MatchOption f ⊥ P) (absent k ns b) h))
 
-seen_by : (x k : List ℕ) (ks ls : List (List ℕ)) (b : Bool) → bytes_eq x k ≡ b → (b || is_seen x ks) ≡ true → is_seen k ls ≡ true → (is_seen x ks ≡ true → is_seen x ls ≡ true) → is_seen x ls ≡ true
+-- a text that is seen in the one list is seen in the other
+pub seen_by : (x k : List ℕ) (ks ls : List (List ℕ)) (b : Bool) → bytes_eq x k ≡ b → (b || is_seen x ks) ≡ true → is_seen k ls ≡ true → (is_seen x ks ≡ true → is_seen x ls ≡ true) → is_seen x ls ≡ true
 seen_by x k ks ls true d e h f = ap (λ y. is_seen y ls) ((bytes_eq-Decides x k).0 d) ∙ h
 seen_by x k ks ls false d e h f = f e
 
@@ -70,7 +61,7 @@ each_within : (ms ns : Members) → EachFound ms ns → Within (member_texts ms)
 each_within no_members ns h = λ x e. cc
 each_within (member k t ms) ns h = λ x e. seen_by x k (member_texts ms) (member_texts ns) (bytes_eq x k) refl e (there k ns _ h.0) (each_within ms ns h.1 x)
 
-contra : (a b : Bool) → (b ≡ true → a ≡ true) → a ≡ false → b ≡ false
+pub contra : (a b : Bool) → (b ≡ true → a ≡ true) → a ≡ false → b ≡ false
 contra a true f e = absurd (true≢false (sym (f refl) ∙ e))
 contra a false f e = refl
 
@@ -79,13 +70,9 @@ same_if_each : (ms ns : Members) → no_repeats (member_texts ms) ≡ true → l
 same_if_each ms ns d e h = λ k. at_from_found k ms (find_member k ns) (each_at k ms ns h
     (λ n. absent k ns (contra (is_seen k (member_texts ms)) (is_seen k (member_texts ns)) (within_back (member_texts ms) (member_texts ns) d e (each_within ms ns h) k) (missing k ms n))))
 
-none_if : (f g : Option Tree) → SameFound f g → f ≡ None → g ≡ None
-none_if None g h e = h
-none_if (Some t) g h e = cc
-
 same_within : (ms ns : Members) → Same (obj ms) (obj ns) → Within (member_texts ns) (member_texts ms)
-same_within ms ns h = λ k e. either (is_seen k (member_texts ms)) _ (λ b. b)
-    (λ b. absurd (true≢false (sym e ∙ missing k ns (none_if (find_member k ms) (find_member k ns) (found_from_at k ms (find_member k ns) (h k)) (absent k ms b)))))
+same_within ms ns h = λ k e. by_either (is_seen k (member_texts ms)) _ (λ b. b)
+    (λ b. absurd (true≢false (sym e ∙ missing k ns (none_on (find_member k ms) (find_member k ns) (absent k ms b) (found_from_at k ms (find_member k ns) (h k))))))
 
 module _ {K V : Type 0} where
   -- each of the first entries is what its text finds in the second
@@ -117,15 +104,17 @@ module _ {K V : Type 0} where
         let found : find_member d.0.1 (entry_members f es) ≡ Some (f d.1) = sym (lookup-entry_members f d.0.1 es) ∙ ap (option_map f) t.0 in
         (subst (λ r. SameFound r (find_member d.0.1 ns)) found (found_from_at d.0.1 (entry_members f es) (find_member d.0.1 ns) (h d.0.1)), each_if_same_from ds es ns t.1 h)
 
+-- as many texts as entries
+pub texts_len : {A B : Type 0} (es : List (Entry A B)) → length (texts es) ≡ length es
+texts_len [] = refl
+texts_len (e ∷ es) = ap (λ n. suc n) (texts_len es)
+
 module _ {K V L W : Type 0} (f : V → Tree) (g : W → Tree) (es : List (Entry K V)) (fs : List (Entry L W)) (d : no_repeats (texts es) ≡ true) where
   mine : no_repeats (member_texts (entry_members f es)) ≡ true
   mine = ap no_repeats (texts_are f es) ∙ d
 
   lens : length es ≡ length fs → length (member_texts (entry_members f es)) ≡ length (member_texts (entry_members g fs))
-  lens e = ap length (texts_are f es) ∙ texts_len es ∙ e ∙ sym (texts_len fs) ∙ sym (ap length (texts_are g fs)) where
-    texts_len : {A B : Type 0} (es : List (Entry A B)) → length (texts es) ≡ length es
-    texts_len [] = refl
-    texts_len (e ∷ es) = ap (λ n. suc n) (texts_len es)
+  lens e = ap length (texts_are f es) ∙ texts_len es ∙ e ∙ sym (texts_len fs) ∙ sym (ap length (texts_are g fs))
 
   pub maps_same : length es ≡ length fs → EachFound (entry_members f es) (entry_members g fs) → Same (obj (entry_members f es)) (obj (entry_members g fs))
   maps_same e h = same_if_each (entry_members f es) (entry_members g fs) mine (lens e) h
@@ -135,10 +124,6 @@ module _ {K V L W : Type 0} (f : V → Tree) (g : W → Tree) (es : List (Entry 
 
   pub maps_len : no_repeats (texts fs) ≡ true → Same (obj (entry_members f es)) (obj (entry_members g fs)) → length es ≡ length fs
   maps_len d2 h = omega (arith, more, fewer, texts_len es, texts_len fs) where
-    texts_len : {A B : Type 0} (es : List (Entry A B)) → length (texts es) ≡ length es
-    texts_len [] = refl
-    texts_len (e ∷ es) = ap (λ n. suc n) (texts_len es)
-
     more : length (texts fs) ≤ length (texts es)
     more = within_len (texts fs) (texts es) d2 (λ x e. ap (is_seen x) (sym (texts_are f es)) ∙ same_within (entry_members f es) (entry_members g fs) h x (ap (is_seen x) (texts_are g fs) ∙ e))
 
@@ -151,17 +136,12 @@ pub near_there : {K V : Type 0} (t : K → List ℕ) (es : List (Entry K V)) (s 
 near_there t es s u None h e = (tt, subst (λ u. EachThere (entries_of t u) es) (sym e.1) tt)
 near_there t es s u (Some p) h e = subst (λ s. EachThere (entries_of t s) es) (rest_more deref_pair s u (Some p) p refl e) h
 
-items_len : (is js : Items) → SameItems is js → items_count is ≡ items_count js
-items_len no_items js h = ap items_count (sym h)
-items_len (item t is) no_items h = absurd h
-items_len (item t is) (item u js) h = ap (λ n. suc n) (items_len is js h.1)
-
 module _ {A B : Type 0} (f : A → Tree) (g : B → Tree) where
   abbrev pub SameFrom : ℕ → List A → List B → Type 0
   SameFrom i xs ys = SameItems (items_from (map f (drop i xs))) (items_from (map g (drop i ys)))
 
   pub lens_same : (xs : List A) (ys : List B) → SameFrom 0 xs ys → length xs ≡ length ys
-  lens_same xs ys h = sym (counted f xs) ∙ items_len _ _ h ∙ counted g ys where
+  lens_same xs ys h = sym (counted f xs) ∙ same_items_len _ _ h ∙ counted g ys where
     counted : {C : Type 0} (f : C → Tree) (xs : List C) → items_count (items_from (map f xs)) ≡ length xs
     counted f [] = refl
     counted f (x ∷ xs) = ap (λ n. suc n) (counted f xs)

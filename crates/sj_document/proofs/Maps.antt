@@ -9,6 +9,8 @@ use Rattle.sj_object.specs.Texts.{no_repeats, or_of_false, or_false, not_and, no
 use Rattle.sj_object.specs.Entries.{Entry, texts}
 use Rattle.sj_object.specs.Edits.{lookup}
 use Rattle.sj_document.specs.SameWith.{SameIn, value_at, EachHas, SameEntries}
+use Rattle.sj_text_core.proofs.Comparing.{by_either}
+use Rattle.sj_document.proofs.Compared.{seen_by, contra, texts_len}
 use Rattle.sj_document.proofs.Subsets.{Within, within_len, within_back}
 
 absent_by : {V : Type 0} (b x : Bool) (v : V) (r : Option V) → (b || x) ≡ false → (x ≡ false → r ≡ None) → (if b then Some v else r) ≡ None
@@ -62,14 +64,6 @@ module _ {L X : Type 0} (text : L → List ℕ) where
     names_apart [] h = refl
     names_apart (p ∷ ps) h = not_and_of (is_seen (text p.0) (names ps)) (no_repeats (names ps)) (none_after p.0 ps h.0) (names_apart ps h.1)
 
-either : (b : Bool) (P : Type 0) → (b ≡ true → P) → (b ≡ false → P) → P
-either true P f g = f refl
-either false P f g = g refl
-
-contra : (a b : Bool) → (b ≡ true → a ≡ true) → a ≡ false → b ≡ false
-contra a true f e = absurd (true≢false (sym (f refl) ∙ e))
-contra a false f e = refl
-
 module _ {K L D X : Type 0} (R : D → X → Type 0) (text : L → List ℕ) (es : List (Entry K D)) where
   in_by : (a : Option D) (b : Option X) → SameIn R a b → a ≡ None → b ≡ None
   in_by None b h e = h
@@ -89,11 +83,7 @@ module _ {K L D X : Type 0} (R : D → X → Type 0) (text : L → List ℕ) (es
   some_in (Some d) x h = h
 
   there : (k : List ℕ) (x : X) → MatchOption (lookup k es) ⊥ (λ d. R d x) → is_seen k (texts es) ≡ true
-  there k x h = either (is_seen k (texts es)) _ (λ b. b) (λ b. absurd (subst (λ f. MatchOption f ⊥ (λ d. R d x)) (lookup_absent k es b) h))
-
-  seen_by : (x k : List ℕ) (ks ls : List (List ℕ)) (b : Bool) → bytes_eq x k ≡ b → (b || is_seen x ks) ≡ true → is_seen k ls ≡ true → (is_seen x ks ≡ true → is_seen x ls ≡ true) → is_seen x ls ≡ true
-  seen_by x k ks ls true d e h f = ap (λ y. is_seen y ls) ((bytes_eq-Decides x k).0 d) ∙ h
-  seen_by x k ks ls false d e h f = f e
+  there k x h = by_either (is_seen k (texts es)) _ (λ b. b) (λ b. absurd (subst (λ f. MatchOption f ⊥ (λ d. R d x)) (lookup_absent k es b) h))
 
   has_within : (ps : List (L × X)) → EachHas R text es ps → Within (names text ps) (texts es)
   has_within [] h = λ x e. cc
@@ -112,10 +102,6 @@ module _ {K L D X : Type 0} (R : D → X → Type 0) (text : L → List ℕ) (es
   each_at k [] h n = both_none (lookup k es) (n refl)
   each_at k (p ∷ ps) h n = found_by k (text p.0) p.1 (value_at text k ps) (bytes_eq k (text p.0)) refl h.0 n (λ n. each_at k ps h.1 n)
 
-  texts_len : (es : List (Entry K D)) → length (texts es) ≡ length es
-  texts_len [] = refl
-  texts_len (e ∷ es) = ap (λ n. suc n) (texts_len es)
-
   -- as many, and each there: the same at every text
   pub same_from_each : (ps : List (L × X)) → no_repeats (names text ps) ≡ true → length es ≡ length ps → EachHas R text es ps → SameEntries R text es ps
   same_from_each ps d e h = λ k. each_at k ps h (λ n. lookup_absent k es (contra (is_seen k (names text ps)) (is_seen k (texts es))
@@ -125,11 +111,11 @@ module _ {K L D X : Type 0} (R : D → X → Type 0) (text : L → List ℕ) (es
   pub len_from_same : (ps : List (L × X)) → no_repeats (texts es) ≡ true → no_repeats (names text ps) ≡ true → SameEntries R text es ps → length es ≡ length ps
   len_from_same ps d f h = omega (arith, more, fewer, texts_len es, names_len text ps) where
     more : length (texts es) ≤ length (names text ps)
-    more = within_len (texts es) (names text ps) d (λ k e. either (is_seen k (names text ps)) _ (λ b. b)
+    more = within_len (texts es) (names text ps) d (λ k e. by_either (is_seen k (names text ps)) _ (λ b. b)
         (λ b. absurd (true≢false (sym e ∙ lookup_missing k es (in_back (lookup k es) (value_at text k ps) (h k) (value_absent text k ps b))))))
 
     fewer : length (names text ps) ≤ length (texts es)
-    fewer = within_len (names text ps) (texts es) f (λ k e. either (is_seen k (texts es)) _ (λ b. b)
+    fewer = within_len (names text ps) (texts es) f (λ k e. by_either (is_seen k (texts es)) _ (λ b. b)
         (λ b. absurd (true≢false (sym e ∙ value_missing text k ps (in_by (lookup k es) (value_at text k ps) (h k) (lookup_absent k es b))))))
 
 module _ {L X : Type 0} (text : L → List ℕ) where

@@ -7,24 +7,13 @@ use Rattle.sj_text_core.specs.Keep.{is_seen}
 use Rattle.sj_text_core.specs.Reads.{as_members}
 use Rattle.sj_text_core.specs.Same.{Same, SameItems}
 use Rattle.sj_text_core.specs.Agree.{texts, is_before}
+use Rattle.sj_text_core.proofs.Shapes.{same_items_len}
 use Rattle.sj_object.specs.Texts.{no_repeats, not_and, or_of_false}
 use Rattle.sj_object.specs.Entries.{Entry, texts as entry_texts}
 use Rattle.sj_object.specs.Edits.{lookup}
 use Rattle.sj_object.specs.Members.{entry_members}
 use Rattle.sj_object.proofs.Shown.{lookup-entry_members}
-
-pub members_is : (t : Tree) (ms : Members) → Some ms ≡ as_members t → t ≡ obj ms
-members_is null ms e = cc
-members_is (boolean b) ms e = cc
-members_is (int n c) ms e = cc
-members_is (text s) ms e = cc
-members_is (list is) ms e = cc
-members_is (obj ns) ms e = cc
-
-count_same : (is js : Items) → SameItems is js → items_len is ≡ items_len js
-count_same no_items js h = ap items_len (sym h)
-count_same (item t is) no_items h = absurd h
-count_same (item t is) (item u js) h = ap (λ n. suc n) (count_same is js h.1)
+use Rattle.sj_document.proofs.Subsets.{or_right}
 
 module _ {B : Type 0} (g : B → Tree) where
   counted : (ys : List B) → items_len (items_from (map g ys)) ≡ length ys
@@ -32,7 +21,7 @@ module _ {B : Type 0} (g : B → Tree) where
   counted (y ∷ ys) = ap (λ n. suc n) (counted ys)
 
   pub lens_mixed : (is : Items) (ys : List B) → SameItems is (items_from (map g ys)) → items_len is ≡ length ys
-  lens_mixed is ys h = count_same is _ h ∙ counted ys
+  lens_mixed is ys h = same_items_len is _ h ∙ counted ys
 
   module _ (ahead next : List Tree) (x : Tree) (steps : ahead ≡ x ∷ next) (i : ℕ) (ys : List B) (y : B) (hy : i < length ys) (ey : y ≡ get_or ys i y) where
     abbrev Both : List Tree → List B → Type 0
@@ -70,10 +59,7 @@ at_place zero k u (q ∷ qs) more e = (λ j. (bytes_eq-Decides k q.0).1 same j |
   same : k ≡ q.0
   same = ap (λ (p : List ℕ × Tree). p.0) (sym (let f : q ≡ (k, u) = cc in f))
 at_place (suc n) k u [] more e = cc
-at_place (suc n) k u (q ∷ qs) more e = or_right (bytes_eq k q.0) (is_seen k (texts qs)) (at_place n k u qs more e) where
-  or_right : (b c : Bool) → c ≡ true → (b || c) ≡ true
-  or_right true c e = refl
-  or_right false c e = e
+at_place (suc n) k u (q ∷ qs) more e = or_right (bytes_eq k q.0) (is_seen k (texts qs)) (at_place n k u qs more e)
 
 other_text : (k l : List ℕ) (ks : List (List ℕ)) (b : Bool) → bytes_eq k l ≡ b → is_seen k ks ≡ true → is_seen l ks ≡ false → b ≡ false
 other_text k l ks true e h n = absurd (true≢false (sym h ∙ ap (λ x. is_seen x ks) ((bytes_eq-Decides k l).0 e) ∙ n))

@@ -39,7 +39,7 @@ other : (x k : List ℕ) (ks : List (List ℕ)) (b : Bool) → bytes_eq x k ≡ 
 other x k ks true d n h = absurd (true≢false (sym h ∙ ap (λ y. is_seen y ks) ((bytes_eq-Decides x k).0 d) ∙ n))
 other x k ks false d n h = refl
 
-or_right : (b c : Bool) → c ≡ true → (b || c) ≡ true
+pub or_right : (b c : Bool) → c ≡ true → (b || c) ≡ true
 or_right true c e = refl
 or_right false c e = e
 

@@ -28,14 +28,6 @@ module _ {T : Type 0} (t : T → List ℕ) where
   tree_of_mut None = refl
   tree_of_mut (Some v) = refl
 
-pub object_is : (t : Tree) (ms : Members) → Some ms ≡ as_members t → t ≡ obj ms
-object_is null ms e = cc
-object_is (boolean b) ms e = cc
-object_is (int n c) ms e = cc
-object_is (text s) ms e = cc
-object_is (list is) ms e = cc
-object_is (obj ns) ms e = cc
-
 pub some_before : {A B : Type 0} (f : A → B) (o : Option A) → IsSome (option_map f o) → IsSome o
 some_before f None h = h
 some_before f (Some x) h = h

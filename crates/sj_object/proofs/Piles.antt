@@ -13,7 +13,7 @@ use Rattle.sj_text_core.specs.declared.repeats.Repeats.{Repeats}
 use Rattle.sj_text_core.specs.declared.repeats.Repeats.TheVariants.{First, Last}
 use Rattle.sj_tape.specs.Marks.{static_mark}
 use Rattle.sj_text_core.specs.Scalars.{static_tree}
-use Rattle.sj_text_core.specs.Flat.{texts_and_values, trees_of-flat, trees_of-flat_members}
+use Rattle.sj_text_core.specs.Flat.{texts_and_values, trees_of-flat, trees_of-flat_members, trees_of-flat_items}
 use Rattle.sj_text_core.specs.declared.static_node.StaticNode.{StaticNode}
 use Rattle.sj_text_core.specs.declared.static_node.StaticNode.TheVariants as scalar
 use Rattle.sj_object.specs.Entries.{Entry, texts}
@@ -261,11 +261,6 @@ grown_static c (scalar.U128 n) ps = refl
 abbrev pub IsFull : Repeats → List Mark → Type 0
 IsFull c [] = Unit {0}
 IsFull c (m ∷ ns) = Needs m (ahead c ns) × IsFull c ns
-
-trees_of-flat_items : (is : Items) (ns : List Mark) → trees_of (flat_items is ++ ns) ≡ listed is ++ trees_of ns
-trees_of-flat_items no_items ns = refl
-trees_of-flat_items (item t is) ns =
-    rw (append_assoc (flat t) (flat_items is) ns, trees_of-flat t (flat_items is ++ ns), trees_of-flat_items is ns) refl
 
 enough : (c : Repeats) (is : Items) (ts : List Tree) → items_len is ≤ length (kept_seen c (listed is ++ ts))
 enough c no_items ts = omega arith

@@ -1,18 +1,11 @@
 -- A mask that is computed lane by lane is held to a test at each of the 256 bytes.
-use Rattle.std.proofs.Common.{◌≡◌, ℕ, zero, suc, ◌%◌, ◌^◌, ◌<◌, ◌≤◌, ltb, Bool, true, false, ◌&&◌, cond, eqb, T, List, [], ◌∷◌, map, length, ◌⊎◌, inl, inr, refl, sym, ap, ap₂, ◌∙◌, subst, arith, w8, Fits, not-suc-le-zero}
+use Rattle.std.proofs.Common.{◌≡◌, ℕ, zero, suc, ◌%◌, ◌^◌, ◌<◌, ◌≤◌, Bool, true, false, ◌&&◌, T, List, [], ◌∷◌, map, length, ◌==◌, ◌⊎◌, ⊎_elim, inl, inr, refl, sym, ap, ap₂, ◌∙◌, subst, arith, w8, Fits, not-suc-le-zero}
 use Rattle.std.specs.Bool.{beq}
 use Rattle.std.proofs.lemmas.Bool.{cases_order}
+use Rattle.std.proofs.lemmas.Bool.Decides.{eqb_tells}
 use Rattle.std.proofs.lemmas.Simd.{mask_l-mod}
 use Rattle.std.proofs.lemmas.List.{length-map}
-use lib.Bits.{bit_or}
-use lib.Lanes.{zip2, mask_l, top, Each1}
-
--- a lane that is equal, or below
-abbrev pub hit : ℕ → ℕ → ℕ
-hit a b = cond (eqb a b) 255 0
-
-abbrev pub below : ℕ → ℕ → ℕ
-below a b = cond (ltb a b) 255 0
+use lib.Lanes.{mask_l, top, Each1}
 
 -- a test that holds of each number below n, by computation
 abbrev pub upto : (ℕ → Bool) → ℕ → Bool
@@ -38,14 +31,6 @@ same_is false false h = refl
 same_is true false h = absurd h
 same_is false true h = absurd h
 
-zip2-map : (f g : ℕ → ℕ) (xs : List ℕ) → zip2 bit_or (map f xs) (map g xs) ≡ map (λ x. bit_or (f x) (g x)) xs
-zip2-map f g [] = refl
-zip2-map f g (x ∷ xs) = ap (λ r. bit_or (f x) (g x) ∷ r) (zip2-map f g xs)
-
--- two tests of the lanes, joined
-pub either : (f g : ℕ → ℕ) (v : List ℕ) {a b : List ℕ} → a ≡ map f v → b ≡ map g v → zip2 bit_or a b ≡ map (λ x. bit_or (f x) (g x)) v
-either f g v p q = ap₂ (zip2 bit_or) p q ∙ zip2-map f g v
-
 each_byte : (f : ℕ → ℕ) (p : ℕ → Bool) → T (upto (λ x. beq (top 7 (f x)) (p x)) 256) → (v : List ℕ) → Each1 (Fits w8) v → map (top 7) (map f v) ≡ map p v
 each_byte f p all [] fits = refl
 each_byte f p all (x ∷ xs) fits = ap₂ (λ a b. a ∷ b) (same_is _ _ (upto_sound (λ y. beq (top 7 (f y)) (p y)) 256 all x fits.0.fits)) (each_byte f p all xs fits.1)
@@ -55,3 +40,10 @@ pub masked : (f : ℕ → ℕ) (p : ℕ → Bool) (v z : List ℕ) → length v 
     → mask_l (map (top 7) z) % 2 ^ 64 ≡ mask_l (map p v)
 masked f p v z short fits e all =
     ap (λ l. mask_l l % 2 ^ 64) (ap (map (top 7)) e ∙ each_byte f p all v fits) ∙ mask_l-mod (map p v) 64 (omega (arith, length-map v p))
+
+is_same : (a b : ℕ) → T (a == b) → a ≡ b
+is_same a b h = ⊎_elim (λ q. q.1) (λ q. absurd (subst (λ t. T t) q.0 h)) (eqb_tells a b)
+
+-- what agrees at each byte, by computation
+pub agree : (f g : ℕ → ℕ) → T (upto (λ x. f x == g x) 256) → (x : ℕ) → x < 256 → f x ≡ g x
+agree f g all x lt = is_same (f x) (g x) (upto_sound (λ y. f y == g y) 256 all x lt)

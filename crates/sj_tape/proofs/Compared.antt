@@ -6,9 +6,9 @@ use Rattle.sj_text_core.specs.Find.{find_member}
 use Rattle.sj_text_core.specs.Keep.{is_seen}
 use Rattle.sj_text_core.specs.Same.{Same, SameItems}
 use Rattle.sj_text_core.specs.Agree.{HasTexts, Agree, is_before, texts}
-use Rattle.sj_text_core.proofs.Comparing.{not_found, not_there, agree_repeat, agree_found, agree_in_step, texts_in_step, not_same_absent, same_first, same_first_in_step, all_agree, same_in_step, not_same_extra}
+use Rattle.sj_text_core.proofs.Comparing.{by_either, not_found, not_there, agree_repeat, agree_found, agree_in_step, texts_in_step, not_same_absent, same_first, same_first_in_step, all_agree, same_in_step, not_same_extra}
+use Rattle.sj_text_core.proofs.Shapes.{members_from-paired}
 use Rattle.sj_tape.specs.Value.{as_scalar}
-use Rattle.sj_tape.proofs.Splits.{members_from-paired}
 
 -- a scalar is its tree
 pub scalar_is : (t u : Tree) → Some u ≡ as_scalar t → t ≡ u
@@ -18,15 +18,6 @@ scalar_is (int n c) u e = cc
 scalar_is (text s) u e = cc
 scalar_is (list is) u e = cc
 scalar_is (obj ms) u e = cc
-
-pub same_items_len : (is js : Items) → SameItems is js → items_len is ≡ items_len js
-same_items_len no_items js h = ap items_len (sym h)
-same_items_len (item t is) no_items h = absurd h
-same_items_len (item t is) (item u js) h = ap (λ n. suc n) (same_items_len is js h.1)
-
-pub items_from-listed : (is : Items) → items_from (listed is) ≡ is
-items_from-listed no_items = refl
-items_from-listed (item t is) = ap (item t) (items_from-listed is)
 
 pub length-listed : (is : Items) → length (listed is) ≡ items_len is
 length-listed no_items = refl
@@ -104,13 +95,9 @@ either_seen (suc n) k (p ∷ ps) P e f g = by (bytes_eq k p.0) (is_seen k (texts
 pub has_rest : (n : ℕ) (ps qs : List (List ℕ × Tree)) (ks : List (List ℕ)) → texts (take n ps) ≡ texts (take n qs) → ks ≡ texts qs → ((k : List ℕ) → is_seen k (drop n ks) ≡ true → is_seen k (texts ps) ≡ true) → HasTexts ps qs
 has_rest n ps qs ks w e h = λ k s. either_seen n k qs _ s (λ b. seen_before n k ps (ap (is_seen k) w ∙ b)) (λ b. h k (ap (λ ks. is_seen k (drop n ks)) e ∙ b))
 
-by_false : (b : Bool) (P : Type 0) → (b ≡ true → P) → (b ≡ false → P) → P
-by_false true P f g = f refl
-by_false false P f g = g refl
-
 -- a key that is found is there
 pub has_key : (k : List ℕ) (ms : Members) → (find_member k ms ≡ None → ⊥) → is_seen k (texts (paired ms)) ≡ true
-has_key k ms h = by_false (is_seen k (texts (paired ms))) _ (λ b. b) (λ b. absurd (h (ap (find_member k) (sym (members_from-paired ms)) ∙ not_found k (paired ms) b)))
+has_key k ms h = by_either (is_seen k (texts (paired ms))) _ (λ b. b) (λ b. absurd (h (ap (find_member k) (sym (members_from-paired ms)) ∙ not_found k (paired ms) b)))
 
 -- a key that is not found is not there
 pub has_not_key : (k : List ℕ) (ms : Members) → find_member k ms ≡ None → is_seen k (texts (paired ms)) ≡ true → ⊥
@@ -194,7 +181,7 @@ pub same_if_has : (n : ℕ) (ms ns : Members) (ahead : List (List ℕ × Tree)) 
 same_if_has n ms ns ahead e f a w = from_pairs ms ns (all_agree n (paired ms) (paired ns) (e ∙ f) a w)
 
 pub has_if_same : (ms ns : Members) → Same (obj ms) (obj ns) → HasTexts (paired ms) (paired ns)
-has_if_same ms ns h = λ k s. by_false (is_seen k (texts (paired ms))) _ (λ b. b) (λ b. absurd (not_same_extra k (paired ms) (paired ns) s (not_found k (paired ms) b) (to_pairs ms ns h)))
+has_if_same ms ns h = λ k s. by_either (is_seen k (texts (paired ms))) _ (λ b. b) (λ b. absurd (not_same_extra k (paired ms) (paired ns) s (not_found k (paired ms) b) (to_pairs ms ns h)))
 
 -- what a test's answer says
 pub allowed : (b : Bool) (P : Type 0) → (IsTrue b → P) × (P → IsTrue b) → b ≡ true → P

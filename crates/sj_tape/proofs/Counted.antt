@@ -11,9 +11,10 @@ use Rattle.sj_text_core.specs.Agree.{SameFound, HasTexts, texts}
 use Rattle.sj_text_core.specs.Repeats.{SameBy, by_first, keep_last, keep_last_items, keep_last_values, put_all, find_last_member, find_member_by}
 use Rattle.sj_text_core.specs.declared.repeats.Repeats.{Repeats}
 use Rattle.sj_text_core.specs.declared.repeats.Repeats.TheVariants.{First, Last}
-use Rattle.sj_text_core.proofs.Equality.{found_from_at, at_from_found}
+use Rattle.sj_text_core.proofs.Equality.{found_from_at, at_from_found, none_on}
+use Rattle.sj_text_core.proofs.Comparing.{by_either, absent_by as first_none, there_by as none_first}
 use Rattle.sj_text_core.proofs.Last.{find-keep_last}
-use Rattle.sj_tape.proofs.Compared.{same_items_len}
+use Rattle.sj_text_core.proofs.Shapes.{same_items_len}
 use Rattle.sj_tape.specs.Members.{chosen}
 
 -- one item of each, and those behind
@@ -78,10 +79,6 @@ from_each d ms ns h =
     (subst (λ o. SameFound (find_member k (firsts Last ms)) o) (sym (find_firsts d k ns))
     (subst (λ o. SameFound o (option_map (by_first d) (find_member_by d k ns))) (sym (find_firsts Last k ms)) (h k))))
 
-first_none : (b x : Bool) (t : Tree) (r : Option Tree) → (b || x) ≡ false → (x ≡ false → r ≡ None) → (if b then Some t else r) ≡ None
-first_none true x t r e h = cc
-first_none false x t r e h = h e
-
 last_none : (b x : Bool) (t : Tree) (r : Option Tree) → (b || x) ≡ false → (x ≡ false → r ≡ None) → option_or r (if b then Some t else None) ≡ None
 last_none true x t r e h = cc
 last_none false x t r e h = ap (λ r. option_or r None) (h e)
@@ -92,10 +89,6 @@ absent_by First k no_members e = refl
 absent_by First k (member l t ms) e = first_none (bytes_eq k l) (is_seen k (texts (paired ms))) t (find_member k ms) e (absent_by First k ms)
 absent_by Last k no_members e = refl
 absent_by Last k (member l t ms) e = last_none (bytes_eq k l) (is_seen k (texts (paired ms))) t (find_last_member k ms) e (absent_by Last k ms)
-
-none_first : (b x : Bool) (t : Tree) (r : Option Tree) → (if b then Some t else r) ≡ None → (r ≡ None → x ≡ false) → (b || x) ≡ false
-none_first true x t r e h = cc
-none_first false x t r e h = h e
 
 none_last : (b x : Bool) (t : Tree) (r : Option Tree) → option_or r (if b then Some t else None) ≡ None → (r ≡ None → x ≡ false) → (b || x) ≡ false
 none_last b x t (Some u) e h = cc
@@ -136,10 +129,6 @@ Counted d ms ns ahead = (k : List ℕ) → is_seen k (texts (paired ms)) ≡ tru
 pub counted_none : (d : Repeats) (ms ns : Members) (ahead : List (List ℕ × Tree)) → ahead ≡ paired ms → Counted d ms ns ahead
 counted_none d ms ns ahead e = λ k s n. absurd (true≢false (sym s ∙ ap (λ ps. is_seen k (texts ps)) (sym e) ∙ n))
 
-by_either : (b : Bool) (P : Type 0) → (b ≡ true → P) → (b ≡ false → P) → P
-by_either true P f g = f refl
-by_either false P f g = g refl
-
 neither : (b x : Bool) → b ≡ false → x ≡ false → (b || x) ≡ false
 neither true x e f = e
 neither false x e f = f
@@ -170,10 +159,6 @@ module _ (d : Repeats) (ms ns : Members) (k : List ℕ) (t : Tree) (ahead rest :
     pub not_same_last : find_member_by d k ns ≡ None → SameBy Last d (obj ms) (obj ns) → ⊥
     not_same_last f h = subst (λ g. SameFound (Some (keep_last t)) (option_map (by_first d) g)) f (subst (λ f. SameFound (option_map keep_last f) (option_map (by_first d) (find_member_by d k ns))) mine (each_counts d ms ns h k))
 
-no_text : (f g : Option Tree) → f ≡ None → SameFound f g → g ≡ None
-no_text None g e h = h
-no_text (Some t) g e h = cc
-
 map_none : (f : Tree → Tree) (o : Option Tree) → option_map f o ≡ None → o ≡ None
 map_none f None e = refl
 map_none f (Some t) e = cc
@@ -189,7 +174,7 @@ same_if_counted d ms ns ahead e h w = from_each d ms ns (λ k. by_either (is_see
 
 pub has_if_counted : (d : Repeats) (ms ns : Members) → SameBy Last d (obj ms) (obj ns) → HasTexts (paired ms) (paired ns)
 has_if_counted d ms ns h = λ k s. by_either (is_seen k (texts (paired ms))) _ (λ b. b)
-    (λ b. absurd (true≢false (sym s ∙ unseen_by d k ns (map_none (by_first d) (find_member_by d k ns) (no_text (option_map keep_last (find_last_member k ms)) _ (ap (option_map keep_last) (absent_by Last k ms b)) (each_counts d ms ns h k))))))
+    (λ b. absurd (true≢false (sym s ∙ unseen_by d k ns (map_none (by_first d) (find_member_by d k ns) (none_on (option_map keep_last (find_last_member k ms)) _ (ap (option_map keep_last) (absent_by Last k ms b)) (each_counts d ms ns h k))))))
 
 -- parts of one choice
 abbrev Part : Type 0
@@ -213,22 +198,6 @@ pub member_choice : (c : Repeats) (k : List ℕ) (p : Part) (qs : List (List ℕ
 member_choice c k p qs ps us e f =
     let g = pair_parts (k, p) (k, (c, p.1)) qs (chosen c us) (sym e ∙ ap (chosen c) f) in
     (ap (λ (q : List ℕ × (Repeats × Tree)). q.1.0) g.0, g.1)
-
-pub list_is : (t : Tree) (is : Items) → Some is ≡ as_items t → t ≡ list is
-list_is null is e = cc
-list_is (boolean b) is e = cc
-list_is (int n c) is e = cc
-list_is (text s) is e = cc
-list_is (list js) is e = ap list (cc)
-list_is (obj ms) is e = cc
-
-pub obj_is : (t : Tree) (ms : Members) → Some ms ≡ as_members t → t ≡ obj ms
-obj_is null ms e = cc
-obj_is (boolean b) ms e = cc
-obj_is (int n c) ms e = cc
-obj_is (text s) ms e = cc
-obj_is (list is) ms e = cc
-obj_is (obj ns) ms e = ap obj (cc)
 
 -- a leaf is what it is with either choice
 leaf_on : (t u : Tree) → as_items t ≡ None → as_members t ≡ None → Same t u → Same t (keep_last u)

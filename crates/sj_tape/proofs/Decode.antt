@@ -1,19 +1,7 @@
 -- Characters written over their own spelling.
 use Rattle.std.proofs.Common.{◌≡◌, set, ℕ, zero, suc, ◌+◌, ◌-◌, ◌<◌, ◌≤◌, List, [], ◌∷◌, ◌++◌, length, take, drop, get_or, refl, sym, ap, ◌∙◌, arith, append_assoc, length-append, length-drop}
 use Rattle.std.specs.Prelude.{slice_range}
-use Rattle.std.proofs.lemmas.List.{take-append-drop, drop_at, take_at, drop-drop, length-take-le, get_or-drop}
-
--- a front that is longer is shortened
-pub drop_front : (n : ℕ) (q y : List ℕ) → n ≤ length q → drop n (q ++ y) ≡ drop n q ++ y
-drop_front zero q y h = refl
-drop_front (suc n) [] y h = absurd (omega (arith, h))
-drop_front (suc n) (c ∷ q) y h = drop_front n q y (omega (arith, h))
-
--- of a longer front its own bytes are taken
-pub take_front : (n : ℕ) (q y : List ℕ) → n ≤ length q → take n (q ++ y) ≡ take n q
-take_front zero q y h = refl
-take_front (suc n) [] y h = absurd (omega (arith, h))
-take_front (suc n) (c ∷ q) y h = ap (λ l. c ∷ l) (take_front n q y (omega (arith, h)))
+use Rattle.std.proofs.lemmas.List.{take-append-le, drop-append-le, take-append-drop, drop_at, take_at, drop-drop, length-take-le, get_or-drop}
 
 -- b with f written at `to`
 abbrev pub written : List ℕ → ℕ → List ℕ → List ℕ
@@ -53,9 +41,9 @@ written_text b to f s h k =
     let le : s ≤ length a = omega (arith, front_len b to (omega (arith, h)), k) in
     let n : length (drop s a ++ f) ≡ to + length f - s = omega (arith, length-append (drop s a) f, length-drop s a, front_len b to (omega (arith, h)), k) in
     let m : length (drop s a) ≡ to - s = omega (arith, length-drop s a, front_len b to (omega (arith, h))) in
-    ap (λ l. take (to + length f - s) l) (drop_front s a (f ++ d) le ∙ sym (append_assoc (drop s a) f d))
+    ap (λ l. take (to + length f - s) l) (drop-append-le s a (f ++ d) le ∙ sym (append_assoc (drop s a) f d))
     ∙ (take_at (drop s a ++ f) d (to + length f - s) n
-    ∙ ap (λ l. l ++ f) (sym (ap (λ l. take (to - s) (drop s l)) (sym (take-append-drop to b)) ∙ (ap (λ l. take (to - s) l) (drop_front s a (drop to b) le) ∙ take_at (drop s a) (drop to b) (to - s) m))))
+    ∙ ap (λ l. l ++ f) (sym (ap (λ l. take (to - s) (drop s l)) (sym (take-append-drop to b)) ∙ (ap (λ l. take (to - s) l) (drop-append-le s a (drop to b) le) ∙ take_at (drop s a) (drop to b) (to - s) m))))
 
 -- the bytes ahead are as they were
 pub same_byte : (b old : List ℕ) (from i : ℕ) → from ≤ i → drop from b ≡ drop from old → get_or b i 0 ≡ get_or old i 0

@@ -8,7 +8,6 @@ pub mod Decode
 pub mod Digits
 pub mod Fronts
 pub mod Gives
-pub mod Lanes
 pub mod Lookups
 pub mod NodeMarks
 pub mod Overwrites
@@ -17,7 +16,6 @@ pub mod Places
 pub mod PlainRuns
 pub mod Preorders
 pub mod Reading
-pub mod Runs
 pub mod Scalars
 pub mod Sound
 pub mod Splits
@@ -26,6 +24,5 @@ pub mod Units
 pub mod Values
 pub mod Compared
 pub mod Counted
-pub mod Levels
 pub mod Yielded
 pub mod TypedReads

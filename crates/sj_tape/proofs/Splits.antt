@@ -194,7 +194,3 @@ string_node (Static (U128 m)) k e f = cc
 string_node (String s) k e f = f s refl
 string_node (Array l m) k e f = cc
 string_node (Object l m) k e f = cc
-
-pub members_from-paired : (ms : Members) → members_from (paired ms) ≡ ms
-members_from-paired no_members = refl
-members_from-paired (member k t ms) = ap (member k t) (members_from-paired ms)

@@ -23,7 +23,7 @@ pub from_pointwise : (ps qs : Pairs) → ((k : List ℕ) → SameFound (found k 
 from_pointwise ps qs h = λ k. at_from_found k (members_from ps) (found k qs) (h k)
 
 -- a text that none has is not found
-absent_by : (b x : Bool) (t : Tree) (r : Option Tree) → (b || x) ≡ false → (x ≡ false → r ≡ None) → (if b then Some t else r) ≡ None
+pub absent_by : (b x : Bool) (t : Tree) (r : Option Tree) → (b || x) ≡ false → (x ≡ false → r ≡ None) → (if b then Some t else r) ≡ None
 absent_by true x t r e h = cc
 absent_by false x t r e h = h e
 
@@ -31,7 +31,7 @@ pub not_found : (k : List ℕ) (ps : Pairs) → is_seen k (texts ps) ≡ false �
 not_found k [] e = refl
 not_found k (p ∷ ps) e = absent_by (bytes_eq k p.0) (is_seen k (texts ps)) p.1 (found k ps) e (not_found k ps)
 
-there_by : (b x : Bool) (t : Tree) (r : Option Tree) → (if b then Some t else r) ≡ None → (r ≡ None → x ≡ false) → (b || x) ≡ false
+pub there_by : (b x : Bool) (t : Tree) (r : Option Tree) → (if b then Some t else r) ≡ None → (r ≡ None → x ≡ false) → (b || x) ≡ false
 there_by true x t r e h = cc
 there_by false x t r e h = h e
 
@@ -86,7 +86,8 @@ agree_found n k t u ps qs rest e b f s a = λ l h.
     next_by (is_before n l ps) (bytes_eq l k) _ (sym (before_next n l k t ps rest e) ∙ h) (λ x. a l x)
     (λ x y. subst (λ l. SameFound (found l ps) (found l qs)) (sym ((bytes_eq-Decides l k).0 y)) (same_some t u _ _ (found_first n k t ps rest e b) f s))
 
-by_either : (b : Bool) (P : Type 0) → (b ≡ true → P) → (b ≡ false → P) → P
+-- by what a test answers
+pub by_either : (b : Bool) (P : Type 0) → (b ≡ true → P) → (b ≡ false → P) → P
 by_either true P f g = f refl
 by_either false P f g = g refl
 

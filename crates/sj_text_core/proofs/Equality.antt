@@ -91,7 +91,8 @@ mutual
   same_at-sym k no_members f h = none_back f h
   same_at-sym k (member l t ms) f h = back_by (bytes_eq k l) t (SameAt k ms f) (find_member k ms) f (λ u s. same-sym t u s) (same_at-sym k ms f) h
 
-none_on : (f g : Option Tree) → f ≡ None → SameFound f g → g ≡ None
+-- what is the same as nothing is nothing
+pub none_on : (f g : Option Tree) → f ≡ None → SameFound f g → g ≡ None
 none_on None g e h = h
 none_on (Some u) g e h = cc
 
@@ -155,10 +156,6 @@ mutual
   same_at-trans k (member l t ms) f g h i =
       on_by (bytes_eq k l) t (SameAt k ms f) (SameAt k ms g) f g (λ u v x y. same-trans t u v x y) (λ h. same_at-trans k ms f g h i) h i
 
-none_of : (f g : Option Tree) → SameFound f g → f ≡ None → g ≡ None
-none_of None g h e = h
-none_of (Some t) g h e = cc
-
 -- what the members do not have is absent
 pub none_found_at : (k : List ℕ) (ms : Members) (f : Option Tree) → SameAt k ms f → find_member k ms ≡ None → f ≡ None
-none_found_at k ms f h e = none_of (find_member k ms) f (found_from_at k ms f h) e
+none_found_at k ms f h e = none_on (find_member k ms) f e (found_from_at k ms f h)

@@ -15,3 +15,4 @@ pub mod Printed
 pub mod parse
 pub mod Back
 pub mod Unread
+pub mod Shapes

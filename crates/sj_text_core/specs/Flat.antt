@@ -38,7 +38,7 @@ mutual
   trees_of-flat (obj ms) ns =
       rw (trees_of-flat_members ms ns) (rw (members_of-texts_and_values ms (trees_of ns), drop-texts_and_values ms (trees_of ns)) refl)
 
-  trees_of-flat_items : (is : Items) (ns : List Mark) → trees_of (flat_items is ++ ns) ≡ listed is ++ trees_of ns
+  pub trees_of-flat_items : (is : Items) (ns : List Mark) → trees_of (flat_items is ++ ns) ≡ listed is ++ trees_of ns
   trees_of-flat_items no_items ns = refl
   trees_of-flat_items (item t is) ns =
       rw (append_assoc (flat t) (flat_items is) ns, trees_of-flat t (flat_items is ++ ns), trees_of-flat_items is ns) refl

@@ -11,6 +11,7 @@ use Rattle.sj_text_core.proofs.parse.Strings.{string_read}
 use Rattle.sj_text_core.proofs.parse.Numbers.{numeral_is}
 use Rattle.sj_text_core.proofs.parse.Steps.{is_space_of}
 use Rattle.sj_text_core.proofs.parse.Values.{value_by_other, value_is, in_list, in_obj}
+use Rattle.sj_text_core.proofs.Shapes.{items_from-listed, members_from-paired}
 
 -- no number goes on here
 pub record Ends (r : List ℕ) : Type 0 where
@@ -133,11 +134,6 @@ pub parts_step : {X : Type 0} (close : ℕ) (read : List ℕ → Read X) (n : �
 unfolding parts_at
 parts_step close read n b x y z e f = rw e f
 
--- items as a list and back
-pub items_from-listed : (is : Items) → items_from (listed is) ≡ is
-items_from-listed no_items = refl
-items_from-listed (item t is) = ap (λ k. item t k) (items_from-listed is)
-
 ends_items : (is : Items) (rest r : List ℕ) → MoreItems is rest → Ends (rest ++ (93 ∷ r))
 ends_items no_items rest r h = subst (λ l. Ends (l ++ (93 ∷ r))) (sym h) (record { digits = refl; plain = refl })
 ends_items (item t is) rest r h = subst (λ l. Ends (l ++ (93 ∷ r))) (sym h.2) (record { digits = refl; plain = refl })
@@ -196,11 +192,6 @@ list_read d t is inside r first rest e s m v k =
 
 in_brackets : (c close : ℕ) (i r : List ℕ) → (c ∷ (i ++ close ∷ [])) ++ r ≡ c ∷ (i ++ (close ∷ r))
 in_brackets c close i r = ap (λ l. c ∷ l) (append_assoc i (close ∷ []) r)
-
--- members as a list and back
-pub members_from-paired : (ms : Members) → members_from (paired ms) ≡ ms
-members_from-paired no_members = refl
-members_from-paired (member k t ms) = ap (λ l. member k t l) (members_from-paired ms)
 
 ends_members : (ms : Members) (rest r : List ℕ) → MoreMembers ms rest → Ends (rest ++ (125 ∷ r))
 ends_members no_members rest r h = subst (λ l. Ends (l ++ (125 ∷ r))) (sym h) (record { digits = refl; plain = refl })

@@ -8,7 +8,7 @@ use Rattle.std.specs.Int.{IsInRange}
 use lib.Utf8.{scalar_cases}
 use Rattle.std.proofs.lemmas.Bool.Decides.{nat_tests, eqb_tells}
 use Rattle.std.proofs.lemmas.Option.{none-some, option_and_then_some, some_pair_parts}
-use Rattle.std.proofs.lemmas.List.{take-append-drop, drop_at, length-drop}
+use Rattle.std.proofs.lemmas.List.{take-append-le, drop-append-le, get_or_append_left, take-append-drop, drop_at, length-drop}
 use Rattle.std.proofs.lemmas.Bool.{and_parts, lt-ltb}
 use Rattle.std.proofs.lemmas.Str.{encode_ascii, IsUtf8-drop, IsCharBoundary-after_ascii, length-encode}
 use Rattle.sj_text_core.specs.Grammar.{IsHexDigit, IsRaw, IsShort, IsCode, IsPair, IsItem, AreItems, IsString, short_escape}
@@ -151,28 +151,13 @@ escaped q r s u e ih =
     let there : text_at (drop p.1 x) ≡ Some (w.0, r) = sym (text_skip p.1 x) ∙ w.1 in
     let ends = text_ends 0 (drop p.1 x) w.0 r there in
     let fits : p.1 ≤ length q = omega (arith, ap (λ (l : List ℕ). length l) ends.1, length-append ends.0 (34 ∷ r), length-drop p.1 x, length-append q (34 ∷ r)) in
-    let back : drop p.1 x ≡ drop p.1 q ++ (34 ∷ r) = drop_front p.1 q (34 ∷ r) fits in
-    let front : take p.1 x ≡ take p.1 q = take_front p.1 q (34 ∷ r) fits in
-    let byte : get_or x (p.1 - 1) 0 ≡ get_or q (p.1 - 1) 0 = get_front (p.1 - 1) q (34 ∷ r) (omega (arith, k.some, fits)) in
+    let back : drop p.1 x ≡ drop p.1 q ++ (34 ∷ r) = drop-append-le p.1 q (34 ∷ r) fits in
+    let front : take p.1 x ≡ take p.1 q = take-append-le p.1 q (34 ∷ r) fits in
+    let byte : get_or x (p.1 - 1) 0 ≡ get_or q (p.1 - 1) 0 = get_or_append_left q (34 ∷ r) 0 (p.1 - 1) (omega (arith, k.some, fits)) in
     one_more p.0 (92 ∷ q) (92 ∷ take p.1 q) (drop p.1 q) s w.0 (ap (λ l. 92 ∷ l) (sym (take-append-drop p.1 q)))
     (subst (λ l. IsItem p.0 (92 ∷ l)) front k.item)
     (ih (drop p.1 q) w.0 (omega (arith, length-drop p.1 q)) (utf8_behind q p.1 k.some fits (subst (λ (n : ℕ). n < 128) byte k.ascii) u) (ap (λ l. text_at l) (sym back) ∙ there))
     w.2)
-  where
-    drop_front : (n : ℕ) (q y : List ℕ) → n ≤ length q → drop n (q ++ y) ≡ drop n q ++ y
-    drop_front zero q y h = refl
-    drop_front (suc n) [] y h = absurd (omega (arith, h))
-    drop_front (suc n) (c ∷ q) y h = drop_front n q y (omega (arith, h))
-
-    take_front : (n : ℕ) (q y : List ℕ) → n ≤ length q → take n (q ++ y) ≡ take n q
-    take_front zero q y h = refl
-    take_front (suc n) [] y h = absurd (omega (arith, h))
-    take_front (suc n) (c ∷ q) y h = ap (λ l. c ∷ l) (take_front n q y (omega (arith, h)))
-
-    get_front : (n : ℕ) (q y : List ℕ) → n < length q → get_or (q ++ y) n 0 ≡ get_or q n 0
-    get_front n [] y h = absurd (omega (arith, h))
-    get_front zero (c ∷ q) y h = refl
-    get_front (suc n) (c ∷ q) y h = get_front n q y (omega (arith, h))
 
 by_char : (k : ℕ) → IsScalar k → Byte k → (q p r s : List ℕ) → p ≡ encode_utf8 k ++ q → IsUtf8 q → text_at (p ++ (34 ∷ r)) ≡ Some (s, r) → Shorter p r → Items s p
 by_char k sc (quote z) q p r s f u e ih =

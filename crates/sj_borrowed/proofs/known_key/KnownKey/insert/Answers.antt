@@ -2,10 +2,10 @@ use Rattle.std.proofs.Common.{◌≡◌, sym, ap, ◌∙◌}
 use Rattle.std.specs.Cow.{cow_str_bytes}
 use Rattle.sj_text_core.specs.Tree.{obj}
 use Rattle.sj_text_core.specs.Edits as members
+use Rattle.sj_text_core.proofs.Shapes.{obj_is}
 use Rattle.sj_object.specs.Members.{entry_members}
 use Rattle.sj_object.proofs.Shown.{entry_members-put}
 use Rattle.sj_document.specs.Document.{tree, with_member}
-use Rattle.sj_document.proofs.Trees.{object_is}
 use Rattle.sj_borrowed.proofs.Objects.{found_in, there}
 use Rattle.sj_borrowed.proofs.known_key.KnownKey.insert.Goals as goal
 
@@ -24,12 +24,12 @@ returns-in-Ok-clause-after c =
     left ∙ ap (λ es. obj (entry_members (tree cow_str_bytes) es)) p.2
     ∙ ap obj (entry_members-put (tree cow_str_bytes) (p.0, cow_str_bytes p.0) c.args.value m.entries)
     ∙ ap (λ s. obj (members.put s w (entry_members (tree cow_str_bytes) m.entries))) p.1.0
-    ∙ ap (with_member k w) (sym (object_is _ _ c.in-Some.ensures.value))
+    ∙ ap (with_member k w) (sym (obj_is _ _ c.in-Some.ensures.value))
 
 pub returns-in-Err-clause-refused : goal.returns-in-Err-clause-refused
 returns-in-Err-clause-refused c =
     let left = rw c.in-Some.is at (c.as_object_mut.follows.holds c.map_insert.new.map) in
-    left ∙ ap (λ m. obj (entry_members (tree cow_str_bytes) m.entries)) c.in-Err.ensures.refused ∙ sym (object_is _ _ c.in-Some.ensures.value)
+    left ∙ ap (λ m. obj (entry_members (tree cow_str_bytes) m.entries)) c.in-Err.ensures.refused ∙ sym (obj_is _ _ c.in-Some.ensures.value)
 
 pub returns-in-Err-clause-succeeds : goal.returns-in-Err-clause-succeeds
 returns-in-Err-clause-succeeds c =

@@ -1,10 +1,10 @@
 use Rattle.std.proofs.Common.{◌≡◌, ◌∙◌, ap, sym, ℕ, List, ◌∷◌, cond, Option, Some, Bool, bytes_eq}
 use Rattle.sj_text_core.specs.Find.{find_member}
 use Rattle.sj_text_core.specs.Tree.{Tree, members_from}
+use Rattle.sj_text_core.proofs.Shapes.{members_from-paired}
 use Rattle.sj_tape.specs.Members.{members, members_ahead}
 use Rattle.sj_tape.specs.Value.{tree, part}
 use Rattle.sj_tape.proofs.Chosen.{member_step}
-use Rattle.sj_tape.proofs.Splits.{members_from-paired}
 use Rattle.sj_tape.proofs.object.Object.first.Goals as goal
 
 -- the lookup by the test of the first pair

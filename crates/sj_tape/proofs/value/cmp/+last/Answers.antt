@@ -5,11 +5,12 @@ use Rattle.sj_text_core.specs.Agree.{HasTexts, texts}
 use Rattle.sj_text_core.specs.Keep.{is_seen}
 use Rattle.sj_text_core.specs.Repeats.{by_first, keep_last}
 use Rattle.sj_text_core.specs.declared.repeats.Repeats.TheVariants.{Last}
+use Rattle.sj_text_core.proofs.Shapes.{items_from-listed}
 use Rattle.sj_tape.specs.Items.{items, items_ahead, parts_ahead, array_choice}
 use Rattle.sj_tape.specs.Members.{members, members_ahead, object_choice, parts_ahead as pairs_ahead}
 use Rattle.sj_tape.specs.Value.{tree, choice, part}
 use Rattle.sj_tape.proofs.Chosen.{item_step, items_end, member_step, members_end}
-use Rattle.sj_tape.proofs.Compared.{items_from-listed, length-listed, none_left, place_within, length-paired, drop_next, pair_within, allowed, denied}
+use Rattle.sj_tape.proofs.Compared.{length-listed, none_left, place_within, length-paired, drop_next, pair_within, allowed, denied}
 use Rattle.sj_tape.proofs.Counted.{items_taken, items_joined, into_items, from_items, part_choice, member_choice, parts, lens_by, moved, by_choice, leaf_by, by_leaf, counted_again, counted_same, same_last, not_same_last, same_if_counted, has_if_counted}
 use Rattle.sj_tape.proofs.value.cmp.+last.Goals as goal
 

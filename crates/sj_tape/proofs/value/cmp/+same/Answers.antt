@@ -1,12 +1,13 @@
 use Rattle.std.proofs.Common.{◌≡◌, List, ◌+◌, ◌<◌, ◌^◌, ◌↔◌, refl, sym, ap, ◌∙◌, arith, rules, length, IsTrue, bytes_eq}
 use Rattle.sj_text_core.specs.Tree.{Tree, items_depth, items_from, listed, paired}
 use Rattle.sj_text_core.specs.Agree.{HasTexts, is_before}
+use Rattle.sj_text_core.proofs.Shapes.{items_from-listed, same_items_len}
 use Rattle.sj_tape.specs.Items.{items, items_ahead}
 use Rattle.sj_tape.specs.Members.{members, members_ahead}
 use Rattle.sj_tape.specs.Value.{tree, part}
 use Rattle.sj_tape.proofs.Chosen.{item_step, items_end, member_step, members_end}
 use Rattle.sj_tape.proofs.Counted.{items_taken, items_joined}
-use Rattle.sj_tape.proofs.Compared.{same_items_len, items_from-listed, length-listed, none_left, place_within, length-paired, drop_next, pair_within, same_here, further_repeat, further_in_step, texts_further, same_at_end, same_found, differ_absent, further_found, same_if_has, has_if_same, allowed, denied, agree_less}
+use Rattle.sj_tape.proofs.Compared.{length-listed, none_left, place_within, length-paired, drop_next, pair_within, same_here, further_repeat, further_in_step, texts_further, same_at_end, same_found, differ_absent, further_found, same_if_has, has_if_same, allowed, denied, agree_less}
 use Rattle.sj_tape.proofs.value.cmp.+same.Goals as goal
 use Rattle.sj_tape.proofs.value.cmp.+same.Goals.{same_members-else-not-same_values-via-then-not-same_values+else-not-has_before, same_members-else-not-same_values-via-else-not-same_values, same_rest-then-at-place+then-not-has_before+in-Some-first+else-not-same_values, same_rest-else-at-place, same_rest-else-at-place-via-then-at-place+else-not-has_before, same_rest-else-at-place-via-else-at-place}
 

@@ -5,22 +5,23 @@ use Rattle.sj_text_core.specs.Agree.{HasTexts, texts}
 use Rattle.sj_text_core.specs.Keep.{is_seen}
 use Rattle.sj_text_core.specs.Repeats.{keep_last, keep_last_items}
 use Rattle.sj_text_core.specs.declared.repeats.Repeats.TheVariants.{First, Last}
+use Rattle.sj_text_core.proofs.Shapes.{items_from-listed, obj_is}
 use Rattle.sj_tape.specs.Items.{items, items_ahead, parts_ahead}
 use Rattle.sj_tape.specs.Members.{members, members_ahead, parts_ahead as pairs_ahead}
 use Rattle.sj_tape.specs.Value.{tree as tape_tree, part}
 use Rattle.sj_tape.proofs.Chosen.{item_step, member_step, members_end}
-use Rattle.sj_tape.proofs.Compared.{items_from-listed, length-listed, place_within, length-paired, drop_next, pair_within, allowed, denied}
+use Rattle.sj_tape.proofs.Compared.{length-listed, place_within, length-paired, drop_next, pair_within, allowed, denied}
 use Rattle.sj_tape.proofs.Counted.{part_choice, member_choice, parts, items_last, len_last, counted_again, counted_same, same_last, not_same_last, same_if_counted, has_if_counted}
 use Rattle.sj_object.specs.Members.{entry_members}
 use Rattle.sj_document.specs.Document.{tree}
 use Rattle.sj_document.proofs.Trees.{tree-Object}
-use Rattle.sj_document.proofs.Mixed.{members_is, lens_mixed, taken_mixed, joined_mixed, lens_next, found_at, absent_at}
+use Rattle.sj_document.proofs.Mixed.{lens_mixed, taken_mixed, joined_mixed, lens_next, found_at, absent_at}
 use Rattle.sj_document.proofs.value.cmp.tape.+last.Goals as goal
 
 pub last_as_tape-returns-in-Some-as_object : goal.last_as_tape-returns-in-Some-as_object
 last_as_tape-returns-in-Some-as_object g r c =
     let u = g.T.KeyText.text_of in
-    let mine = members_is (tape_tree c.args.left) (members c.in-Some-as_object.members) c.in-Some-as_object.ensures.members in
+    let mine = obj_is (tape_tree c.args.left) (members c.in-Some-as_object.members) c.in-Some-as_object.ensures.members in
     let other = ap (tree u) c.in-Object.is ∙ tree-Object u c.in-Object.others ∙ ap (λ m. obj (entry_members (tree u) m.entries)) (sym c.deref-in-Some-as_object.ensures) in
     rw (mine, other) c.last_members.ensures
 

@@ -1,24 +1,25 @@
 use Rattle.std.proofs.Common.{◌≡◌, ◌+◌, ◌<◌, ◌^◌, ◌↔◌, refl, sym, ap, ◌∙◌, arith, rules, length, IsTrue, bytes_eq}
 use Rattle.sj_text_core.specs.Tree.{obj, items_depth, items_from, paired}
 use Rattle.sj_text_core.specs.Agree.{HasTexts, is_before}
+use Rattle.sj_text_core.proofs.Shapes.{items_from-listed, obj_is}
 use Rattle.sj_tape.specs.Items.{items, items_ahead}
 use Rattle.sj_tape.specs.Members.{members, members_ahead}
 use Rattle.sj_tape.specs.Value.{tree as tape_tree, part}
 use Rattle.sj_tape.proofs.Chosen.{item_step, member_step, members_end}
-use Rattle.sj_tape.proofs.Compared.{items_from-listed, length-listed, place_within, length-paired, drop_next, pair_within, same_here, further_repeat, further_in_step, texts_further, same_at_end, same_found, differ_absent, further_found, same_if_has, has_if_same, allowed, denied, agree_less}
+use Rattle.sj_tape.proofs.Compared.{length-listed, place_within, length-paired, drop_next, pair_within, same_here, further_repeat, further_in_step, texts_further, same_at_end, same_found, differ_absent, further_found, same_if_has, has_if_same, allowed, denied, agree_less}
 use Rattle.sj_object.specs.Texts.{no_repeats}
 use Rattle.sj_object.specs.Entries.{entries_of}
 use Rattle.sj_object.specs.Members.{entry_members}
 use Rattle.sj_document.specs.Document.{tree}
 use Rattle.sj_document.proofs.Trees.{tree-Object}
-use Rattle.sj_document.proofs.Mixed.{members_is, lens_mixed, taken_mixed, joined_mixed, lens_next, texts_paired, found_at, absent_at, first_here}
+use Rattle.sj_document.proofs.Mixed.{lens_mixed, taken_mixed, joined_mixed, lens_next, texts_paired, found_at, absent_at, first_here}
 use Rattle.sj_document.proofs.value.cmp.tape.+same.Goals as goal
 use Rattle.sj_document.proofs.value.cmp.tape.+same.Goals.{same_rest-then-at-place+then-not-has_before+in-Some-get+else-not-first_as_tape, same_rest-else-at-place, same_rest-else-at-place-via-then-at-place+else-not-has_before, same_rest-else-at-place-via-else-at-place}
 
 pub first_as_tape-returns-in-Some-as_object : goal.first_as_tape-returns-in-Some-as_object
 first_as_tape-returns-in-Some-as_object g r c =
     let u = g.T.KeyText.text_of in
-    let mine = members_is (tape_tree c.args.left) (members c.in-Some-as_object.members) c.in-Some-as_object.ensures.members in
+    let mine = obj_is (tape_tree c.args.left) (members c.in-Some-as_object.members) c.in-Some-as_object.ensures.members in
     let other = ap (tree u) c.in-Object.is ∙ tree-Object u c.in-Object.others ∙ ap (λ m. obj (entry_members (tree u) m.entries)) (sym c.deref-in-Some-as_object.ensures) in
     rw (mine, other) c.same_members.ensures
 

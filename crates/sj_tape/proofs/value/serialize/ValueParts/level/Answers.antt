@@ -1,10 +1,9 @@
 use Rattle.std.proofs.Common.{sym, ap, ◌∙◌}
 use Rattle.sj_text_core.specs.Tree.{list, obj, items_from, members_from}
+use Rattle.sj_text_core.proofs.Shapes.{items_from-listed, members_from-paired, list_is, obj_is}
 use Rattle.sj_tape.specs.Items.{items}
 use Rattle.sj_tape.specs.Members.{members}
 use Rattle.sj_tape.specs.Value.{tree}
-use Rattle.sj_tape.proofs.Splits.{members_from-paired}
-use Rattle.sj_tape.proofs.Levels.{items_from-listed, list_is, obj_is}
 use Rattle.sj_tape.proofs.value.serialize.ValueParts.level.Goals as goal
 
 pub returns-in-Some-as_array : goal.returns-in-Some-as_array
