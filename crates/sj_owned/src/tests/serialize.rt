@@ -27,6 +27,7 @@ fn scalars_and_texts(rt: HostRuntime) -> Result<(), Fail> {
     for (value, print, shown) in rows {
         assert_eq!(rt; value.encode(alloc)?.as_str(), print);
         assert_eq!(rt; format!(in alloc; "{value}")?.as_str(), shown);
+        assert!(rt; laws::reads_back(alloc, &value)?, "{print}");
     }
     let value = parsed(alloc, " { \"k\" : null } ")?;
     assert_eq!(rt; value.encode(alloc)?.as_str(), "{\"k\":null}");
@@ -44,6 +45,7 @@ fn lines(rt: HostRuntime) -> Result<(), Fail> {
     );
     let value = parsed(alloc, "{\"q\\\"k\":\"a\\/b\\u0041\"}")?;
     assert_eq!(rt; value.encode(alloc)?.as_str(), "{\"q\\\"k\":\"a/bA\"}");
+    assert!(rt; laws::reads_back(alloc, &value)?);
     let mut out = b"> ".to_vec(alloc)?;
     value.write(&mut out)?;
     assert_eq!(rt; out.as_slice(), b"> {\"q\\\"k\":\"a/bA\"}".as_slice());

@@ -1,6 +1,6 @@
 //! Prints of tapes.
 
-use crate::{ErrorKind, Node, Repeats, StaticNode, Tape, Writable, to_tape};
+use crate::{ErrorKind, Node, Repeats, StaticNode, Tape, Writable, laws, to_tape};
 use std::test::Fail;
 
 /// A text, and what it prints.
@@ -28,6 +28,7 @@ fn compact_prints(rt: HostRuntime) -> Result<(), Fail> {
             let mut appended = b"before ".to_vec(rt.alloc())?;
             appended.extend_from_slice(wanted.as_bytes())?;
             assert_eq!(rt; out.as_slice(), appended.as_slice());
+            assert!(rt; laws::reads_back(rt.alloc(), &whole)?, "{text}");
         }
     }
     Ok(())
@@ -105,5 +106,27 @@ fn prints_deeper_than_the_limit(rt: HostRuntime) -> Result<(), Fail> {
         to_tape(rt.alloc(), bytes.as_mut_slice()).err(),
         Some(ErrorKind::TooDeep)
     );
+    assert!(rt; !laws::reads_back(rt.alloc(), &tape.as_value())?);
+    Ok(())
+}
+
+#[test]
+fn carriers_are_not_printed(rt: HostRuntime) -> Result<(), Fail> {
+    let numbers = [
+        (StaticNode::U64(5), StaticNode::I64(5), true),
+        (StaticNode::U64(5), StaticNode::U128(5), true),
+        (StaticNode::I64(-5), StaticNode::I128(-5), true),
+        (StaticNode::U64(5), StaticNode::I64(-5), false),
+        (StaticNode::Null, StaticNode::Bool(false), false),
+    ];
+    for (one, other, alike) in numbers {
+        let left = Tape::new([Node::Static(one)].to_vec(rt.alloc())?)?;
+        let right = Tape::new([Node::Static(other)].to_vec(rt.alloc())?)?;
+        let (left, right) = (left.as_value(), right.as_value());
+        for pretty in [false, true] {
+            let answer = laws::prints_alike(rt.alloc(), &left, &right, pretty)?;
+            assert_eq!(rt; answer, alike, "{one:?}, {other:?}");
+        }
+    }
     Ok(())
 }
