@@ -2,3 +2,17 @@ pub mod Document
 pub mod Rows
 pub mod SameWith
 pub mod Makes
+pub use Rattle.sj_text_core.specs.Tree
+pub use Rattle.sj_text_core.specs.Find
+pub use Rattle.sj_text_core.specs.Paths
+pub use Rattle.sj_text_core.specs.Repeats
+pub use Rattle.sj_text_core.specs.Same
+pub use Rattle.sj_text_core.specs.Equal
+pub use Rattle.sj_text_core.specs.Print
+pub use Rattle.sj_text_core.specs.Scalars
+pub use Rattle.sj_text_core.specs.Reads
+pub use Rattle.sj_object.specs.Entries
+pub use Rattle.sj_object.specs.Members
+pub use Rattle.sj_object.specs.Edits
+pub use Rattle.sj_object.specs.Keys
+pub use Rattle.sj_tape.specs.Value
