@@ -11,9 +11,10 @@ returns-in-Ok c =
     let t = tree c.args.value.now in
     let b = c.as_mut_slice.result.now in
     let s = subst (λ l. Spells l (recarry t)) (sym (c.as_mut_slice.ensures.value ∙ ap (λ v. v.items) c.into_bytes-bytes.ensures.value)) c.requires in
-    let read = same_by_back t b s (choice c.args.value.now) c.in-Ok.tape c.in-Ok.ensures.spelled in
-    (λ _. within_back t b s c.in-Ok.tape c.in-Ok.ensures.spelled c.in-Ok.ensures.within,
-     λ _. c.same_as.ensures.1 (rw (c.as_value_repeats.ensures.tree, c.as_value_repeats.ensures.choice, c.repeats.ensures) read))
+    let read = same_by_back t b s (choice c.args.value.now) c.in-Ok.tape c.in-Ok.ensures.spelled in (
+      λ _. within_back t b s c.in-Ok.tape c.in-Ok.ensures.spelled c.in-Ok.ensures.within,
+      λ _. c.same_as.ensures.1 (rw (c.as_value_repeats.ensures.tree, c.as_value_repeats.ensures.choice, c.repeats.ensures) read),
+    )
 
 pub returns : goal.returns
 returns c =
