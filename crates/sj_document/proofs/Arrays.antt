@@ -3,10 +3,9 @@ use Rattle.std.proofs.Common.{◌≡◌, ℕ, zero, suc, ◌+◌, ◌<◌, ◌�
 use Rattle.std.specs.Option.{option_to_list, MatchOption}
 use Rattle.std.specs.Vec.{vec_len}
 use Rattle.std.specs.List.{HoldsAt}
-use Rattle.sj_text_core.specs.Tree.{Tree, null, boolean, int, text, list, obj, Items, item, items_from}
+use Rattle.sj_text_core.specs.Tree.{Tree, Items, item, items_from}
 use Rattle.sj_text_core.specs.Find.{nth_item}
 use Rattle.sj_text_core.specs.Edits.{push, front, last}
-use Rattle.sj_text_core.specs.Reads.{as_items}
 use Rattle.sj_document.specs.Document.{tree as tree_by}
 use Rattle.sj_document.specs.declared.value.Document.{Document}
 

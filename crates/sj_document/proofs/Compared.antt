@@ -6,7 +6,7 @@ use Rattle.std.proofs.lemmas.Map.Iter.{rest_more}
 use Rattle.std.proofs.lemmas.List.{drop_all}
 use Rattle.std.proofs.lemmas.Option.{MatchOption-at_some, MatchOption-at_none}
 use Rattle.std.proofs.lemmas.Slice.Eq.{bytes_eq-Decides}
-use Rattle.sj_text_core.specs.Tree.{Tree, obj, Items, no_items, item, items_len as items_count, items_from, Members, no_members, member}
+use Rattle.sj_text_core.specs.Tree.{Tree, obj, items_len as items_count, items_from, Members, no_members, member}
 use Rattle.sj_text_core.specs.Find.{find_member}
 use Rattle.sj_text_core.specs.Keep.{is_seen}
 use Rattle.sj_text_core.specs.Same.{Same, SameItems}

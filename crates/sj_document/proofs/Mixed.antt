@@ -1,10 +1,9 @@
 -- A part of a tape and a document, compared.
 use Rattle.std.proofs.Common.{◌≡◌, ℕ, suc, zero, ◌+◌, ◌-◌, ◌<◌, Bool, true, false, ◌||◌, List, [], ◌∷◌, length, map, take, drop, get_or, drop-cons, Some, None, option_map, refl, sym, ap, ◌∙◌, subst, arith, true≢false, bytes_eq}
 use Rattle.std.proofs.lemmas.Slice.Eq.{bytes_eq-Decides}
-use Rattle.sj_text_core.specs.Tree.{Tree, null, boolean, int, text, list, obj, Items, no_items, item, items_len, items_from, Members, paired}
+use Rattle.sj_text_core.specs.Tree.{Tree, text, Items, items_len, items_from, paired}
 use Rattle.sj_text_core.specs.Find.{find_member}
 use Rattle.sj_text_core.specs.Keep.{is_seen}
-use Rattle.sj_text_core.specs.Reads.{as_members}
 use Rattle.sj_text_core.specs.Same.{Same, SameItems}
 use Rattle.sj_text_core.specs.Agree.{texts, is_before}
 use Rattle.sj_text_core.proofs.Shapes.{same_items_len}

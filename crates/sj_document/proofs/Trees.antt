@@ -1,12 +1,11 @@
 -- A document, level by level, and the tree that it means.
 use Rattle.std.proofs.Common.{◌≡◌, ℕ, List, map, Option, Some, None, option_map, Box, Vec, Global, Bor, MutBor, refl, ap, ◌∙◌, rules}
 use Rattle.std.specs.Option.{IsSome, option_copied, option_copied_mut}
-use Rattle.sj_text_core.specs.Tree.{Tree, null, boolean, int, text, list, obj, items_from, Members}
+use Rattle.sj_text_core.specs.Tree.{list, obj, items_from}
 use Rattle.sj_object.specs.declared.hasher.NotSoRandomState.{NotSoRandomState}
 use Rattle.sj_object.specs.HashMap.{Contents}
 use Rattle.sj_object.specs.Members.{entry_members}
 use Rattle.sj_object.proofs.Shown.{entry_members-map}
-use Rattle.sj_text_core.specs.Reads.{as_members}
 use Rattle.sj_document.specs.Document.{tree}
 use Rattle.sj_document.specs.declared.value.Document.{Document, Array, Object, the_lemmas}
 
