@@ -12,7 +12,7 @@ use sj_text_core::Steps;
 use std::sync::ledger::Ledger;
 
 impl<K: KeyText, V, S: KeyHasher> HashMap<K, V, S> {
-    ghost use Rattle.sj_object.specs.Edits.{lookup};
+    ghost use Rattle.sj_object.specs.Edits.{lookup, position};
     ghost use Rattle.sj_object.specs.Steps.{visited, walk};
     ghost use Rattle.sj_object.specs.Lends.{LendsValue};
 
@@ -68,6 +68,14 @@ impl<K: KeyText, V, S: KeyHasher> HashMap<K, V, S> {
             Some(i) => Some(&self.pairs[i].1),
             None => None,
         }
+    }
+
+    /// The position of the key, which hashes to `hash`, counted from 0.
+    pub fn position_hashed(&self, hash: u64, key: &str) -> Option<usize>
+        requires { hash ≡ S.hash_of self.now.hasher key.now }
+        ensures { result ≡ position key.now self.now.entries }
+    {
+        position_of(&self.pairs, &self.index, &self.hasher, hash, key)
     }
 
     /// Whether a member has the key.

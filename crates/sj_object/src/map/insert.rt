@@ -72,13 +72,13 @@ impl<K: KeyText, V, S: KeyHasher> HashMap<K, V, S> {
         match position_of(&self.pairs, &self.index, &self.hasher, hash, key.text()) {
             Some(i) => Ok(Some(mem::replace(&mut self.pairs[i].1, value))),
             None => {
-                self.append(hash, key, value)?;
+                self.append_hashed(hash, key, value)?;
                 Ok(None)
             }
         }
     }
 
-    /// The hash of a text, where `append` reads it.
+    /// The hash of a text, where `append_hashed` reads it.
     pub(crate) fn hash_for(&self, text: &str) -> u64
         ensures { NeedsHash (length self.now.entries) self.now.buckets → result ≡ S.hash_of self.now.hasher text.now }
     {
@@ -89,8 +89,10 @@ impl<K: KeyText, V, S: KeyHasher> HashMap<K, V, S> {
         }
     }
 
-    /// Puts a member last, whose key is not there.
-    pub(crate) fn append(
+    /// Puts a member last, whose key is not there. The hash is read only where there are buckets,
+    /// or where there will be some. It is refused only for want of memory: the key and the value
+    /// come back, and the map is as it was.
+    pub fn append_hashed(
         &mut self,
         hash: u64,
         key: K,

@@ -6,7 +6,7 @@ use Rattle.sj_object.specs.HashMap.{same_contents}
 use Rattle.sj_object.specs.Index.{IsIndexOf, NeedsHash, buckets_of, buckets_for}
 use Rattle.sj_object.proofs.Repeats.{no_repeats-push}
 use Rattle.sj_object.proofs.Hashed.{hashes, hashes-last, hashes-length, entries-length, IsIndexOf-last, room_of}
-use Rattle.sj_object.proofs.map.HashMap.append.Goals as goal
+use Rattle.sj_object.proofs.map.HashMap.append_hashed.Goals as goal
 
 pub invariant_of-self-inside : goal.invariant_of-self-inside
 invariant_of-self-inside g c =
