@@ -1,10 +1,8 @@
 -- Where a text stands among entries.
-use Rattle.std.proofs.Common.{◌≡◌, ℕ, suc, ◌+◌, ◌<◌, Bool, true, false, List, [], ◌∷◌, length, Option, Some, None, option_map, refl, sym, ap, ◌∙◌, arith, subst, bytes_eq}
+use Rattle.std.proofs.Common.{◌≡◌, ℕ, suc, ◌+◌, ◌<◌, Bool, true, false, List, [], ◌∷◌, length, Option, Some, None, IfSome, option_map, refl, sym, ap, ◌∙◌, arith, subst, bytes_eq}
 use Rattle.std.specs.List.{position_from}
 use Rattle.std.specs.Bool.{if◌then◌else◌}
-use Rattle.sj_text_core.specs.Keep.{is_seen}
-use Rattle.sj_object.specs.Texts.{or_of_false}
-use Rattle.sj_object.specs.Entries.{Entry, texts, entries_of}
+use Rattle.sj_object.specs.Entries.{Entry, entries_of}
 use Rattle.sj_object.specs.HashMap.{Contents, same_contents}
 use Rattle.sj_object.specs.Edits.{lookup, position, set_value, value_at, set_value_at, with_value, with_value_at}
 
@@ -61,24 +59,20 @@ module _ {K V : Type 0} (k : List ℕ) where
     by_test true q h more = let s : 0 ≡ i = cc in subst (IsPlace (f ∷ es)) s (here f es q)
     by_test false q h more = by_place (position k es) refl q h more
 
-  -- no entry has the text
-  pub record IsNowhere (es : List (Entry K V)) : Type 0 where
-    pub none : lookup k es ≡ None
-    pub unseen : is_seen k (texts es) ≡ false
-
-  pub place_none : (es : List (Entry K V)) → position k es ≡ None → IsNowhere es
-  place_none [] e = record { none = refl; unseen = refl }
+  pub place_none : (es : List (Entry K V)) → position k es ≡ None → lookup k es ≡ None
+  place_none [] e = refl
   place_none (f ∷ es) e = by_test (bytes_eq k f.0.1) refl e (place_none es) where
-    by_place : (o : Option ℕ) → position k es ≡ o → bytes_eq k f.0.1 ≡ false → option_map suc o ≡ None → (position k es ≡ None → IsNowhere es) → IsNowhere (f ∷ es)
+    by_place : (o : Option ℕ) → position k es ≡ o → bytes_eq k f.0.1 ≡ false → option_map suc o ≡ None → (position k es ≡ None → lookup k es ≡ None) → lookup k (f ∷ es) ≡ None
     by_place (Some j) p q h more = cc
-    by_place None p q h more = let n = more p in record {
-      none = (λ i. if q i then Some f.1 else lookup k es) ∙ n.none;
-      unseen = or_of_false _ _ q n.unseen;
-    }
+    by_place None p q h more = (λ i. if q i then Some f.1 else lookup k es) ∙ more p
 
-    by_test : (b : Bool) → bytes_eq k f.0.1 ≡ b → (if b then Some 0 else option_map suc (position k es)) ≡ None → (position k es ≡ None → IsNowhere es) → IsNowhere (f ∷ es)
+    by_test : (b : Bool) → bytes_eq k f.0.1 ≡ b → (if b then Some 0 else option_map suc (position k es)) ≡ None → (position k es ≡ None → lookup k es ≡ None) → lookup k (f ∷ es) ≡ None
     by_test true q h more = cc
     by_test false q h more = by_place (position k es) refl q h more
+
+  pub placed_within : (es : List (Entry K V)) (o : Option ℕ) → o ≡ position k es → IfSome o (λ i. i < length es)
+  placed_within es None e = tt
+  placed_within es (Some i) e = (place_found es i (sym e)).within
 
   -- a value set at the text's place is set at the text
   pub with_value-place : {S : Type 0} (m : Contents K V S) (i : ℕ) (w : V) → position k m.entries ≡ Some i → with_value_at m i w ≡ with_value m k w

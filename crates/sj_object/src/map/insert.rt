@@ -1,8 +1,6 @@
 //! What adds a member, or replaces a value.
 
-ghost use Rattle.std.specs.Prelude.{◌≡◌, ◌++◌, ◌∷◌, [], length, false, IsSome, IsOk, IfOk, IfErr, OnOk, OnErr};
-ghost use Rattle.sj_text_core.specs.Keep.{is_seen};
-ghost use Rattle.sj_object.specs.Entries.{texts};
+ghost use Rattle.std.specs.Prelude.{◌≡◌, ◌++◌, ◌∷◌, [], length, None, IsSome, IsOk, IfOk, IfErr, OnOk, OnErr};
 
 use super::HashMap;
 use super::index::make_room;
@@ -98,7 +96,7 @@ impl<K: KeyText, V, S: KeyHasher> HashMap<K, V, S> {
         key: K,
         value: V,
     ) -> Result<(), Refused<AllocError, (K, V)>>
-        requires absent { is_seen (K.text_of key) (texts self.old.entries) ≡ false }
+        requires absent { lookup (K.text_of key) self.old.entries ≡ None }
         requires hash { NeedsHash (length self.old.entries) self.old.buckets → hash ≡ S.hash_of self.old.hasher (K.text_of key) }
         ensures entries { OnOk result (self.new.entries ≡ self.old.entries ++ ((key, K.text_of key), value) ∷ []) }
         ensures hasher { self.new.hasher ≡ self.old.hasher }

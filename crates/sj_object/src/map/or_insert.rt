@@ -1,9 +1,7 @@
 //! The value of a key, which is made where the key is absent.
 
-ghost use Rattle.std.specs.Prelude.{◌≡◌, ◌<◌, length, false, Some, None, IsSome, IfSome, IfOk, IsOk};
+ghost use Rattle.std.specs.Prelude.{◌≡◌, ◌<◌, length, Some, None, IsSome, IfSome, IfOk, IsOk};
 ghost use Rattle.std.specs.Borrow.{sem};
-ghost use Rattle.sj_text_core.specs.Keep.{is_seen};
-ghost use Rattle.sj_object.specs.Entries.{texts};
 
 use super::HashMap;
 use super::index::make_room;
@@ -63,7 +61,7 @@ impl<K: KeyText, V, S: KeyHasher> HashMap<K, V, S> {
     where
         K: Drop,
         requires hash { hash ≡ S.hash_of self.old.hasher (K.text_of key) }
-        requires absent { is_seen (K.text_of key) (texts self.old.entries) ≡ false }
+        requires absent { lookup (K.text_of key) self.old.entries ≡ None }
         requires with { F.pre with }
         ensures* writes_back { sem 𝓛 (LendsEntry K.row V.row S.row K.KeyText S.KeyHasher self.entry (key, K.text_of key) result) }
         ensures made { IfOk result (λ v. F.post with v.now) }

@@ -6,7 +6,7 @@ use Rattle.sj_object.specs.HashMap.{same_contents}
 use Rattle.sj_object.specs.Edits.{put}
 use Rattle.sj_object.specs.Index.{buckets_of, buckets_for}
 use Rattle.sj_object.proofs.Repeats.{no_repeats-push}
-use Rattle.sj_object.proofs.Position.{absent_at}
+use Rattle.sj_object.proofs.Position.{absent_at, unseen_where_none}
 use Rattle.sj_object.proofs.Hashed.{hashes, hashes-length, room_of}
 use Rattle.sj_object.proofs.Added.{made_entries, made_value, made_length}
 use Rattle.sj_object.proofs.Lent.{lent_same}
@@ -24,7 +24,7 @@ returns-in-Err g c =
 pub invariant_of-self-inside-2 : goal.invariant_of-self-inside-2
 invariant_of-self-inside-2 g c =
     let t = g.K.KeyText.text_of in
-    let a = absent_at t (t c.args.key) c.self.inside.pairs.items (ap (λ m. is_seen (t c.args.key) (texts m.entries)) c.self.view_is ∙ c.requires.absent) in
+    let a = absent_at t (t c.args.key) c.self.inside.pairs.items (ap (λ m. is_seen (t c.args.key) (texts m.entries)) c.self.view_is ∙ unseen_where_none (g.K.KeyText.text_of c.args.key) c.args.self.now.entries c.requires.absent) in
     let e = c.push_reserved.ensures.items ∙ ap (λ l. l ++ (c.args.key, c.with-value.result) ∷ []) c.make_room.ensures.pairs in
     let H = g.S.KeyHasher.hash_of c.self.inside.hasher in
     let ps = c.self.inside.pairs.items in
@@ -42,7 +42,7 @@ returns g c =
     let ps = c.self.inside.pairs.items in
     let qs = c.push_reserved.new.self.items in
     let n = c.len-last.result - 1 in
-    let a = absent_at t (t k) ps (ap (λ m. is_seen (t k) (texts m.entries)) c.self.view_is ∙ c.requires.absent) in
+    let a = absent_at t (t k) ps (ap (λ m. is_seen (t k) (texts m.entries)) c.self.view_is ∙ unseen_where_none (g.K.KeyText.text_of c.args.key) c.args.self.now.entries c.requires.absent) in
     let e : qs ≡ ps ++ (k, v) ∷ [] = c.push_reserved.ensures.items ∙ ap (λ l. l ++ (k, v) ∷ []) c.make_room.ensures.pairs in
     let q : n ≡ length ps = omega (arith, c.len-last.ensures, c.push_reserved.new.self.ok.0, ap length e, length_push ps (k, v)) in (
       lent_same _ _ _ (λ w. same_contents _ _ (λ j. (

@@ -47,7 +47,7 @@ pub append_hashed_with-requires-clause-absent : goal.append_hashed_with-requires
 append_hashed_with-requires-clause-absent g c =
     let k = g.K.KeyText.text_of c.args.key in
     let a = absent g.K.KeyText.text_of k c.in_default.is c.position_of.ensures c.text.ensures c.deref.ensures.value in
-    ap (λ m. is_seen k (texts m.entries)) (sym c.self.view_is) ∙ a.unseen
+    ap (λ m. lookup k m.entries) (sym c.self.view_is) ∙ a.lookup_none
 
 pub append_hashed_with-requires-clause-with : goal.append_hashed_with-requires-clause-with
 append_hashed_with-requires-clause-with g c =

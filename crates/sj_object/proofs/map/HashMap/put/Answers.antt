@@ -30,7 +30,7 @@ pub append_hashed-requires-clause-absent : goal.append_hashed-requires-clause-ab
 append_hashed-requires-clause-absent g c =
     let t = g.K.KeyText.text_of in
     let a = absent t (t c.args.key) c.in-None.is c.position_of.ensures c.text.ensures c.deref.ensures.value in
-    ap (λ m. is_seen (t c.args.key) (texts m.entries)) (sym c.self.view_is) ∙ a.unseen
+    ap (λ m. lookup (t c.args.key) m.entries) (sym c.self.view_is) ∙ a.lookup_none
 
 pub returns-in-Some-clause-answer : goal.returns-in-Some-clause-answer
 returns-in-Some-clause-answer g c =
