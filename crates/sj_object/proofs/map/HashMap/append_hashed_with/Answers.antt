@@ -15,8 +15,7 @@ use Rattle.sj_object.proofs.map.HashMap.append_hashed_with.Goals as goal
 pub returns-in-Err : goal.returns-in-Err
 returns-in-Err g c =
     let t = g.K.KeyText.text_of in
-    let m = c.self.inside in
-    (
+    let m = c.self.inside in (
       ap inr (same_contents _ _ (λ i. (entries_of t (c.in-Err.ensures.pairs i), (m.hasher, c.in-Err.ensures.refused_buckets i))) ∙ c.self.view_is),
       record { writes_back = tt; made = tt },
     )
