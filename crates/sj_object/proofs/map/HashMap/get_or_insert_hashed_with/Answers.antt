@@ -1,6 +1,5 @@
 use Rattle.std.proofs.Common.{◌≡◌, Some, None, IsSome, length, refl, sym, ap, ◌∙◌, arith, subst, true≢false}
-use Rattle.sj_text_core.specs.Keep.{is_seen}
-use Rattle.sj_object.specs.Entries.{entries_of, texts}
+use Rattle.sj_object.specs.Entries.{entries_of}
 use Rattle.sj_object.specs.HashMap.{same_contents}
 use Rattle.sj_object.specs.Edits.{lookup, put, value_at, set_value_at}
 use Rattle.sj_object.specs.Index.{IsIndexOf, buckets_of, buckets_for}

@@ -1,5 +1,4 @@
 use Rattle.std.proofs.Common.{◌++◌, ◌∷◌, [], Some, slice_set, sym, ap, ◌∙◌, refl, arith, subst, length, true≢false, IsSome}
-use Rattle.sj_text_core.specs.Keep.{is_seen}
 use Rattle.sj_object.specs.Texts.{no_repeats}
 use Rattle.sj_object.specs.Entries.{texts, entries_of}
 use Rattle.sj_object.specs.Edits.{lookup, put, texts-set_value, length-set_value}
