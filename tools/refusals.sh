@@ -114,6 +114,18 @@ for call in insert insert_hashed get_or_insert; do
   free "present $call 32" $'call: was there, value as before, 32 members\n'
   free "present $call 64" $'call: was there, value as before, 64 members\n'
 done
+for members in 0 32 64; do
+  after="$((members + 1)) members"$'\n'
+  for call in insert known_insert lookup_or_insert map_insert map_lookup_or_insert; do
+    each "member $call $members" \
+      "call: OutOfMemory, value as before, object as before, then inserted, $after" \
+      "call: inserted, $after"
+  done
+done
+for call in insert known_insert lookup_or_insert map_insert map_lookup_or_insert; do
+  free "member_present $call 32" $'call: was there, value as before, 32 members\n'
+  free "member_present $call 64" $'call: was there, value as before, 64 members\n'
+done
 each capacity $'call: AllocError\nagain made\n' $'call: made\nagain made\n'
 free room $'call: filled, 32 members\n'
 free 'map reads' $'call: found, 32 members\n'

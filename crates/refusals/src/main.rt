@@ -3,7 +3,8 @@
 //! that call refused in turn, which `tools/refusals.sh` does; its words name the call:
 //!
 //!     refusals read CALL TEXT | buffers | insert CALL MEMBERS | present CALL MEMBERS | capacity
-//!     refusals room | map reads | write CALL GENERATOR | tape new | tape reads | session
+//!     refusals room | map reads | member CALL MEMBERS | member_present CALL MEMBERS
+//!     refusals write CALL GENERATOR | tape new | tape reads | session
 //!
 //! The statuses: 0 told; 2 usage; 4 out of memory where the call was not yet made, or again; 5
 //! output failed.
@@ -11,6 +12,7 @@
 
 mod fault;
 mod maps;
+mod members;
 mod prints;
 mod readings;
 mod say;
@@ -39,6 +41,8 @@ fn run(rt: &(impl Env + Print + AllocGlobal)) -> Result<(), Fault> {
         "buffers" => readings::buffers(rt),
         "insert" => maps::insert(rt, second, third),
         "present" => maps::insert_present(rt, second, third),
+        "member" => members::insert_member(rt, second, third),
+        "member_present" => members::insert_present(rt, second, third),
         "capacity" => maps::with_capacity(rt),
         "room" => maps::fill_room(rt),
         "map" => maps::reads(rt),

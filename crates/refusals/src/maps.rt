@@ -11,7 +11,7 @@ use std::alloc::{AllocError, Global};
 
 type Numbers = HashMap<String, u64, ObjectHasher>;
 
-fn key_of(alloc: Global, number: u64) -> Result<String, AllocError> {
+pub fn key_of(alloc: Global, number: u64) -> Result<String, AllocError> {
     format!(in alloc; "k{number:02}")
 }
 
@@ -34,7 +34,7 @@ fn numbered(alloc: Global, members: u64) -> Result<Numbers, Fault> {
 }
 
 /// How many buckets a map has that grew to so many members, and not past 128.
-fn buckets_at(members: usize) -> Option<usize> {
+pub fn buckets_at(members: usize) -> Option<usize> {
     match members {
         0..=32 => None,
         33..=64 => Some(64),

@@ -1,5 +1,5 @@
 -- A value that was lent at a key which is there.
-use Rattle.std.proofs.Common.{◌≡◌, ℕ, List, Option, Some, None, IfSome, refl, sym, ap, ◌∙◌, subst}
+use Rattle.std.proofs.Common.{◌≡◌, ℕ, List, Option, Some, None, IfSome, refl, ap, ◌∙◌, subst}
 use Rattle.std.specs.Prelude.{MatchOption}
 use Rattle.sj_object.specs.HashMap.{Contents}
 use Rattle.sj_object.specs.Edits.{lookup, with_value, with_entry}

@@ -1,3 +1,4 @@
 mod Objects
 mod Puts
 mod Inserted
+pub mod rows

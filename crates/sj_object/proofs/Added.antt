@@ -1,7 +1,7 @@
 -- A member that goes last, and whose value is lent then.
-use Rattle.std.proofs.Common.{◌≡◌, ℕ, zero, suc, ◌+◌, List, [], ◌∷◌, ◌++◌, length, Option, Some, None, IfSome, refl, sym, ap, ◌∙◌, arith}
+use Rattle.std.proofs.Common.{◌≡◌, ℕ, ◌+◌, List, [], ◌∷◌, ◌++◌, length, Option, Some, None, IfSome, refl, sym, ap, ◌∙◌, arith}
 use Rattle.std.proofs.lemmas.List.{length_push}
-use Rattle.sj_object.specs.Entries.{Entry, entries_of}
+use Rattle.sj_object.specs.Entries.{entries_of}
 use Rattle.sj_object.specs.Edits.{put, value_at, set_value_at, length-set_value_at}
 use Rattle.sj_object.proofs.Repeats.{entries_of-append}
 use Rattle.sj_object.proofs.Position.{IsAbsent, IsFound, set_value_at-last, value_at-last}

@@ -1,5 +1,6 @@
 pub mod Repeats
 pub mod Position
+pub mod Places
 pub mod Lent
 pub mod Chains
 pub mod Walked

@@ -146,6 +146,15 @@ pub is_some-lookup : {K V : Type 0} (k : List ℕ) (es : List (Entry K V)) → i
 is_some-lookup k [] = refl
 is_some-lookup k (e ∷ es) = is_some_by (bytes_eq k e.0.1) e.1 (lookup k es) _ (is_some-lookup k es)
 
+pub unseen_where_none : {K V : Type 0} (k : List ℕ) (es : List (Entry K V)) → lookup k es ≡ None → is_seen k (texts es) ≡ false
+unseen_where_none k es e = sym (is_some-lookup k es) ∙ ap is_some e
+
+pub none_where_unseen : {K V : Type 0} (k : List ℕ) (es : List (Entry K V)) → is_seen k (texts es) ≡ false → lookup k es ≡ None
+none_where_unseen {K} {V} k es u = by_value (lookup k es) (is_some-lookup k es ∙ u) where
+  by_value : (o : Option V) → is_some o ≡ false → o ≡ None
+  by_value None e = refl
+  by_value (Some v) e = cc
+
 -- the value at a place
 pub entries-set_value_at : {K V : Type 0} (t : K → List ℕ) (ps : List (K × V)) (i : ℕ) (x : K × V) (w : V) → x ≡ get_or ps i x → entries_of t (slice_set ps i (x.0, w)) ≡ set_value_at i w (entries_of t ps)
 entries-set_value_at t [] i x w e = refl

@@ -1,5 +1,5 @@
 -- What the calls of a map answer and leave, on its entries.
-use Rattle.std.specs.Prelude.{◌≡◌, ◌≤◌, ◌+◌, ℕ, zero, suc, Bool, true, false, if◌then◌else◌, List, [], ◌∷◌, length, Option, Some, None, refl, bytes_eq}
+use Rattle.std.specs.Prelude.{◌≡◌, ◌≤◌, ◌+◌, ℕ, zero, suc, Bool, true, false, if◌then◌else◌, List, [], ◌∷◌, length, Option, Some, None, option_map, refl, bytes_eq}
 use Rattle.std.proofs.Common.{arith}
 use mathlib.Core.Path.{ap, ◌∙◌, sym, subst}
 use Rattle.sj_text_core.specs.Keep.{is_seen}
@@ -13,6 +13,11 @@ module _ {K V : Type 0} where
   abbrev pub lookup : List ℕ → List (Entry K V) → Option V
   lookup k [] = None
   lookup k (e ∷ es) = if bytes_eq k e.0.1 then Some e.1 else lookup k es
+
+  -- where the first entry with the text stands, counted from 0
+  abbrev pub position : List ℕ → List (Entry K V) → Option ℕ
+  position k [] = None
+  position k (e ∷ es) = if bytes_eq k e.0.1 then Some 0 else option_map suc (position k es)
 
   -- the first entry with the text has the value w; its key stays
   abbrev pub set_value : List ℕ → V → List (Entry K V) → List (Entry K V)

@@ -12,3 +12,11 @@ pub mod Laws
 pub mod Builder
 pub mod Piles
 pub mod formers
+pub use Rattle.sj_text_core.specs.Tree
+pub use Rattle.sj_text_core.specs.Grammar
+pub use Rattle.sj_text_core.specs.Find
+pub use Rattle.sj_text_core.specs.Keep
+pub use Rattle.sj_text_core.specs.Repeats
+pub use Rattle.sj_text_core.specs.Scalars
+pub use Rattle.sj_text_core.specs.Hash
+pub use Rattle.sj_tape.specs.Value

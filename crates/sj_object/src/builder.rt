@@ -103,7 +103,7 @@ impl<K: KeyText + Drop, V: Drop> MapOf<K, V> for HashMap<K, V, ObjectHasher> {
         requires hash { NeedsHash (length self.old.entries) self.old.buckets → hash ≡ hash_of_text (K.text_of key) }
         ensures { OnOk result (self.new.entries ≡ self.old.entries ++ ((key, K.text_of key), value) ∷ []) }
     {
-        match self.append(hash, key, value) {
+        match self.append_hashed(hash, key, value) {
             Ok(()) => Ok(()),
             Err(refused) => Err(refused.why),
         }

@@ -45,8 +45,8 @@ impl<'k> KnownKey<'k> {
             Ok(key) => key,
             Err(why) => return Err(Refused { why, value }),
         };
-        match map.insert_hashed(self.hash(), key, value) {
-            Ok(before) => Ok(before),
+        match map.append_hashed(self.hash(), key, value) {
+            Ok(()) => Ok(None),
             Err(Refused { why, value: pair }) => {
                 let (_, value) = pair;
                 Err(Refused { why, value })

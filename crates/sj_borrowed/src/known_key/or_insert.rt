@@ -17,20 +17,21 @@ use sj_text_core::{StaticNode, TypedValue};
 use std::alloc::AllocError;
 use std::borrow::CowStr;
 
-/// The value of the key, to write; where the key is absent, it goes last with that value.
-fn get_or_put<'m, 'v>(
+/// Puts the key last, which is not there, and lends its value to write.
+fn put_last<'m, 'v>(
     map: &'m mut Object<CowStr<'v>>,
     hash: u64,
     key: CowStr<'v>,
     value: BorrowedValue<'v>,
 ) -> Result<&'m mut BorrowedValue<'v>, AllocError>
-    requires { hash ≡ hash_of_text (cow_str_bytes key) }
+    requires hash { hash ≡ hash_of_text (cow_str_bytes key) }
+    requires absent { lookup (cow_str_bytes key) map.old.entries ≡ None }
 {
-    map.get_or_insert_hashed_with(hash, key, move || value)
+    map.append_hashed_with(hash, key, move || value)
 }
 
-/// The same, where what `with` answers is the value. It is called only where the key is absent and
-/// there was memory for it.
+/// The value of the key, to write; where the key is absent, a copy of it goes last with what `with`
+/// answers. It is called only where the key is absent and there was memory for it.
 fn get_or_put_with<'k: 'v, 'm, 'v, F: FnOnce() -> BorrowedValue<'v> + Drop>(
     map: &'m mut Object<CowStr<'v>>,
     key: &KnownKey<'k>,
@@ -47,7 +48,7 @@ fn get_or_put_with<'k: 'v, 'm, 'v, F: FnOnce() -> BorrowedValue<'v> + Drop>(
     }
     let copy = CowStr::copy_of(key)?;
     let null = Document::Static(StaticNode::Null);
-    let place = get_or_put(map, hash, copy, null)?;
+    let place = put_last(map, hash, copy, null)?;
     *place = with();
     Ok(place)
 }
@@ -73,14 +74,11 @@ impl<'k> KnownKey<'k> {
         ensures succeeds { IsSome (lookup (cow_str_bytes key.now) map.old.entries) → IsOk result }
     {
         let hash = key.hash();
-        if map.get_hashed(hash, key.key().text()).is_some() {
-            return match map.get_hashed_mut(hash, key.key().text()) {
-                Some(value) => Ok(value),
-                None => unreachable!(),
-            };
+        if let Some(position) = map.position_hashed(hash, key.key().text()) {
+            return Ok(map.value_at_mut(position));
         }
         let copy = K::copy_of(key)?;
-        map.get_or_insert_hashed_with(hash, copy, with)
+        map.append_hashed_with(hash, copy, with)
     }
 
     /// The value of the key, to write; where the key is absent, a copy of it goes last with what

@@ -1,5 +1,5 @@
 -- How many buckets there are.
-use Rattle.std.proofs.Common.{◌≡◌, ℕ, [], ◌∷◌, refl, Some, None, arith}
+use Rattle.std.proofs.Common.{◌≡◌, [], ◌∷◌, refl, Some, None, arith}
 use Rattle.sj_object.specs.Index.{buckets_in, buckets_for, HasRoom, NeedsHash}
 
 at-32 : buckets_for 32 None ≡ None

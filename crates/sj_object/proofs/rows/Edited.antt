@@ -4,7 +4,7 @@ use Rattle.sj_text_core.specs.Tree.{u64, Tree, int, no_members, member}
 use Rattle.sj_object.specs.Texts.{no_repeats}
 use Rattle.sj_object.specs.Entries.{Entry, texts, keys, values, entries_of}
 use Rattle.sj_object.specs.Members.{entry_members}
-use Rattle.sj_object.specs.Edits.{lookup, put, cut, set_value, value_at, set_value_at}
+use Rattle.sj_object.specs.Edits.{lookup, position, put, cut, set_value, value_at, set_value_at}
 
 -- a key is a number of its own, beside its text
 abbrev entry : ℕ → List ℕ → ℕ → Entry ℕ ℕ
@@ -43,6 +43,15 @@ found-empty = refl
 -- a text that begins with another is another
 absent-longer : lookup (codes "ab") ab ≡ None
 absent-longer = refl
+
+place : position (codes "b") ab ≡ Some 1
+place = refl
+
+place-first : position (codes "a") aba ≡ Some 0
+place-first = refl
+
+place-absent : position (codes "c") ab ≡ None
+place-absent = refl
 
 -- the stored key 10 stays, in its place
 put-present : put (40, codes "a") 4 ab ≡ entry 10 (codes "a") 4 ∷ entry 20 (codes "b") 2 ∷ []

@@ -1,6 +1,6 @@
 //! What reads a member by its key, and what lends its value for writing.
 
-ghost use Rattle.std.specs.Prelude.{◌≡◌, ◌+◌, ℕ, None, Some, IsSome, is_some};
+ghost use Rattle.std.specs.Prelude.{◌≡◌, ◌+◌, ◌<◌, ℕ, length, None, Some, IsSome, IfSome, is_some};
 ghost use Rattle.std.specs.Borrow.{sem};
 ghost use Rattle.std.specs.Option.{option_copied, option_copied_mut};
 
@@ -12,7 +12,7 @@ use sj_text_core::Steps;
 use std::sync::ledger::Ledger;
 
 impl<K: KeyText, V, S: KeyHasher> HashMap<K, V, S> {
-    ghost use Rattle.sj_object.specs.Edits.{lookup};
+    ghost use Rattle.sj_object.specs.Edits.{lookup, position};
     ghost use Rattle.sj_object.specs.Steps.{visited, walk};
     ghost use Rattle.sj_object.specs.Lends.{LendsValue};
 
@@ -68,6 +68,16 @@ impl<K: KeyText, V, S: KeyHasher> HashMap<K, V, S> {
             Some(i) => Some(&self.pairs[i].1),
             None => None,
         }
+    }
+
+    /// The position of the key, which hashes to `hash`, counted from 0; None where it is absent.
+    pub fn position_hashed(&self, hash: u64, key: &str) -> Option<usize>
+        requires { hash ≡ S.hash_of self.now.hasher key.now }
+        ensures found { result ≡ position key.now self.now.entries }
+        ensures within { IfSome result (λ i. i < length self.now.entries) }
+        ensures absent { result ≡ None → lookup key.now self.now.entries ≡ None }
+    {
+        position_of(&self.pairs, &self.index, &self.hasher, hash, key)
     }
 
     /// Whether a member has the key.

@@ -1,8 +1,6 @@
 //! What adds a member, or replaces a value.
 
-ghost use Rattle.std.specs.Prelude.{◌≡◌, ◌++◌, ◌∷◌, [], length, false, IsSome, IsOk, IfOk, IfErr, OnOk, OnErr};
-ghost use Rattle.sj_text_core.specs.Keep.{is_seen};
-ghost use Rattle.sj_object.specs.Entries.{texts};
+ghost use Rattle.std.specs.Prelude.{◌≡◌, ◌++◌, ◌∷◌, [], length, None, IsSome, IsOk, IfOk, IfErr, OnOk, OnErr};
 
 use super::HashMap;
 use super::index::make_room;
@@ -72,13 +70,13 @@ impl<K: KeyText, V, S: KeyHasher> HashMap<K, V, S> {
         match position_of(&self.pairs, &self.index, &self.hasher, hash, key.text()) {
             Some(i) => Ok(Some(mem::replace(&mut self.pairs[i].1, value))),
             None => {
-                self.append(hash, key, value)?;
+                self.append_hashed(hash, key, value)?;
                 Ok(None)
             }
         }
     }
 
-    /// The hash of a text, where `append` reads it.
+    /// The hash of a text, where `append_hashed` reads it.
     pub(crate) fn hash_for(&self, text: &str) -> u64
         ensures { NeedsHash (length self.now.entries) self.now.buckets → result ≡ S.hash_of self.now.hasher text.now }
     {
@@ -89,14 +87,16 @@ impl<K: KeyText, V, S: KeyHasher> HashMap<K, V, S> {
         }
     }
 
-    /// Puts a member last, whose key is not there.
-    pub(crate) fn append(
+    /// Puts a member last, whose key is not there. The hash is read only where there are buckets,
+    /// or where there will be some. It is refused only for want of memory: the key and the value
+    /// come back, and the map is as it was.
+    pub fn append_hashed(
         &mut self,
         hash: u64,
         key: K,
         value: V,
     ) -> Result<(), Refused<AllocError, (K, V)>>
-        requires absent { is_seen (K.text_of key) (texts self.old.entries) ≡ false }
+        requires absent { lookup (K.text_of key) self.old.entries ≡ None }
         requires hash { NeedsHash (length self.old.entries) self.old.buckets → hash ≡ S.hash_of self.old.hasher (K.text_of key) }
         ensures entries { OnOk result (self.new.entries ≡ self.old.entries ++ ((key, K.text_of key), value) ∷ []) }
         ensures hasher { self.new.hasher ≡ self.old.hasher }

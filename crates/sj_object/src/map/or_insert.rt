@@ -14,8 +14,9 @@ impl<K: KeyText, V, S: KeyHasher> HashMap<K, V, S> {
     ghost use Rattle.sj_object.specs.Edits.{lookup, value_at};
     ghost use Rattle.sj_object.specs.Lends.{LendsAt, LendsEntry};
 
-    /// The value at a position, to write.
-    fn lend(&mut self, position: usize) -> &mut V
+    /// The value at a position, to write. The map is then as it was, with what the reference last
+    /// held in the place of that value.
+    pub fn value_at_mut(&mut self, position: usize) -> &mut V
         requires { position < length self.old.entries }
         ensures* writes_back { sem 𝓛 (LendsAt K.row V.row S.row K.KeyText S.KeyHasher self.entry position result) }
         ensures value { value_at position self.old.entries ≡ Some result.now }
@@ -43,14 +44,34 @@ impl<K: KeyText, V, S: KeyHasher> HashMap<K, V, S> {
         ensures succeeds { IsSome (lookup (K.text_of key) self.old.entries) → IsOk result }
     {
         if let Some(i) = position_of(&self.pairs, &self.index, &self.hasher, hash, key.text()) {
-            return Ok(self.lend(i));
+            return Ok(self.value_at_mut(i));
         }
+        self.append_hashed_with(hash, key, with)
+    }
+
+    /// Puts the key last, which is not there and hashes to `hash`, with what `with` answers, and
+    /// lends that value to write. It is refused only for want of memory: then `with` is not called,
+    /// the key is given up, and the map is as it was.
+    pub fn append_hashed_with<F: FnOnce() -> V + Drop>(
+        &mut self,
+        hash: u64,
+        key: K,
+        with: F,
+    ) -> Result<&mut V, AllocError>
+    where
+        K: Drop,
+        requires hash { hash ≡ S.hash_of self.old.hasher (K.text_of key) }
+        requires absent { lookup (K.text_of key) self.old.entries ≡ None }
+        requires with { F.pre with }
+        ensures* writes_back { sem 𝓛 (LendsEntry K.row V.row S.row K.KeyText S.KeyHasher self.entry (key, K.text_of key) result) }
+        ensures made { IfOk result (λ v. F.post with v.now) }
+    {
         if let Err(why) = make_room(&mut self.pairs, &mut self.index, &self.hasher, hash) {
             return Err(why);
         }
         let value = with();
         self.pairs.push_reserved((key, value));
         let last = self.pairs.len() - 1;
-        Ok(self.lend(last))
+        Ok(self.value_at_mut(last))
     }
 }

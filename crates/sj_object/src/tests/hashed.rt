@@ -189,6 +189,9 @@ fn empties<S: KeyHasher + Drop>(
         let key = key_of(alloc, number, collides)?;
         map.insert(key.clone()?, number)?;
         list.push((key, number))?;
+        if !has_these(&map, list.as_slice()) {
+            return Ok(false);
+        }
     }
     while !list.is_empty() {
         let place = place_of(way, list.len());
@@ -240,6 +243,57 @@ fn makes_an_absent_value_once(rt: HostRuntime) -> Result<(), Fail> {
         assert_eq!(rt; map.len() as u64, members + 1);
         assert_eq!(rt; map.buckets().is_some(), members >= 32, "{members}");
         assert_eq!(rt; map.get("new").copied(), Some(501));
+    }
+    Ok(())
+}
+
+/// Puts a key that is not there last; whether it was not.
+fn appends(
+    map: &mut HashMap<String, u64, Constant>,
+    key: String,
+    value: u64,
+) -> Result<bool, Fail> {
+    if map.position_hashed(7, key.as_str()).is_some() {
+        return Ok(false);
+    }
+    map.append_hashed(7, key, value)?;
+    Ok(true)
+}
+
+/// The same, with a value that is made; whether it was lent.
+fn appends_made(
+    map: &mut HashMap<String, u64, Constant>,
+    key: String,
+    value: u64,
+) -> Result<bool, Fail> {
+    if map.position_hashed(7, key.as_str()).is_some() {
+        return Ok(false);
+    }
+    let made = map.append_hashed_with(7, key, || value)?;
+    Ok(*made == value)
+}
+
+/// The value at the position of a key, which becomes another.
+fn changes(map: &mut HashMap<String, u64, Constant>, key: &str, value: u64) -> Option<usize> {
+    let position = map.position_hashed(7, key)?;
+    *map.value_at_mut(position) = value;
+    Some(position)
+}
+
+#[test]
+fn appends_behind_all_members(rt: HostRuntime) -> Result<(), Fail> {
+    let alloc = rt.alloc();
+    for members in [0, 31, 32, 64] {
+        let mut map = numbered(alloc, members, Constant)?;
+        let first = String::from_str(alloc, "first")?;
+        let second = String::from_str(alloc, "second")?;
+        assert!(rt; appends(&mut map, first, 500)?, "{members}");
+        assert!(rt; appends_made(&mut map, second, 600)?, "{members}");
+        let position = changes(&mut map, "first", 501);
+        assert_eq!(rt; position, usize::try_from(members).ok(), "{members}");
+        assert_eq!(rt; map.get("first").copied(), Some(501), "{members}");
+        assert_eq!(rt; map.get("second").copied(), Some(600), "{members}");
+        assert_eq!(rt; map.buckets().is_some(), members >= 31, "{members}");
     }
     Ok(())
 }

@@ -1,4 +1,4 @@
-use Rattle.std.proofs.Common.{◌≡◌, refl, sym, ap, ◌∙◌}
+use Rattle.std.proofs.Common.{refl}
 use Rattle.std.specs.Cow.{cow_str_bytes}
 use Rattle.sj_document.specs.Document.{tree}
 use Rattle.sj_borrowed.proofs.Objects.{is_object, there, absent, not_found, found_value}

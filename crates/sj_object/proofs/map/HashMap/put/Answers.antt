@@ -1,5 +1,4 @@
 use Rattle.std.proofs.Common.{◌++◌, ◌∷◌, [], Some, slice_set, sym, ap, ◌∙◌, refl, arith, subst, length, true≢false, IsSome}
-use Rattle.sj_text_core.specs.Keep.{is_seen}
 use Rattle.sj_object.specs.Texts.{no_repeats}
 use Rattle.sj_object.specs.Entries.{texts, entries_of}
 use Rattle.sj_object.specs.Edits.{lookup, put, texts-set_value, length-set_value}
@@ -26,11 +25,11 @@ invariant_of-self-inside g c =
       (subst (λ n. HasRoom n (buckets_of m.index)) (sym (ap length (f.set_at _ w c.index_mut.ensures.value) ∙ length-set_value k w (entries_of t c.self.inside.pairs.items))) m.room, tt),
     )
 
-pub append-requires-clause-absent : goal.append-requires-clause-absent
-append-requires-clause-absent g c =
+pub append_hashed-requires-clause-absent : goal.append_hashed-requires-clause-absent
+append_hashed-requires-clause-absent g c =
     let t = g.K.KeyText.text_of in
     let a = absent t (t c.args.key) c.in-None.is c.position_of.ensures c.text.ensures c.deref.ensures.value in
-    ap (λ m. is_seen (t c.args.key) (texts m.entries)) (sym c.self.view_is) ∙ a.unseen
+    ap (λ m. lookup (t c.args.key) m.entries) (sym c.self.view_is) ∙ a.lookup_none
 
 pub returns-in-Some-clause-answer : goal.returns-in-Some-clause-answer
 returns-in-Some-clause-answer g c =
@@ -46,23 +45,23 @@ returns-in-Some-clause-entries g c =
     let f = found t k c.in-Some.is c.position_of.ensures c.text.ensures c.deref.ensures.value in
     ap (λ w. entries_of t (slice_set c.self.inside.pairs.items c.in-Some.i (c.index_mut.result.now.0, w))) c.replace.ensures.after ∙ f.put_at _ c.args.key c.args.value c.index_mut.ensures.value refl ∙ ap (λ m. put (c.args.key, k) c.args.value m.entries) c.self.view_is
 
-pub returns-in_ok-append-in-None-clause-answer : goal.returns-in_ok-append-in-None-clause-answer
-returns-in_ok-append-in-None-clause-answer g c =
+pub returns-in_ok-append_hashed-in-None-clause-answer : goal.returns-in_ok-append_hashed-in-None-clause-answer
+returns-in_ok-append_hashed-in-None-clause-answer g c =
     let t = g.K.KeyText.text_of in
     let a = absent t (t c.args.key) c.in-None.is c.position_of.ensures c.text.ensures c.deref.ensures.value in
     sym a.lookup_none ∙ ap (λ m. lookup (t c.args.key) m.entries) c.self.view_is
 
-pub returns-in_ok-append-in-None-clause-entries : goal.returns-in_ok-append-in-None-clause-entries
-returns-in_ok-append-in-None-clause-entries g c =
+pub returns-in_ok-append_hashed-in-None-clause-entries : goal.returns-in_ok-append_hashed-in-None-clause-entries
+returns-in_ok-append_hashed-in-None-clause-entries g c =
     let t = g.K.KeyText.text_of in
     let k = t c.args.key in
     let v = c.args.value in
     let a = absent t k c.in-None.is c.position_of.ensures c.text.ensures c.deref.ensures.value in
-    c.in_ok-append-in-None.ensures.entries ∙ ap (λ m. m.entries ++ ((c.args.key, k), v) ∷ []) (sym c.self.view_is)
+    c.in_ok-append_hashed-in-None.ensures.entries ∙ ap (λ m. m.entries ++ ((c.args.key, k), v) ∷ []) (sym c.self.view_is)
     ∙ sym (entries_of-append t c.self.inside.pairs.items ((c.args.key, v) ∷ [])) ∙ a.put_last c.args.key v refl ∙ ap (λ m. put (c.args.key, k) v m.entries) c.self.view_is
 
-pub returns-in_err-append-in-None-clause-succeeds : goal.returns-in_err-append-in-None-clause-succeeds
-returns-in_err-append-in-None-clause-succeeds g c =
+pub returns-in_err-append_hashed-in-None-clause-succeeds : goal.returns-in_err-append_hashed-in-None-clause-succeeds
+returns-in_err-append_hashed-in-None-clause-succeeds g c =
     let t = g.K.KeyText.text_of in
     let a = absent t (t c.args.key) c.in-None.is c.position_of.ensures c.text.ensures c.deref.ensures.value in
     λ s. absurd (true≢false (sym (subst (λ o. IsSome o) (ap (λ m. lookup (t c.args.key) m.entries) (sym c.self.view_is) ∙ a.lookup_none) s)))

@@ -1,4 +1,3 @@
-use Rattle.std.proofs.Common.{◌∙◌}
 use Rattle.sj_document.specs.Document.{tree}
 use Rattle.sj_borrowed.proofs.Objects.{found_mut}
 use Rattle.sj_borrowed.proofs.known_key.target.DocumentKnownKeyTargetMut.at_hash_mut.Goals as goal

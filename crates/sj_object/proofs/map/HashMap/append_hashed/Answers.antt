@@ -5,8 +5,9 @@ use Rattle.sj_object.specs.Entries.{texts, entries_of}
 use Rattle.sj_object.specs.HashMap.{same_contents}
 use Rattle.sj_object.specs.Index.{IsIndexOf, NeedsHash, buckets_of, buckets_for}
 use Rattle.sj_object.proofs.Repeats.{no_repeats-push}
+use Rattle.sj_object.proofs.Position.{unseen_where_none}
 use Rattle.sj_object.proofs.Hashed.{hashes, hashes-last, hashes-length, entries-length, IsIndexOf-last, room_of}
-use Rattle.sj_object.proofs.map.HashMap.append.Goals as goal
+use Rattle.sj_object.proofs.map.HashMap.append_hashed.Goals as goal
 
 pub invariant_of-self-inside : goal.invariant_of-self-inside
 invariant_of-self-inside g c =
@@ -15,7 +16,7 @@ invariant_of-self-inside g c =
     let H = g.S.KeyHasher.hash_of c.self.inside.hasher in
     let ps = c.self.inside.pairs.items in
     let n = length_push (hashes t H ps) c.args.hash ∙ ap (λ m. m + 1) (hashes-length t H ps) ∙ sym (ap length e ∙ length_push ps (c.args.key, c.args.value)) in (
-      no_repeats-push t c.self.inside.pairs.items c.push_reserved.new.self.items true c.args.key c.args.value c.self.inside.distinct (ap (λ m. is_seen (t c.args.key) (texts m.entries)) c.self.view_is ∙ c.requires.absent) e,
+      no_repeats-push t c.self.inside.pairs.items c.push_reserved.new.self.items true c.args.key c.args.value c.self.inside.distinct (ap (λ m. is_seen (t c.args.key) (texts m.entries)) c.self.view_is ∙ unseen_where_none (g.K.KeyText.text_of c.args.key) c.args.self.now.entries c.requires.absent) e,
       (room_of t c.push_reserved.new.self.items _ c.make_room.new.index c.in-Ok.ensures.ok n, tt),
     )
 

@@ -6,7 +6,7 @@ use Rattle.sj_object.specs.Edits.{value_at, with_value_at, texts-set_value_at, l
 use Rattle.sj_object.specs.Index.{IsIndexOf, HasRoom, buckets_of}
 use Rattle.sj_object.proofs.Position.{entries-set_value_at, value_at-get}
 use Rattle.sj_object.proofs.Hashed.{hashes-set, entries-length}
-use Rattle.sj_object.proofs.map.HashMap.lend.Goals as goal
+use Rattle.sj_object.proofs.map.HashMap.value_at_mut.Goals as goal
 
 pub invariant_of-self-inside-lent : goal.invariant_of-self-inside-lent
 invariant_of-self-inside-lent g c w =

@@ -1,0 +1,268 @@
+//! Inserts into the object of a borrowed document, by a text and by a known key that owns its text.
+//! The members are `k00` with 0, `k01` with 1 and so on.
+
+ghost use Rattle.std.specs.Prelude.{◌<◌};
+
+use crate::fault::Fault;
+use crate::maps::{buckets_at, key_of};
+use crate::say::{say, say_call, say_kept};
+use sj_borrowed::known_key::Error;
+use sj_borrowed::{AccessError, KnownKey, Object, Refused, SameAs, StaticNode, Value};
+use std::alloc::{AllocError, Global};
+use std::borrow::CowStr;
+
+/// A call that inserts.
+#[derive(Clone, Copy, PartialEq, Eq)]
+enum Call {
+    Insert,
+    Known,
+    LookupOrInsert,
+    MapInsert,
+    MapLookupOrInsert,
+}
+
+impl Call {
+    fn named(name: &str) -> Option<Call> {
+        match name {
+            "insert" => Some(Call::Insert),
+            "known_insert" => Some(Call::Known),
+            "lookup_or_insert" => Some(Call::LookupOrInsert),
+            "map_insert" => Some(Call::MapInsert),
+            "map_lookup_or_insert" => Some(Call::MapLookupOrInsert),
+            _ => None,
+        }
+    }
+}
+
+/// What a call that inserts answered.
+#[derive(Drop)]
+enum Answer {
+    Inserted,
+    /// The number that was there.
+    There(u64),
+    /// Want of memory; whether the value came back, or its closure was not called.
+    OutOfMemory(bool),
+    /// Another answer than these.
+    Other,
+}
+
+fn number<'v>(number: u64) -> Value<'v> {
+    Value::Static(StaticNode::U64(number))
+}
+
+/// The number that a value is.
+fn number_of(value: &Value<'_>) -> Option<u64> {
+    match value {
+        Value::Static(StaticNode::U64(number)) => Some(*number),
+        _ => None,
+    }
+}
+
+fn answer_of(before: Option<Value<'_>>) -> Answer {
+    match before {
+        None => Answer::Inserted,
+        Some(value) => match number_of(&value) {
+            Some(number) => Answer::There(number),
+            None => Answer::Other,
+        },
+    }
+}
+
+/// What a call that calls a closure for an absent key answered.
+fn answer_made(found: Option<u64>, is_made: bool) -> Answer {
+    match found {
+        Some(_) if is_made => Answer::Inserted,
+        Some(number) => Answer::There(number),
+        None => Answer::OutOfMemory(!is_made),
+    }
+}
+
+fn insert<'v>(document: &mut Value<'v>, text: String, new: u64) -> Answer {
+    match document.insert(CowStr::Owned(text), number(new)) {
+        Ok(before) => answer_of(before),
+        Err(refused) => {
+            if refused.why == AccessError::OutOfMemory {
+                Answer::OutOfMemory(refused.value.same_as(&new))
+            } else {
+                Answer::Other
+            }
+        }
+    }
+}
+
+fn known_insert<'v>(document: &mut Value<'v>, key: &KnownKey<'v>, new: u64) -> Answer {
+    match key.insert(document, number(new)) {
+        Ok(before) => answer_of(before),
+        Err(refused) => {
+            if refused.why == Error::OutOfMemory {
+                Answer::OutOfMemory(refused.value.same_as(&new))
+            } else {
+                Answer::Other
+            }
+        }
+    }
+}
+
+fn lookup_or_insert<'v>(document: &mut Value<'v>, key: &KnownKey<'v>, new: u64) -> Answer {
+    let mut is_made = false;
+    let found = match KnownKey::lookup_or_insert_mut(document, key, || {
+        is_made = true;
+        number(new)
+    }) {
+        Ok(value) => number_of(value),
+        Err(_) => None,
+    };
+    answer_made(found, is_made)
+}
+
+fn map_insert<'v>(members: &mut Object<'v>, key: &KnownKey<'v>, new: u64) -> Answer {
+    match key.map_insert(members, number(new)) {
+        Ok(before) => answer_of(before),
+        Err(refused) => Answer::OutOfMemory(refused.value.same_as(&new)),
+    }
+}
+
+fn map_lookup_or_insert<'v>(members: &mut Object<'v>, key: &KnownKey<'v>, new: u64) -> Answer {
+    let mut is_made = false;
+    let found = match KnownKey::map_lookup_or_insert_mut(members, key, || {
+        is_made = true;
+        number(new)
+    }) {
+        Ok(value) => number_of(value),
+        Err(_) => None,
+    };
+    answer_made(found, is_made)
+}
+
+/// A key that an insert is made with.
+#[derive(Drop)]
+struct Key<'v> {
+    text: String,
+    known: KnownKey<'v>,
+}
+
+fn keyed<'v>(alloc: Global, place: u64) -> Result<Key<'v>, AllocError> {
+    Ok(Key {
+        text: key_of(alloc, place)?,
+        known: KnownKey::from(key_of(alloc, place)?),
+    })
+}
+
+fn insert_by<'v>(call: Call, document: &mut Value<'v>, key: Key<'v>, new: u64) -> Answer {
+    let Key { text, known } = key;
+    match call {
+        Call::Insert => insert(document, text, new),
+        Call::Known => known_insert(document, &known, new),
+        Call::LookupOrInsert => lookup_or_insert(document, &known, new),
+        Call::MapInsert => match document.as_object_mut() {
+            Some(members) => map_insert(members, &known, new),
+            None => Answer::Other,
+        },
+        Call::MapLookupOrInsert => match document.as_object_mut() {
+            Some(members) => map_lookup_or_insert(members, &known, new),
+            None => Answer::Other,
+        },
+    }
+}
+
+/// An object of so many members.
+fn numbered<'v>(alloc: Global, members: u64) -> Result<Value<'v>, Fault> {
+    let mut document = Value::object(alloc)?;
+    for place in 0..members {
+        match insert(&mut document, key_of(alloc, place)?, place) {
+            Answer::Inserted => {}
+            _ => return Err(Fault::OutOfMemory),
+        }
+    }
+    Ok(document)
+}
+
+/// Whether the document is an object of so many members, each as it should be and found by its
+/// text, with the buckets of a map that grew to them.
+fn is_numbered(alloc: Global, document: &Value<'_>, members: u64) -> Result<bool, Fault> {
+    let Some(map) = document.as_object() else {
+        return Ok(false);
+    };
+    let mut place = 0u64;
+    for (key, value) in map.iter() {
+        let text = key_of(alloc, place)?;
+        let found = document.get(text.as_str());
+        let is_found = found.is_some_and(|value| value.same_as(&place));
+        if !is_found || *key != CowStr::Borrowed(text.as_str()) || !value.same_as(&place) {
+            return Ok(false);
+        }
+        place = place.wrapping_add(1);
+    }
+    Ok(place == members && map.buckets() == buckets_at(map.len()))
+}
+
+/// Inserts a new key behind so many members.
+pub fn insert_member(
+    rt: &(impl Print + AllocGlobal),
+    call: &str,
+    members: &str,
+) -> Result<(), Fault> {
+    match (Call::named(call), members.parse::<u8>()) {
+        (Some(call), Ok(members)) => insert_new(rt, call, u64::from(members)),
+        _ => Err(Fault::Usage),
+    }
+}
+
+fn insert_new(rt: &(impl Print + AllocGlobal), call: Call, members: u64) -> Result<(), Fault>
+    requires { members < 256 }
+{
+    let alloc = rt.alloc();
+    let mut document = numbered(alloc, members)?;
+    let key = keyed(alloc, members)?;
+    let again = keyed(alloc, members)?;
+    say_call(rt)?;
+    match insert_by(call, &mut document, key, members) {
+        Answer::Inserted => say(rt, "inserted, ")?,
+        Answer::There(_) => say(rt, "FOUND, ")?,
+        Answer::Other => say(rt, "ANOTHER ANSWER, ")?,
+        Answer::OutOfMemory(is_kept) => {
+            say(rt, "OutOfMemory, ")?;
+            say_kept(rt, "value", is_kept)?;
+            say_kept(rt, "object", is_numbered(alloc, &document, members)?)?;
+            match insert_by(call, &mut document, again, members) {
+                Answer::Inserted => say(rt, "then inserted, ")?,
+                _ => say(rt, "then NOT INSERTED, ")?,
+            }
+        }
+    }
+    tell(rt, &document, members + 1)
+}
+
+/// Inserts a key that is there among so many members, of which it is the sixth.
+pub fn insert_present(
+    rt: &(impl Print + AllocGlobal),
+    call: &str,
+    members: &str,
+) -> Result<(), Fault> {
+    let alloc = rt.alloc();
+    let (Some(call), Ok(members)) = (Call::named(call), members.parse::<u8>()) else {
+        return Err(Fault::Usage);
+    };
+    let mut document = numbered(alloc, u64::from(members))?;
+    let (key, again) = (keyed(alloc, 5)?, keyed(alloc, 5)?);
+    say_call(rt)?;
+    match insert_by(call, &mut document, key, 99) {
+        Answer::There(5) => say(rt, "was there, ")?,
+        _ => say(rt, "ANOTHER ANSWER, ")?,
+    }
+    let is_set = !matches!(call, Call::LookupOrInsert | Call::MapLookupOrInsert);
+    match insert(&mut document, again.text, 5) {
+        Answer::There(before) => say_kept(rt, "value", before == if is_set { 99 } else { 5 })?,
+        _ => say(rt, "NOT THERE, ")?,
+    }
+    tell(rt, &document, u64::from(members))
+}
+
+/// Tells how many members the object has, if they are as they should be.
+fn tell(rt: &(impl Print + AllocGlobal), document: &Value<'_>, members: u64) -> Result<(), Fault> {
+    let alloc = rt.alloc();
+    if !is_numbered(alloc, document, members)? {
+        return say(rt, "WRONG MEMBERS\n");
+    }
+    say(rt, format!(in alloc; "{members} members\n")?.as_str())
+}
