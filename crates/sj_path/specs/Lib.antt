@@ -1,0 +1,5 @@
+pub mod Syntax
+pub mod Tokens
+pub mod Places
+pub mod Pointed
+pub mod Replaced
