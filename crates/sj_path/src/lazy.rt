@@ -11,17 +11,16 @@ use crate::place::position;
 use crate::tokens::Pointer;
 use crate::walk;
 use sj_document::BorrowedValue;
+pub use sj_lazy::Value;
 use sj_lazy::{Lazy, Shared};
 use sj_tape::Value as TapeValue;
 use sj_text_core::TypedValue;
 use std::alloc::{AllocError, Global};
 
-pub use sj_lazy::Value;
-
 /// What one token finds on a tape.
 fn step<'t, 'i>(part: TapeValue<'t, 'i>, token: &str) -> Option<TapeValue<'t, 'i>>
-    ensures value { option_map tape_tree result ≡ token_into (tape_choice part) token.now (tape_tree part) }
-    ensures choice { IfSome result (λ found. tape_choice found ≡ tape_choice part) }
+    ensures value { option_map tape_tree result ≡ token_into (tape_choice part.entry) token.now (tape_tree part.entry) }
+    ensures choice { IfSome result (λ found. tape_choice found ≡ tape_choice part.entry) }
 {
     if part.is_array() {
         part.get_idx(position(token)?)
@@ -32,8 +31,8 @@ fn step<'t, 'i>(part: TapeValue<'t, 'i>, token: &str) -> Option<TapeValue<'t, 'i
 
 /// What tokens find on a tape.
 fn find_on_tape<'t, 'i>(part: TapeValue<'t, 'i>, tokens: &[String]) -> Option<TapeValue<'t, 'i>>
-    ensures value { option_map tape_tree result ≡ pointed_by (tape_choice part) (map string_bytes tokens.now) (tape_tree part) }
-    ensures choice { IfSome result (λ found. tape_choice found ≡ tape_choice part) }
+    ensures value { option_map tape_tree result ≡ pointed_by (tape_choice part.entry) (map string_bytes tokens.now) (tape_tree part.entry) }
+    ensures choice { IfSome result (λ found. tape_choice found ≡ tape_choice part.entry) }
 {
     let mut at = part;
     for token in tokens {
@@ -44,7 +43,10 @@ fn find_on_tape<'t, 'i>(part: TapeValue<'t, 'i>, tokens: &[String]) -> Option<Ta
 
 /// What the pointer's tokens find, by the value's own choice among members of one key; None where
 /// one of them finds nothing. The value keeps its form, and nothing is built.
-pub fn find<'v, 't, 'i>(value: &'v Value<'_, 't, 'i>, pointer: &Pointer) -> Option<Value<'v, 't, 'i>>
+pub fn find<'v, 't, 'i>(
+    value: &'v Value<'_, 't, 'i>,
+    pointer: &Pointer,
+) -> Option<Value<'v, 't, 'i>>
     ensures value { option_map tree result ≡ pointed_by (choice value.now) pointer.now (tree value.now) }
     ensures choice { IfSome result (λ found. choice found ≡ choice value.now) }
 {

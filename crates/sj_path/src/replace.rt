@@ -1,6 +1,6 @@
 //! Writes at a pointer.
 
-ghost use Rattle.std.specs.Prelude.{◌≡◌, ◌∷◌, map, option_map, string_bytes, IfErr};
+ghost use Rattle.std.specs.Prelude.{◌≡◌, ◌∷◌, map, option_map, string_bytes, IfErr, OnErr};
 ghost use Rattle.std.specs.Result.{result_ok};
 ghost use Rattle.sj_text_core.specs.Tree.{list, obj, items_from};
 ghost use Rattle.sj_object.specs.Members.{entry_members};
@@ -25,11 +25,23 @@ fn replace_at<T: KeyText>(
 {
     match tokens {
         [] => Ok(mem::replace(value, new)),
-        [first, rest @ ..] => match value {
-            Document::Object(members) => replace_member(members, first.as_str(), rest, new),
-            Document::Array(items) => replace_item(items, first.as_str(), rest, new),
-            _ => Err(new),
-        },
+        [first, rest @ ..] => replace_step(value, first.as_str(), rest, new),
+    }
+}
+
+#[cycle(replace)]
+fn replace_step<T: KeyText>(
+    value: &mut Document<T>,
+    token: &str,
+    rest: &[String],
+    new: Document<T>,
+) -> Result<Document<T>, Document<T>>
+    ensures { Replaces T.text_of (token.now ∷ map string_bytes rest.now) new (tree T.text_of value.old) (tree T.text_of value.new) result }
+{
+    match value {
+        Document::Object(members) => replace_member(members, token, rest, new),
+        Document::Array(items) => replace_item(items, token, rest, new),
+        _ => Err(new),
     }
 }
 
@@ -57,9 +69,13 @@ fn replace_item<T: KeyText>(
 ) -> Result<Document<T>, Document<T>>
     ensures { Replaces T.text_of (token.now ∷ map string_bytes rest.now) new (list (items_from (map (tree T.text_of) items.old.items))) (list (items_from (map (tree T.text_of) items.new.items))) result }
 {
-    match position(token) {
-        Some(at) if at < items.len() => replace_at(&mut items[at], rest, new),
-        _ => Err(new),
+    let Some(at) = position(token) else {
+        return Err(new);
+    };
+    if at < items.len() {
+        replace_at(&mut items[at], rest, new)
+    } else {
+        Err(new)
     }
 }
 
@@ -72,6 +88,7 @@ pub fn replace<T: KeyText>(
 ) -> Result<Document<T>, Document<T>>
     ensures before { option_map (tree T.text_of) (result_ok result) ≡ pointed pointer.now (tree T.text_of value.old) }
     ensures after { tree T.text_of value.new ≡ set_pointed pointer.now (tree T.text_of new) (tree T.text_of value.old) }
+    ensures kept { OnErr result (tree T.text_of value.new ≡ tree T.text_of value.old) }
     ensures back { IfErr result (λ given. given ≡ new) }
 {
     replace_at(value, pointer.tokens(), new)

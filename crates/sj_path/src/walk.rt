@@ -2,6 +2,7 @@
 
 ghost use Rattle.std.specs.Prelude.{◌≡◌, map, option_map, string_bytes};
 ghost use Rattle.sj_document.specs.Document.{tree};
+ghost use Rattle.sj_text_core.specs.declared.repeats.Repeats.TheVariants.{First};
 ghost use Rattle.sj_path.specs.Pointed.{token_into, pointed};
 
 use crate::place::position;
@@ -12,7 +13,7 @@ use sj_text_core::TypedValue;
 
 /// What one token finds.
 fn step<'v, T: KeyText>(value: &'v Document<T>, token: &str) -> Option<&'v Document<T>>
-    ensures { option_map (λ v. tree T.text_of v.now) result ≡ token_into Repeats.First token.now (tree T.text_of value.now) }
+    ensures { option_map (λ v. tree T.text_of v.now) result ≡ token_into First token.now (tree T.text_of value.now) }
 {
     if value.is_array() {
         value.get_idx(position(token)?)
@@ -21,20 +22,26 @@ fn step<'v, T: KeyText>(value: &'v Document<T>, token: &str) -> Option<&'v Docum
     }
 }
 
-/// What the pointer's tokens find in the document; None where one of them finds nothing.
-pub fn find<'v, T: KeyText>(value: &'v Document<T>, pointer: &Pointer) -> Option<&'v Document<T>>
-    ensures { option_map (λ v. tree T.text_of v.now) result ≡ pointed pointer.now (tree T.text_of value.now) }
+fn find_in<'v, T: KeyText>(value: &'v Document<T>, tokens: &[String]) -> Option<&'v Document<T>>
+    ensures { option_map (λ v. tree T.text_of v.now) result ≡ pointed (map string_bytes tokens.now) (tree T.text_of value.now) }
 {
     let mut at = value;
-    for token in pointer.tokens() {
+    for token in tokens {
         at = step(at, token.as_str())?;
     }
     Some(at)
 }
 
+/// What the pointer's tokens find in the document; None where one of them finds nothing.
+pub fn find<'v, T: KeyText>(value: &'v Document<T>, pointer: &Pointer) -> Option<&'v Document<T>>
+    ensures { option_map (λ v. tree T.text_of v.now) result ≡ pointed pointer.now (tree T.text_of value.now) }
+{
+    find_in(value, pointer.tokens())
+}
+
 /// What one token finds, to write.
 fn step_mut<'v, T: KeyText>(value: &'v mut Document<T>, token: &str) -> Option<&'v mut Document<T>>
-    ensures { option_map (λ v. tree T.text_of v.now) result ≡ token_into Repeats.First token.now (tree T.text_of value.old) }
+    ensures { option_map (λ v. tree T.text_of v.now) result ≡ token_into First token.now (tree T.text_of value.old) }
 {
     if value.is_array() {
         value.get_idx_mut(position(token)?)
@@ -43,7 +50,7 @@ fn step_mut<'v, T: KeyText>(value: &'v mut Document<T>, token: &str) -> Option<&
     }
 }
 
-fn find_in<'v, T: KeyText>(
+fn find_in_mut<'v, T: KeyText>(
     value: &'v mut Document<T>,
     tokens: &[String],
 ) -> Option<&'v mut Document<T>>
@@ -51,7 +58,7 @@ fn find_in<'v, T: KeyText>(
 {
     match tokens {
         [] => Some(value),
-        [first, rest @ ..] => find_in(step_mut(value, first.as_str())?, rest),
+        [first, rest @ ..] => find_in_mut(step_mut(value, first.as_str())?, rest),
     }
 }
 
@@ -62,5 +69,5 @@ pub fn find_mut<'v, T: KeyText>(
 ) -> Option<&'v mut Document<T>>
     ensures { option_map (λ v. tree T.text_of v.now) result ≡ pointed pointer.now (tree T.text_of value.old) }
 {
-    find_in(value, pointer.tokens())
+    find_in_mut(value, pointer.tokens())
 }

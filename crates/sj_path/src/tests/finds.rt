@@ -70,7 +70,10 @@ fn borrowed_documents(rt: HostRuntime) -> Result<(), Fail> {
     for text in MISSING {
         let pointer = pointer(alloc, text)?;
         assert!(rt; borrowed::find(&value, &pointer).is_none(), "{text}");
-        assert!(rt; borrowed::find_mut(&mut value, &pointer).is_none(), "{text}");
+        assert!(rt;
+            borrowed::find_mut(&mut value, &pointer).is_none(),
+            "{text}"
+        );
     }
     Ok(())
 }
@@ -91,7 +94,10 @@ fn lazy_documents(rt: HostRuntime) -> Result<(), Fail> {
             assert_eq!(rt; found.is_value(), owned);
         }
         for text in MISSING {
-            assert!(rt; lazy::find(&value, &pointer(alloc, text)?).is_none(), "{text}");
+            assert!(rt;
+                lazy::find(&value, &pointer(alloc, text)?).is_none(),
+                "{text}"
+            );
         }
         assert_eq!(rt; value.is_value(), owned);
     }
@@ -111,7 +117,10 @@ fn lazy_writes_upgrade_first(rt: HostRuntime) -> Result<(), Fail> {
     }
     for text in MISSING {
         let mut value: lazy::Value<'_, '_, '_> = lazy::Value::from_tape(tape.as_value());
-        assert!(rt; lazy::find_mut(&mut value, alloc, &pointer(alloc, text)?)?.is_none(), "{text}");
+        assert!(rt;
+            lazy::find_mut(&mut value, alloc, &pointer(alloc, text)?)?.is_none(),
+            "{text}"
+        );
         assert!(rt; value.is_value());
     }
     Ok(())
@@ -127,8 +136,7 @@ fn tapes_go_by_their_choice(rt: HostRuntime) -> Result<(), Fail> {
         (Repeats::Last, "/a", r#"[3,{"c":4,"c":5}]"#),
         (Repeats::Last, "/a/1/c", "5"),
     ] {
-        let value: lazy::Value<'_, '_, '_> =
-            lazy::Value::from_tape(tape.as_value_repeats(repeats));
+        let value: lazy::Value<'_, '_, '_> = lazy::Value::from_tape(tape.as_value_repeats(repeats));
         let found = lazy::find(&value, &pointer(alloc, text)?).ok_or("a value")?;
         assert_eq!(rt; found.encode(alloc)?.as_str(), want);
     }

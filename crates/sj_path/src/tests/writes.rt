@@ -50,8 +50,7 @@ fn borrowed_documents(rt: HostRuntime) -> Result<(), Fail> {
     for (text, before, after) in WRITES {
         let mut bytes = SMALL.as_bytes().to_vec(alloc)?;
         let mut value = sj_borrowed::to_value(alloc, bytes.as_mut_slice())?;
-        let Ok(old) = borrowed::replace(&mut value, &pointer(alloc, text)?, Document::null())
-        else {
+        let Ok(old) = borrowed::replace(&mut value, &pointer(alloc, text)?, Document::null()) else {
             return Err(Fail::from("a value"));
         };
         assert_eq!(rt; old.encode(alloc)?.as_str(), before);
@@ -67,9 +66,11 @@ fn lazy_documents(rt: HostRuntime) -> Result<(), Fail> {
     let tape = to_tape(alloc, bytes.as_mut_slice())?;
     for (text, before, after) in WRITES {
         let mut value: lazy::Value<'_, '_, '_> = lazy::Value::from_tape(tape.as_value());
-        let Ok(old) =
-            borrowed::replace(value.as_mut(alloc)?, &pointer(alloc, text)?, Document::null())
-        else {
+        let Ok(old) = borrowed::replace(
+            value.as_mut(alloc)?,
+            &pointer(alloc, text)?,
+            Document::null(),
+        ) else {
             return Err(Fail::from("a value"));
         };
         assert_eq!(rt; old.encode(alloc)?.as_str(), before);

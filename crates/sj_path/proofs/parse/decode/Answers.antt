@@ -9,8 +9,8 @@ loop-plain-preserved c =
     let next = string_bytes c.push_str.new.self in (
       search rules,
       one_escape (string_bytes c.loop-plain.text) next (string_bytes c.push.new.self) c.in-Some.plain.now c.in-Some.escaped.now c.loop-plain.rest.now c.escape-character.result.1.now c.escape-character.result.0
-        c.in_ok-push_str.ensures.bytes (c.in_ok-push.ensures.bytes ∙ ap (λ x. next ++ x) (c.in_ok-push.ensures.ascii c.escape-character.ensures.ascii)) parts.0 parts.1 c.escape-character.ensures.decoded
-      ∙ c.loop-plain.invariant.1,
+          c.in_ok-push_str.ensures.bytes (c.in_ok-push.ensures.bytes ∙ ap (λ x. next ++ x) (c.in_ok-push.ensures.ascii c.escape-character.ensures.ascii)) parts.0 parts.1 c.escape-character.ensures.decoded
+          ∙ c.loop-plain.invariant.1,
     )
 
 pub returns : goal.returns

@@ -9,7 +9,7 @@ loop-token-preserved c =
     let parts = split_parts 47 rest (Some (c.in-Some.token, c.in-Some.tail)) c.in-Some.ensures.cases (lit< tt) in (
       search rules,
       one_token string_bytes c.loop-token.tokens.items c.push.new.self.items c.in_ok-decode.field-0 c.in-Some.token.now rest c.in-Some.tail.now c.in_ok-push.ensures.items c.in_ok-decode.ensures parts.0 parts.1
-      ∙ c.loop-token.invariant.1,
+          ∙ c.loop-token.invariant.1,
     )
 
 pub returns : goal.returns
