@@ -1,20 +1,22 @@
 //! Pointers into lazy documents.
 
-ghost use Rattle.std.specs.Prelude.{◌≡◌, IfOk, IfSome, IsSome, IsOk, option_map, map, string_bytes};
+ghost use Rattle.std.specs.Prelude.{◌≡◌, Some, IfErr, IfOk, IfSome, IsSome, IsOk, OnErr, OnOk, option_map, map, string_bytes};
 ghost use Rattle.std.specs.Cow.{cow_str_bytes};
+ghost use Rattle.std.specs.Result.{result_ok};
 ghost use Rattle.sj_document.specs.Document.{tree as document_tree};
 ghost use Rattle.sj_tape.specs.Value.{tree as tape_tree, choice as tape_choice};
-ghost use Rattle.sj_lazy.specs.Value.{tree, choice, kept, owned};
-ghost use Rattle.sj_path.specs.Pointed.{token_into, pointed, pointed_by};
+ghost use Rattle.sj_lazy.specs.Value.{tree, choice, kept, lazy_kept, owned};
+ghost use Rattle.sj_path.specs.Pointed.{token_into, pointed, pointed_by, set_pointed};
 
 use crate::place::position;
 use crate::tokens::Pointer;
-use crate::walk;
-use sj_document::BorrowedValue;
+use crate::{walk, write};
+use sj_document::{BorrowedValue, Document};
 pub use sj_lazy::Value;
-use sj_lazy::{Lazy, Shared};
+use sj_lazy::{Lazy, Lent, Shared, Upgrade};
+use sj_object::KeyText;
 use sj_tape::Value as TapeValue;
-use sj_text_core::TypedValue;
+use sj_text_core::{Refused, TypedValue};
 use std::alloc::{AllocError, Global};
 
 /// What one token finds on a tape.
@@ -60,8 +62,7 @@ pub fn find<'v, 't, 'i>(
 }
 
 /// What the pointer's tokens find, to write, once the value is owned, also where they find nothing.
-/// Refused, it is as it was. What it is after a write is said by `as_mut` with `replace` of borrowed
-/// documents, and not here.
+/// Refused, it is as it was. What it is after a write is said by `replace`, and not here.
 pub fn find_mut<'v, 'i>(
     value: &'v mut Value<'_, '_, 'i>,
     alloc: Global,
@@ -71,4 +72,26 @@ pub fn find_mut<'v, 'i>(
     ensures succeeds { IsSome (owned cow_str_bytes value.old) → IsOk result }
 {
     Ok(walk::find_mut(value.as_mut(alloc)?, pointer))
+}
+
+/// Puts the document in the place of what the pointer finds, once the value is owned, also where it
+/// finds nothing. What stood there is answered, or else the document comes back as the inner `Err`.
+/// Refused for want of memory, the value is as it was, and the document comes back too.
+pub fn replace<P: Upgrade<T> + Drop, B: Lent<T> + Drop, T: KeyText + Drop>(
+    value: &mut Lazy<P, B, T>,
+    alloc: Global,
+    pointer: &Pointer,
+    new: Document<T>,
+) -> Result<Result<Document<T>, Document<T>>, Refused<AllocError, Document<T>>>
+    ensures before { IfOk result (λ answer. option_map (document_tree T.text_of) (result_ok answer) ≡ pointed pointer.now (lazy_kept P.part_kept B.lent_tree T.text_of value.old)) }
+    ensures after { OnOk result (owned T.text_of value.new ≡ Some (set_pointed pointer.now (document_tree T.text_of new) (lazy_kept P.part_kept B.lent_tree T.text_of value.old))) }
+    ensures back { IfOk result (λ answer. IfErr answer (λ given. given ≡ new)) }
+    ensures refused { OnErr result (value.new ≡ value.old) }
+    ensures returned { IfErr result (λ refused. refused.value ≡ new) }
+    ensures succeeds { IsSome (owned T.text_of value.old) → IsOk result }
+{
+    match value.as_mut(alloc) {
+        Ok(document) => Ok(write::replace(document, pointer, new)),
+        Err(why) => Err(Refused { why, value: new }),
+    }
 }

@@ -22,9 +22,9 @@ pub mod lazy;
 pub mod owned;
 mod parse;
 mod place;
-mod replace;
 mod tokens;
 mod walk;
+mod write;
 
 pub use error::PointerError;
 pub use parse::pointer;

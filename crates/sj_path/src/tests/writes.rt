@@ -66,15 +66,22 @@ fn lazy_documents(rt: HostRuntime) -> Result<(), Fail> {
     let tape = to_tape(alloc, bytes.as_mut_slice())?;
     for (text, before, after) in WRITES {
         let mut value: lazy::Value<'_, '_, '_> = lazy::Value::from_tape(tape.as_value());
-        let Ok(old) = borrowed::replace(
-            value.as_mut(alloc)?,
-            &pointer(alloc, text)?,
-            Document::null(),
-        ) else {
+        let pointer = pointer(alloc, text)?;
+        let Ok(Ok(old)) = lazy::replace(&mut value, alloc, &pointer, Document::null()) else {
             return Err(Fail::from("a value"));
         };
         assert_eq!(rt; old.encode(alloc)?.as_str(), before);
         assert_eq!(rt; value.encode(alloc)?.as_str(), after);
+    }
+    for text in MISSING {
+        let mut value: lazy::Value<'_, '_, '_> = lazy::Value::from_tape(tape.as_value());
+        let pointer = pointer(alloc, text)?;
+        let Ok(Err(back)) = lazy::replace(&mut value, alloc, &pointer, Document::null()) else {
+            return Err(Fail::from("none"));
+        };
+        assert_eq!(rt; back.encode(alloc)?.as_str(), "null");
+        assert_eq!(rt; value.encode(alloc)?.as_str(), SMALL);
+        assert!(rt; value.is_value());
     }
     Ok(())
 }

@@ -1,5 +1,5 @@
 use Rattle.std.proofs.Common.{◌+◌, ◌*◌, length}
-use Rattle.sj_path.proofs.replace.+replace.Given as goal
+use Rattle.sj_path.proofs.write.+replace.Given as goal
 
 abbrev pub decreases-replace_at : goal.decreases-replace_at
 decreases-replace_at g l = 3 * length l.tokens.now

@@ -9,7 +9,7 @@ use Rattle.sj_document.specs.declared.value.Document.{Document, Object, Array, t
 use Rattle.sj_document.proofs.Trees.{Map, tree-Object, tree-Array}
 use Rattle.sj_path.specs.Pointed.{place_or_key, step_by}
 use Rattle.sj_path.proofs.Replacing.{replaced_below, replaced_missing, replaced_as, item_at, item_set, no_item}
-use Rattle.sj_path.proofs.replace.+replace.Goals as goal
+use Rattle.sj_path.proofs.write.+replace.Goals as goal
 
 pub replace_member-returns-in-Some : goal.replace_member-returns-in-Some
 replace_member-returns-in-Some g r c =
