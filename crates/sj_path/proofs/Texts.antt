@@ -28,7 +28,7 @@ replaced_plain : (d c x : ℕ) (s : List ℕ) → eqb x 126 ≡ false → replac
 replaced_plain d c x [] e = refl
 replaced_plain d c x (y ∷ s) e = ap (λ b. if b && (y == d) then c ∷ replaced d c s else x ∷ replaced d c (y ∷ s)) e
 
-decoded_plain : (x : ℕ) (s : List ℕ) → eqb x 126 ≡ false → decoded (x ∷ s) ≡ x ∷ decoded s
+pub decoded_plain : (x : ℕ) (s : List ℕ) → eqb x 126 ≡ false → decoded (x ∷ s) ≡ x ∷ decoded s
 decoded_plain x s e = ap (replaced 48 126) (replaced_plain 49 47 x s e) ∙ replaced_plain 48 126 x (replaced 49 47 s) e
 
 -- a run without a tilde stays

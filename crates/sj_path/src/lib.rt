@@ -18,6 +18,7 @@
 
 pub mod borrowed;
 mod error;
+pub mod laws;
 pub mod lazy;
 pub mod owned;
 mod parse;
