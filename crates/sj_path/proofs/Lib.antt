@@ -1,0 +1,6 @@
+pub mod Texts
+pub mod Numbers
+pub mod Spellings
+pub mod Numerals
+pub mod Replacing
+pub mod rows

@@ -1,0 +1,26 @@
+-- The tokens of a pointer (RFC 6901, sections 3 and 4).
+use Rattle.std.specs.Prelude.{ℕ, ◌==◌, ◌&&◌, List, [], ◌∷◌, drop, map, if◌then◌else◌}
+
+-- b in front of the first text
+abbrev pub onto : ℕ → List (List ℕ) → List (List ℕ)
+onto b [] = (b ∷ []) ∷ []
+onto b (w ∷ ws) = (b ∷ w) ∷ ws
+
+-- the texts that a text's slashes part, one more than there are slashes
+abbrev pub parted : List ℕ → List (List ℕ)
+parted [] = [] ∷ []
+parted (b ∷ s) = if b == 47 then [] ∷ parted s else onto b (parted s)
+
+-- with the byte c in the place of each tilde that has the byte d behind it, and of that d
+abbrev pub replaced : ℕ → ℕ → List ℕ → List ℕ
+replaced d c [] = []
+replaced d c (x ∷ []) = x ∷ []
+replaced d c (x ∷ y ∷ s) = if (x == 126) && (y == d) then c ∷ replaced d c s else x ∷ replaced d c (y ∷ s)
+
+-- section 4: first a slash in the place of each `~1`, and then a tilde in the place of each `~0`
+abbrev pub decoded : List ℕ → List ℕ
+decoded w = replaced 48 126 (replaced 49 47 w)
+
+-- section 3: what stands behind the slashes, decoded
+abbrev pub tokens_of : List ℕ → List (List ℕ)
+tokens_of s = map decoded (drop 1 (parted s))

@@ -1,0 +1,97 @@
+//! Pointers into lazy documents.
+
+ghost use Rattle.std.specs.Prelude.{◌≡◌, Some, IfErr, IfOk, IfSome, IsSome, IsOk, OnErr, OnOk, option_map, map, string_bytes};
+ghost use Rattle.std.specs.Cow.{cow_str_bytes};
+ghost use Rattle.std.specs.Result.{result_ok};
+ghost use Rattle.sj_document.specs.Document.{tree as document_tree};
+ghost use Rattle.sj_tape.specs.Value.{tree as tape_tree, choice as tape_choice};
+ghost use Rattle.sj_lazy.specs.Value.{tree, choice, kept, lazy_kept, owned};
+ghost use Rattle.sj_path.specs.Pointed.{token_into, pointed, pointed_by, set_pointed};
+
+use crate::place::position;
+use crate::tokens::Pointer;
+use crate::{walk, write};
+use sj_document::{BorrowedValue, Document};
+pub use sj_lazy::Value;
+use sj_lazy::{Lazy, Lent, Shared, Upgrade};
+use sj_object::KeyText;
+use sj_tape::Value as TapeValue;
+use sj_text_core::{Refused, TypedValue};
+use std::alloc::{AllocError, Global};
+
+/// What one token finds on a tape.
+fn step<'t, 'i>(part: TapeValue<'t, 'i>, token: &str) -> Option<TapeValue<'t, 'i>>
+    ensures value { option_map tape_tree result ≡ token_into (tape_choice part.entry) token.now (tape_tree part.entry) }
+    ensures choice { IfSome result (λ found. tape_choice found ≡ tape_choice part.entry) }
+{
+    if part.is_array() {
+        part.get_idx(position(token)?)
+    } else {
+        part.get(token)
+    }
+}
+
+/// What tokens find on a tape.
+fn find_on_tape<'t, 'i>(part: TapeValue<'t, 'i>, tokens: &[String]) -> Option<TapeValue<'t, 'i>>
+    ensures value { option_map tape_tree result ≡ pointed_by (tape_choice part.entry) (map string_bytes tokens.now) (tape_tree part.entry) }
+    ensures choice { IfSome result (λ found. tape_choice found ≡ tape_choice part.entry) }
+{
+    let mut at = part;
+    for token in tokens {
+        at = step(at, token.as_str())?;
+    }
+    Some(at)
+}
+
+/// What the pointer's tokens find, by the value's own choice among members of one key; None where
+/// one of them finds nothing. The value keeps its form, and nothing is built.
+pub fn find<'v, 't, 'i>(
+    value: &'v Value<'_, 't, 'i>,
+    pointer: &Pointer,
+) -> Option<Value<'v, 't, 'i>>
+    ensures value { option_map tree result ≡ pointed_by (choice value.now) pointer.now (tree value.now) }
+    ensures choice { IfSome result (λ found. choice found ≡ choice value.now) }
+{
+    match value {
+        Lazy::Tape(part) => Some(Lazy::Tape(find_on_tape(*part, pointer.tokens())?)),
+        Lazy::Value(document) => Some(Lazy::Value(Shared::Borrowed(walk::find(
+            document.document(),
+            pointer,
+        )?))),
+    }
+}
+
+/// What the pointer's tokens find, to write, once the value is owned, also where they find nothing.
+/// Refused, it is as it was. What it is after a write is said by `replace`, and not here.
+pub fn find_mut<'v, 'i>(
+    value: &'v mut Value<'_, '_, 'i>,
+    alloc: Global,
+    pointer: &Pointer,
+) -> Result<Option<&'v mut BorrowedValue<'i>>, AllocError>
+    ensures value { IfOk result (λ found. option_map (λ v. document_tree cow_str_bytes v.now) found ≡ pointed pointer.now (kept value.old)) }
+    ensures succeeds { IsSome (owned cow_str_bytes value.old) → IsOk result }
+{
+    Ok(walk::find_mut(value.as_mut(alloc)?, pointer))
+}
+
+/// Puts the document in the place of what the pointer finds, once the value is owned, also where it
+/// finds nothing. What stood there is answered, or else the document comes back as the inner `Err`.
+/// Refused for want of memory, the value is as it was, and the document comes back too.
+pub fn replace<P: Upgrade<T> + Drop, B: Lent<T> + Drop, T: KeyText + Drop>(
+    value: &mut Lazy<P, B, T>,
+    alloc: Global,
+    pointer: &Pointer,
+    new: Document<T>,
+) -> Result<Result<Document<T>, Document<T>>, Refused<AllocError, Document<T>>>
+    ensures before { IfOk result (λ answer. option_map (document_tree T.text_of) (result_ok answer) ≡ pointed pointer.now (lazy_kept P.part_kept B.lent_tree T.text_of value.old)) }
+    ensures after { OnOk result (owned T.text_of value.new ≡ Some (set_pointed pointer.now (document_tree T.text_of new) (lazy_kept P.part_kept B.lent_tree T.text_of value.old))) }
+    ensures back { IfOk result (λ answer. IfErr answer (λ given. given ≡ new)) }
+    ensures refused { OnErr result (value.new ≡ value.old) }
+    ensures returned { IfErr result (λ refused. refused.value ≡ new) }
+    ensures succeeds { IsSome (owned T.text_of value.old) → IsOk result }
+{
+    match value.as_mut(alloc) {
+        Ok(document) => Ok(write::replace(document, pointer, new)),
+        Err(why) => Err(Refused { why, value: new }),
+    }
+}

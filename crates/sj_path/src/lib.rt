@@ -1,0 +1,36 @@
+//! JSON pointers (RFC 6901) into documents of each form.
+//!
+//! A pointer is a text: empty, or tokens each begun by a slash. On an object a token is a key, on an
+//! array the position of an item. A pointer finds what its tokens find in the document's tree, one
+//! after another, and nothing where one of them finds nothing.
+//!
+//! ```
+//! let mut bytes = b"{\"foo\":[\"bar\",\"baz\"],\"m~n\":8}".to_vec(alloc)?;
+//! let mut value = sj_owned::to_value(alloc, bytes.as_mut_slice())?;
+//! let found = owned::find(&value, &pointer(alloc, "/foo/1")?).ok_or("an item")?;
+//! assert_eq!(rt; found.as_str(), Some("baz"));
+//! let escaped = pointer(alloc, "/m~0n")?;
+//! let before = owned::replace(&mut value, &escaped, Value::from(9));
+//! assert_eq!(rt; value.encode(alloc)?.as_str(), "{\"foo\":[\"bar\",\"baz\"],\"m~n\":9}");
+//! assert_eq!(rt; pointer(alloc, "/a~2").err(), Some(PointerError::BadTilde));
+//! ```
+#![tactic(auto)]
+
+pub mod borrowed;
+mod error;
+pub mod laws;
+pub mod lazy;
+pub mod owned;
+mod parse;
+mod place;
+mod tokens;
+mod walk;
+mod write;
+
+pub use error::PointerError;
+pub use parse::pointer;
+pub use place::position;
+pub use tokens::Pointer;
+
+#[cfg(test)]
+mod tests;
