@@ -3,6 +3,7 @@ use std::test::Fail;
 
 mod calls;
 mod documents;
+mod first_lines;
 mod known_keys;
 mod serialize;
 

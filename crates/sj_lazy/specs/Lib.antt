@@ -4,3 +4,17 @@ pub mod Object
 pub mod Edits
 pub mod SameMap
 pub mod Rows
+pub mod Paths
+pub use Rattle.sj_text_core.specs.Tree
+pub use Rattle.sj_text_core.specs.Find
+pub use Rattle.sj_text_core.specs.Keep
+pub use Rattle.sj_text_core.specs.Repeats
+pub use Rattle.sj_text_core.specs.Same
+pub use Rattle.sj_text_core.specs.Equal
+pub use Rattle.sj_text_core.specs.Scalars
+pub use Rattle.sj_text_core.specs.Reads
+pub use Rattle.sj_object.specs.Keys
+pub use Rattle.sj_object.specs.Members
+pub use Rattle.sj_document.specs.Document
+pub use Rattle.sj_document.specs.Makes
+pub use Rattle.sj_document.specs.SameWith

@@ -1,5 +1,5 @@
 -- The tree that a lazy value means.
-use Rattle.std.specs.Prelude.{ℕ, List, Option, Some, None, Bool, true, false}
+use Rattle.std.specs.Prelude.{ℕ, List, Option, Some, None, Bool, true, false, not}
 use Rattle.std.specs.Borrow.{Bor}
 use Rattle.std.specs.Cow.{cow_str_bytes}
 use Rattle.std.specs.declared.borrow.CowStr.{CowStr}
@@ -10,7 +10,8 @@ use Rattle.sj_text_core.specs.Repeats.{find_by, keep_by, by_first}
 use Rattle.sj_text_core.specs.declared.repeats.Repeats.{Repeats}
 use Rattle.sj_text_core.specs.declared.repeats.Repeats.TheVariants.{First}
 use Rattle.sj_tape.specs.Value.{tree as tape_tree, choice as tape_choice}
-use Rattle.sj_document.specs.Document.{tree as document_tree}
+use Rattle.sj_object.specs.Keys.{is_borrowed}
+use Rattle.sj_document.specs.Document.{tree as document_tree, all_texts}
 use Rattle.sj_document.specs.declared.value.Document.{Document}
 use Rattle.sj_lazy.specs.declared.value.Shared.{Shared}
 use Rattle.sj_lazy.specs.declared.value.Shared.TheVariants.{Borrowed, Owned}
@@ -66,6 +67,15 @@ Text = CowStr Global
 -- the tree of a document that is lent
 abbrev pub lent_tree : Bor (Document Text) → Tree
 lent_tree v = document_tree cow_str_bytes v.now
+
+abbrev pub shared_lends_owned : Shared (Bor (Document Text)) Text → Bool
+shared_lends_owned (Borrowed v) = not (all_texts is_borrowed v.now)
+shared_lends_owned (Owned v) = false
+
+-- whether a document is lent in which a text or a key owns its bytes
+abbrev pub lends_owned : {P : Type 0} → Lazy P (Bor (Document Text)) Text → Bool
+lends_owned (Tape x) = false
+lends_owned (Value c) = shared_lends_owned c
 
 abbrev pub tree : Lazy TapeValue (Bor (Document Text)) Text → Tree
 tree = lazy_tree tape_tree lent_tree cow_str_bytes

@@ -1,6 +1,8 @@
 mod choices;
 mod comparisons;
+mod first_lines;
 mod forms;
+mod makes;
 mod reads;
 mod scalars;
 

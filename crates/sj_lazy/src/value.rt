@@ -16,6 +16,7 @@ mod convert;
 mod edit;
 mod from;
 mod loans;
+mod make;
 mod scalar;
 mod serialize;
 mod typed;
@@ -54,10 +55,10 @@ impl<P, B, T: KeyText> Lazy<P, B, T> {
     ghost use Rattle.sj_lazy.specs.declared.value.Lazy.TheVariants.{Tape};
 
     /// The part of the tape, as it is.
-    pub fn from_tape(part: P) -> Self
-        ensures { result ≡ Tape part }
+    pub fn from_tape(tape: P) -> Self
+        ensures { result ≡ Tape tape }
     {
-        Lazy::Tape(part)
+        Lazy::Tape(tape)
     }
 
     /// Whether it is a part of a tape.

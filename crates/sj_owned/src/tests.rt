@@ -4,6 +4,7 @@ use std::test::Fail;
 
 mod calls;
 mod documents;
+mod first_lines;
 mod serialize;
 
 /// The text, owned.

@@ -2,10 +2,11 @@
 
 use super::keys_of;
 use crate::Value;
-use sj_document::owned_from_tape;
+use sj_document::{borrowed_from_tape, owned_from_tape};
 use sj_tape::to_tape;
 use sj_text_core::{AccessError, Repeats, SameAs, Writable};
 use std::alloc::Global;
+use std::borrow::CowStr;
 use std::test::Fail;
 
 #[test]
@@ -43,6 +44,8 @@ fn last_of(value: &Value) -> Result<u8, Fail> {
 #[test]
 fn the_choice_goes_with_the_parts(rt: HostRuntime) -> Result<(), Fail> {
     let alloc = rt.alloc();
+    let mut text = br#"{"q":1,"q":2}"#.to_vec(alloc)?;
+    let repeated = to_tape(alloc, text.as_mut_slice())?;
     let mut text = br#"{"a":1,"b":{"c":4,"c":5},"a":[6]}"#.to_vec(alloc)?;
     let tape = to_tape(alloc, text.as_mut_slice())?;
     let mut value: Value<'_, '_, '_> = Value::from_tape(tape.as_value_repeats(Repeats::Last));
@@ -51,10 +54,18 @@ fn the_choice_goes_with_the_parts(rt: HostRuntime) -> Result<(), Fail> {
     let part = encoded(alloc, &value, "b")?;
     assert_eq!(rt; part.as_str(), r#"{"c":4,"c":5}"#);
     assert_eq!(rt; last_of(&value)?, 5);
+    assert_eq!(rt; value.as_object().ok_or("an object")?.len(), 3);
     let keys = keys_of(alloc, &value)?;
     assert_eq!(rt; keys.as_str(), "a b a ");
-    assert!(rt; matches!(value.pop(alloc), Err(AccessError::NotAnArray)));
+    let Some(part) = value.get_mut(alloc, "b")? else {
+        return Err("a member".into());
+    };
+    assert!(rt; matches!(part.pop(), Err(AccessError::NotAnArray)));
     assert_eq!(rt; value.encode(alloc)?.as_str(), r#"{"a":[6],"b":{"c":5}}"#);
+    let new = borrowed_from_tape(alloc, repeated.as_value())?;
+    assert!(rt; value.insert(alloc, CowStr::Borrowed("z"), new)?.is_none());
+    let item = encoded(alloc, &value, "z")?;
+    assert_eq!(rt; item.as_str(), r#"{"q":1}"#);
     Ok(())
 }
 

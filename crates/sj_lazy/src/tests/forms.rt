@@ -4,7 +4,7 @@ use super::keys_of;
 use crate::{Shared, Value};
 use sj_document::Document;
 use sj_tape::to_tape;
-use sj_text_core::{AccessError, StaticNode, ValueAsScalar, Writable};
+use sj_text_core::{AccessError, StaticNode, TryMake, ValueAsScalar, Writable};
 use std::alloc::Global;
 use std::borrow::CowStr;
 use std::test::Fail;
@@ -65,7 +65,7 @@ fn copies_keep_the_form(rt: HostRuntime) -> Result<(), Fail> {
         r#"{"a":[1]}"#
     );
     let null: Value<'_, '_, '_> = Value::null();
-    assert!(rt; null.is_tape());
+    assert!(rt; null.is_tape() && null.clone()?.is_tape());
     assert!(rt; null == Value::default());
     Ok(())
 }
@@ -84,6 +84,10 @@ fn texts_are_taken_out_of_each_form(rt: HostRuntime) -> Result<(), Fail> {
         assert!(rt; second.into_string()?.is_none());
         value.as_mut(alloc)?;
     }
+    let words = vec![in alloc; String::from_str(alloc, "b")?]?;
+    let words: Value<'_, '_, '_> = Value::try_make(alloc, words)?;
+    let word = words.get_idx(0).ok_or("an item")?;
+    assert_eq!(rt; word.into_string()?.ok_or("a text")?.as_str(), "b");
     Ok(())
 }
 

@@ -1,8 +1,9 @@
 //! Reads, the same before and after the upgrade.
 
+use super::keys_of;
 use crate::{Array, Object, Value};
 use sj_tape::to_tape;
-use sj_text_core::{ExtendedValueType, ValueAsScalar, ValueType};
+use sj_text_core::{ExtendedValueType, ValueAsScalar, ValueType, Writable};
 use std::process::Abort;
 use std::test::Fail;
 
@@ -47,6 +48,19 @@ fn members_are_read_by_type(rt: HostRuntime) -> Result<(), Fail> {
         assert_eq!(rt; fault.got, ValueType::Array);
         value.as_mut(alloc)?;
     }
+    Ok(())
+}
+
+#[test]
+fn reads_leave_a_tape(rt: HostRuntime) -> Result<(), Fail> {
+    let alloc = rt.alloc();
+    let mut text = br#"{"a":1}"#.to_vec(alloc)?;
+    let tape = to_tape(alloc, text.as_mut_slice())?;
+    let value: Value<'_, '_, '_> = Value::from_tape(tape.as_value());
+    assert_eq!(rt; value.get_u8("a"), Some(1));
+    assert_eq!(rt; keys_of(alloc, &value)?.as_str(), "a ");
+    assert_eq!(rt; value.encode(alloc)?.as_str(), r#"{"a":1}"#);
+    assert!(rt; value.is_tape() && !value.is_value());
     Ok(())
 }
 

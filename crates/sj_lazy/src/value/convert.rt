@@ -1,14 +1,14 @@
 //! Copies of a lazy value, and what it is turned into.
 
-ghost use Rattle.std.specs.Prelude.{◌≡◌, ◌≢◌, Ok, IfOk, IsOk, IsSome, OnErr, not, option_map, is_some};
+ghost use Rattle.std.specs.Prelude.{◌≡◌, ◌≢◌, Ok, IfOk, IsOk, IsSome, OnErr, true, not, option_map, is_some};
 ghost use Rattle.std.specs.Cow.{cow_str_bytes};
 ghost use Rattle.sj_document.specs.Document.{tree as document_tree};
-ghost use Rattle.sj_lazy.specs.Value.{tree, choice, form, of_lent, of_owned};
+ghost use Rattle.sj_lazy.specs.Value.{tree, choice, form, of_lent, of_owned, lends_owned};
 ghost use Rattle.sj_text_core.specs.Reads.{as_text};
 
 use super::{Lazy, Shared, Value};
 use crate::upgrade::{Lent, Upgrade};
-use sj_document::{CopyText, Document};
+use sj_document::Document;
 use sj_object::KeyText;
 use std::alloc::{AllocError, Global};
 use std::borrow::CowStr;
@@ -67,7 +67,7 @@ impl<'b, 't, 'i> Value<'b, 't, 'i> {
     /// where a text behind a lent document owns its bytes.
     pub fn into_string(self) -> Result<Option<CowStr<'i>>, AllocError>
         ensures text { IfOk result (λ s. option_map cow_str_bytes s ≡ as_text (tree self.entry)) }
-        ensures refused { OnErr result (form self.entry ≡ of_lent) }
+        ensures refused { OnErr result ((lends_owned self.entry ≡ true) × IsSome (as_text (tree self.entry))) }
     {
         match self {
             Lazy::Tape(part) => match part.into_string() {
@@ -75,7 +75,8 @@ impl<'b, 't, 'i> Value<'b, 't, 'i> {
                 None => Ok(None),
             },
             Lazy::Value(Shared::Borrowed(lent)) => match lent {
-                Document::String(text) => Ok(Some(text.copy()?)),
+                Document::String(CowStr::Borrowed(text)) => Ok(Some(CowStr::Borrowed(*text))),
+                Document::String(CowStr::Owned(text)) => Ok(Some(CowStr::Owned(text.clone()?))),
                 _ => Ok(None),
             },
             Lazy::Value(Shared::Owned(value)) => match value {
