@@ -1,10 +1,10 @@
 //! Documents whose last member of each key counts.
 
 use super::keys_of;
-use crate::Value;
-use sj_document::{borrowed_from_tape, owned_from_tape};
+use crate::{BorrowedValue, Value};
+use sj_document::owned_from_tape;
 use sj_tape::to_tape;
-use sj_text_core::{AccessError, Repeats, SameAs, Writable};
+use sj_text_core::{AccessError, Repeats, SameAs, TryMake, Writable};
 use std::alloc::Global;
 use std::borrow::CowStr;
 use std::test::Fail;
@@ -45,7 +45,7 @@ fn last_of(value: &Value) -> Result<u8, Fail> {
 fn the_choice_goes_with_the_parts(rt: HostRuntime) -> Result<(), Fail> {
     let alloc = rt.alloc();
     let mut text = br#"{"q":1,"q":2}"#.to_vec(alloc)?;
-    let repeated = to_tape(alloc, text.as_mut_slice())?;
+    let new = owned_from_tape(alloc, to_tape(alloc, text.as_mut_slice())?.as_value())?;
     let mut text = br#"{"a":1,"b":{"c":4,"c":5},"a":[6]}"#.to_vec(alloc)?;
     let tape = to_tape(alloc, text.as_mut_slice())?;
     let mut value: Value<'_, '_, '_> = Value::from_tape(tape.as_value_repeats(Repeats::Last));
@@ -62,7 +62,7 @@ fn the_choice_goes_with_the_parts(rt: HostRuntime) -> Result<(), Fail> {
     };
     assert!(rt; matches!(part.pop(), Err(AccessError::NotAnArray)));
     assert_eq!(rt; value.encode(alloc)?.as_str(), r#"{"a":[6],"b":{"c":5}}"#);
-    let new = borrowed_from_tape(alloc, repeated.as_value())?;
+    let new = BorrowedValue::try_make(alloc, new)?;
     assert!(rt; value.insert(alloc, CowStr::Borrowed("z"), new)?.is_none());
     let item = encoded(alloc, &value, "z")?;
     assert_eq!(rt; item.as_str(), r#"{"q":1}"#);

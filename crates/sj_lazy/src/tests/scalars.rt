@@ -172,16 +172,8 @@ fn values_are_the_same_as_what_they_are_made_of(rt: HostRuntime) -> Result<(), F
     assert!(rt; none.same_as(&()));
     let some: Value<'_, '_, '_> = Lazy::from(Some(42_u8));
     assert!(rt; some.same_as(&42_u8) && some.same_as(&42_i128));
-    assert!(rt; Value::from(i8::MIN).same_as(&i8::MIN));
-    assert!(rt; Value::from(i16::MIN).same_as(&i16::MIN));
-    assert!(rt; Value::from(i32::MIN).same_as(&i32::MIN));
     assert!(rt; Value::from(i64::MIN).same_as(&i64::MIN));
-    assert!(rt; Value::from(i128::MIN).same_as(&i128::MIN));
-    assert!(rt; Value::from(u8::MAX).same_as(&u8::MAX));
-    assert!(rt; Value::from(u16::MAX).same_as(&u16::MAX));
-    assert!(rt; Value::from(u32::MAX).same_as(&u32::MAX));
     assert!(rt; Value::from(u64::MAX).same_as(&u64::MAX));
-    assert!(rt; Value::from(u128::MAX).same_as(&u128::MAX));
     assert!(rt; Value::from(usize::MAX).same_as(&usize::MAX));
     let one: Value<'_, '_, '_> = Lazy::from(1_u64);
     assert!(rt; one == Lazy::from(1_i64));

@@ -37,7 +37,8 @@ impl<P, B, T: KeyText + Drop> Lazy<P, B, T> {
     ghost use Rattle.std.specs.Prelude.{List, map};
     ghost use Rattle.std.specs.Iterator.{IsFinite, Drains};
 
-    /// An array of the documents that the iterator gives, in order.
+    /// An array of the documents that the iterator gives, in order. Refused for want of memory, it
+    /// gives up what it took.
     pub fn try_from_items<I: Iterator<Item = Document<T>> + Drop>(
         alloc: Global,
         items: I,
@@ -51,7 +52,8 @@ impl<P, B, T: KeyText + Drop> Lazy<P, B, T> {
     }
 
     /// An object of the pairs that the iterator gives, inserted in turn: a key that comes again
-    /// takes the later value, in its first place.
+    /// takes the later value, in its first place. Refused for want of memory, it gives up what it
+    /// took.
     pub fn try_from_pairs<I: Iterator<Item = (T, Document<T>)> + Drop>(
         alloc: Global,
         pairs: I,
