@@ -5,7 +5,7 @@ use Rattle.std.proofs.lemmas.List.{drop_more, drop_all, get_or-drop, length-drop
 use Rattle.std.proofs.lemmas.List.Sums.{prefix_len_stops}
 use Rattle.std.proofs.Math.Seq.{take-length}
 use Rattle.std.specs.List.{prefix_len}
-use Rattle.sj_text_core.specs.Print.{escaped, quoted}
+use Rattle.sj_text_core.specs.Print.{escaped}
 use Rattle.sj_text_core.proofs.Escapes.{escaped_plain}
 use Rattle.sj_print.specs.Runs.{is_plain, is_stop}
 
@@ -53,8 +53,8 @@ stops_at d i stop is within =
     flipped true e = refl
     flipped false e = sym e
 
--- a text of plain bytes stands between the quotes as it is
-pub quoted_plain : (d : List ℕ) → prefix_len is_plain d ≡ length d → quoted d ≡ 34 ∷ (d ++ 34 ∷ [])
-quoted_plain d all =
-    ap (λ l. 34 ∷ (l ++ 34 ∷ [])) (escaped_run d ∙ ap (λ n. take n d ++ flat_map escaped (drop n d)) all
-    ∙ ap (λ l. take (length d) d ++ flat_map escaped l) (drop_all (length d) d (omega arith)) ∙ append-nil (take (length d) d) ∙ take-length d)
+-- plain bytes stand for themselves
+pub escaped_all_plain : (d : List ℕ) → prefix_len is_plain d ≡ length d → flat_map escaped d ≡ d
+escaped_all_plain d all =
+    escaped_run d ∙ ap (λ n. take n d ++ flat_map escaped (drop n d)) all
+    ∙ ap (λ l. take (length d) d ++ flat_map escaped l) (drop_all (length d) d (omega arith)) ∙ append-nil (take (length d) d) ∙ take-length d

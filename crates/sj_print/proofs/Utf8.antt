@@ -50,9 +50,13 @@ all_chars (c ∷ cs) e =
     let p = and_parts _ _ e in
     subst IsUtf8 (sym (escaped-append (encode c) (encodes cs))) (IsUtf8-append _ _ (one_char c p.0) (all_chars cs p.1))
 
+-- the escapes of a text are a text
+pub IsUtf8-escaped : (s : List ℕ) → IsUtf8 s → IsUtf8 (flat_map escaped s)
+IsUtf8-escaped s u = subst (λ l. IsUtf8 (flat_map escaped l)) u.1.1 (all_chars u.0 u.1.0)
+
 -- a text between its quotes is a text
 pub IsUtf8-quoted : (s : List ℕ) → IsUtf8 s → IsUtf8 (quoted s)
-IsUtf8-quoted s u = ascii_then 34 _ (omega arith) (IsUtf8-append _ _ (subst (λ l. IsUtf8 (flat_map escaped l)) u.1.1 (all_chars u.0 u.1.0)) (IsUtf8-are_ascii (34 ∷ []) refl))
+IsUtf8-quoted s u = ascii_then 34 _ (omega arith) (IsUtf8-append _ _ (IsUtf8-escaped s u) (IsUtf8-are_ascii (34 ∷ []) refl))
 
 -- a number is a text as its digits are
 pub IsUtf8-signed : (z : ℤ) → IsUtf8 (decimal (unsigned_abs z)) → IsUtf8 (signed_decimal z)

@@ -1,7 +1,7 @@
 //! What prints go to.
 
-ghost use Rattle.std.specs.Prelude.{◌≡◌, ℕ, ◌+◌, ◌-◌, ◌^◌, ◌≤◌, min, List, [], ◌∷◌, ◌++◌, length, replicate};
-ghost use Rattle.sj_text_core.specs.Print.{quoted, compact};
+ghost use Rattle.std.specs.Prelude.{◌≡◌, ℕ, ◌+◌, ◌-◌, ◌^◌, ◌≤◌, min, List, ◌∷◌, ◌++◌, length, replicate, flat_map};
+ghost use Rattle.sj_text_core.specs.Print.{escaped, quoted, compact};
 ghost use Rattle.sj_text_core.specs.Scalars.{static_tree};
 ghost use Rattle.sj_print.specs.Layouts.{gap};
 ghost use Rattle.sj_print.specs.Outputs.{Appends, AppendsText, Lays};
@@ -38,13 +38,13 @@ pub trait Output {
     fn put_line(&mut self, spaces: usize)
         ensures { (k : ℕ) → spaces ≡ min k (2 ^ 64 - 1) → Appends holds self.old self.new (10 ∷ replicate k 32) };
 
-    /// Appends the bytes between quotes, as they are.
-    fn put_bare(&mut self, bytes: &[u8])
-        ensures { Appends holds self.old self.new (34 ∷ (bytes.now ++ 34 ∷ [])) }
+    /// Appends the bytes, with others before and behind them.
+    fn put_between(&mut self, before: &[u8], bytes: &[u8], behind: &[u8])
+        ensures { Appends holds self.old self.new (before.now ++ (bytes.now ++ behind.now)) }
     {
-        self.put_bytes(b"\"");
+        self.put_bytes(before);
         self.put_bytes(bytes);
-        self.put_bytes(b"\"");
+        self.put_bytes(behind);
     }
 
     /// Appends `null`, `true`, `false`, or the number in decimal.
@@ -61,16 +61,26 @@ pub trait Output {
         self.put_bytes(text.as_bytes());
     }
 
+    /// Appends the text between `before` and `behind`, with escapes where they are needed.
+    #[inline(always)]
+    final fn put_text(&mut self, before: &str, text: &str, behind: &str)
+        ensures { AppendsText holds self.old self.new (before.now ++ (flat_map escaped text.now ++ behind.now)) }
+    {
+        let before = before.as_bytes();
+        let bytes = text.as_bytes();
+        let behind = behind.as_bytes();
+        if is_all_plain(bytes) {
+            self.put_between(before, bytes, behind);
+        } else {
+            put_runs(self, before, bytes, behind);
+        }
+    }
+
     /// Appends the text between quotes, with escapes where they are needed.
     final fn put_quoted(&mut self, text: &str)
         ensures { AppendsText holds self.old self.new (quoted text.now) }
     {
-        let bytes = text.as_bytes();
-        if is_all_plain(bytes) {
-            self.put_bare(bytes);
-        } else {
-            put_runs(self, bytes);
-        }
+        self.put_text("\"", text, "\"");
     }
 
     /// Appends what the layout has between tokens.

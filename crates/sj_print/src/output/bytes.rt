@@ -17,10 +17,10 @@ impl Output for Vec<u8> {
     }
 
     #[inline(always)]
-    fn put_bare(&mut self, bytes: &[u8]) {
-        let _ = self.push(b'"');
+    fn put_between(&mut self, before: &[u8], bytes: &[u8], behind: &[u8]) {
+        let _ = self.extend_from_slice(before);
         let _ = self.extend_from_slice(bytes);
-        let _ = self.push(b'"');
+        let _ = self.extend_from_slice(behind);
     }
 
     fn put_line(&mut self, spaces: usize) {

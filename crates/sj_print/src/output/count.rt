@@ -24,8 +24,9 @@ impl Output for Count {
     }
 
     #[inline(always)]
-    fn put_bare(&mut self, bytes: &[u8]) {
-        self.total = self.total.saturating_add(bytes.len() as u128 + 2);
+    fn put_between(&mut self, before: &[u8], bytes: &[u8], behind: &[u8]) {
+        let around = before.len() as u128 + behind.len() as u128;
+        self.total = self.total.saturating_add(around + bytes.len() as u128);
     }
 
     #[inline(always)]
