@@ -2,15 +2,18 @@
 //! that a seeded generator writes; and rates of documents, by both forms, by tapes and by
 //! `serde_json`. Run `rt run -- ROUNDS MEGABYTES KIND WAY` in this folder (without WAY, a number
 //! below 3: each way; without KIND: each kind), or `rt run -- ROUNDS stdin` for the text on standard
-//! input, with the word `documents` in front for documents, `equality ROUNDS MEGABYTES` for
-//! comparisons of documents and `tapes ROUNDS MEGABYTES` for calls on tapes; each line has the best rate of so many
-//! rounds, by the thread's own clock. Without words it does nothing.
+//! input, with the word `documents` in front for documents. Each line has the best rate of so many
+//! rounds, by the thread's own clock. `equality ROUNDS MEGABYTES` has the least times of comparing
+//! documents, `tapes ROUNDS MEGABYTES` those of calls on tapes beside the tape of `json`, and
+//! `lazy ROUNDS MEGABYTES` those of ten reads, and of a write and a print. Without words it does
+//! nothing.
 #![tactic(auto)]
 
 ghost use Rattle.std.specs.Prelude.{◌≤◌};
 
 mod documents;
 mod equality;
+mod lazy;
 mod records;
 mod tapes;
 mod texts;
@@ -173,6 +176,9 @@ fn main(rt: HostRuntime) -> io::Result<()> {
         [_, first, rest @ ..] if first.as_str() == "documents" => report_all(&rt, rest, true),
         [_, first, rest @ ..] if first.as_str() == "equality" => {
             equality::report(&rt, number(rest, 0), number(rest, 1) as usize * 1_000_000)
+        }
+        [_, first, rest @ ..] if first.as_str() == "lazy" => {
+            lazy::report(&rt, number(rest, 0), number(rest, 1) as usize * 1_000_000)
         }
         [_, first, rest @ ..] if first.as_str() == "tapes" => {
             tapes::report(&rt, number(rest, 0), number(rest, 1) as usize * 1_000_000)

@@ -37,6 +37,7 @@ fn put_key<O: Output>(mark: &str, marked: &str, key: &str, layout: Layout, out: 
 
 /// Appends the value's print.
 #[cycle(print)]
+#[inline(always)]
 pub(crate) fn print<P: Parts, O: Output>(value: &P, layout: Layout, out: &mut O)
     ensures { Lays O.holds out.old out.new layout (λ s. laid s (P.tree_of value.now)) }
 {
