@@ -91,10 +91,18 @@ fn times(
 }
 
 /// The least times of so many rounds, for each way and each task, in turns.
-fn best(rt: &HostRuntime, bytes: &Vec<u8>, rounds: u32) -> io::Result<[[u64; 3]; 4]> {
+fn best(
+    rt: &HostRuntime,
+    bytes: &Vec<u8>,
+    rounds: u32,
+    only: Option<usize>,
+) -> io::Result<[[u64; 3]; 4]> {
     let mut best = [[u64::MAX; 3]; 4];
     for _ in 0..rounds {
         for way in 0..WAYS.len() {
+            if only.is_some_and(|wanted| way != wanted) {
+                continue;
+            }
             let mut work = bytes.clone()?;
             if let Some(times) = once(rt, way, work.as_mut_slice())? {
                 for task in 0..TASKS.len() {
@@ -106,11 +114,20 @@ fn best(rt: &HostRuntime, bytes: &Vec<u8>, rounds: u32) -> io::Result<[[u64; 3];
     Ok(best)
 }
 
-/// Prints the best rates on a text of that kind and size.
-pub fn report(rt: &HostRuntime, kind: &str, bytes: &Vec<u8>, rounds: u32) -> io::Result<()> {
-    let best = best(rt, bytes, rounds)?;
+/// Prints the best rates on a text of that kind and size, of each way or of that one alone.
+pub fn report(
+    rt: &HostRuntime,
+    kind: &str,
+    bytes: &Vec<u8>,
+    rounds: u32,
+    only: Option<usize>,
+) -> io::Result<()> {
+    let best = best(rt, bytes, rounds, only)?;
     let len = bytes.len();
     for way in 0..WAYS.len() {
+        if best[way][0] == u64::MAX {
+            continue;
+        }
         for task in 0..TASKS.len() {
             let name = WAYS[way];
             let what = TASKS[task];

@@ -2,11 +2,20 @@
 //! that a seeded generator writes; and rates of documents, by both forms, by tapes and by
 //! `serde_json`. Run `rt run -- ROUNDS MEGABYTES KIND WAY` in this folder (without WAY, a number
 //! below 3: each way; without KIND: each kind), or `rt run -- ROUNDS stdin` for the text on standard
-//! input, with the word `documents` in front for documents; each line has the best rate of so many
-//! rounds, by the thread's own clock. Without words it does nothing.
+//! input, with the word `documents` in front for documents. Each line has the best rate of so many
+//! rounds, by the thread's own clock. `equality ROUNDS MEGABYTES` has the least times of comparing
+//! documents, `tapes ROUNDS MEGABYTES` those of calls on tapes beside the tape of `json`, and
+//! `lazy ROUNDS MEGABYTES` those of ten reads, and of a write and a print. Without words it does
+//! nothing.
 #![tactic(auto)]
 
+ghost use Rattle.std.specs.Prelude.{◌≤◌};
+
 mod documents;
+mod equality;
+mod lazy;
+mod records;
+mod tapes;
 mod texts;
 
 use crate::texts::{Kind, text_of};
@@ -110,7 +119,7 @@ fn report_readings(
 
 fn report(rt: &HostRuntime, kind: &str, bytes: &Vec<u8>, wanted: &Wanted) -> io::Result<()> {
     if wanted.are_documents {
-        documents::report(rt, kind, bytes, wanted.rounds)
+        documents::report(rt, kind, bytes, wanted.rounds, wanted.only)
     } else {
         report_readings(rt, kind, bytes, wanted)
     }
@@ -151,10 +160,29 @@ fn report_all(rt: &HostRuntime, words: &[String], are_documents: bool) -> io::Re
     Ok(())
 }
 
+/// The number at that place among the words, up to 1000; 1 where there is none.
+fn number(words: &[String], place: usize) -> u32
+    ensures { result ≤ 1000 }
+{
+    match words.get(place) {
+        Some(word) => word.as_str().parse::<u32>().unwrap_or(1).min(1000),
+        None => 1,
+    }
+}
+
 fn main(rt: HostRuntime) -> io::Result<()> {
     let words: Vec<String> = env::args(&rt)?.collect(rt.alloc())?;
     match words.as_slice() {
         [_, first, rest @ ..] if first.as_str() == "documents" => report_all(&rt, rest, true),
+        [_, first, rest @ ..] if first.as_str() == "equality" => {
+            equality::report(&rt, number(rest, 0), number(rest, 1) as usize * 1_000_000)
+        }
+        [_, first, rest @ ..] if first.as_str() == "lazy" => {
+            lazy::report(&rt, number(rest, 0), number(rest, 1) as usize * 1_000_000)
+        }
+        [_, first, rest @ ..] if first.as_str() == "tapes" => {
+            tapes::report(&rt, number(rest, 0), number(rest, 1) as usize * 1_000_000)
+        }
         [_, rest @ ..] => report_all(&rt, rest, false),
         [] => Ok(()),
     }

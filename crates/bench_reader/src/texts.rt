@@ -2,6 +2,7 @@
 
 ghost use Rattle.std.specs.Prelude.{◌<◌, length};
 
+use crate::records::put_record;
 use std::alloc::{AllocError, Global};
 
 #[derive(Clone, Copy, Debug)]
@@ -50,7 +51,7 @@ impl Kind {
     }
 }
 
-const WORDS: [&str; 16] = [
+pub const WORDS: [&str; 16] = [
     "paper", "window", "harbour", "signal", "green", "of", "the", "morning", "seven", "bridge",
     "at", "quiet", "river", "and", "stone", "lamp",
 ];
@@ -74,12 +75,12 @@ const MARKS: [&str; 10] = [
 
 /// A generator by shifts, the same at each run.
 #[derive(Drop)]
-struct Random {
+pub struct Random {
     state: u64,
 }
 
 impl Random {
-    fn new() -> Random {
+    pub fn new() -> Random {
         Random {
             state: 0x9e37_79b9_7f4a_7c15,
         }
@@ -95,7 +96,7 @@ impl Random {
     }
 
     /// A number below `limit`.
-    fn below(&mut self, limit: u64) -> u64
+    pub fn below(&mut self, limit: u64) -> u64
         requires { 0 < limit }
         ensures { result < limit }
     {
@@ -103,18 +104,18 @@ impl Random {
     }
 }
 
-fn pick(random: &mut Random, from: &[&'static str]) -> &'static str
+pub fn pick(random: &mut Random, from: &[&'static str]) -> &'static str
     requires { 0 < length from.now }
 {
     from[random.below(from.len() as u64) as usize]
 }
 
-fn put(out: &mut Vec<u8>, text: &str) -> Result<(), AllocError> {
+pub fn put(out: &mut Vec<u8>, text: &str) -> Result<(), AllocError> {
     out.extend_from_slice(text.as_bytes())?;
     Ok(())
 }
 
-fn put_number(out: &mut Vec<u8>, number: u64) -> Result<(), AllocError> {
+pub fn put_number(out: &mut Vec<u8>, number: u64) -> Result<(), AllocError> {
     let mut buffer = itoa::Buffer::new();
     put(out, buffer.format(number))
 }
@@ -127,22 +128,6 @@ fn put_words(out: &mut Vec<u8>, random: &mut Random, count: u64) -> Result<(), A
         put(out, pick(random, &WORDS))?;
     }
     Ok(())
-}
-
-fn put_record(out: &mut Vec<u8>, random: &mut Random) -> Result<(), AllocError> {
-    put(out, "{\"id\":")?;
-    put_number(out, random.below(1_000_000))?;
-    put(out, ",\"name\":\"")?;
-    put_words(out, random, 2)?;
-    put(out, "\",\"active\":true,\"balance\":-")?;
-    put_number(out, random.below(100_000) | 1)?;
-    put(out, ",\"city\":\"")?;
-    put_words(out, random, 1)?;
-    put(out, "\",\"tags\":[\"")?;
-    put_words(out, random, 1)?;
-    put(out, "\",\"")?;
-    put_words(out, random, 1)?;
-    put(out, "\"],\"next\":null}")
 }
 
 fn put_integer(out: &mut Vec<u8>, random: &mut Random) -> Result<(), AllocError> {
@@ -308,7 +293,7 @@ fn put_nested(out: &mut Vec<u8>, random: &mut Random) -> Result<(), AllocError> 
 
 fn put_one(out: &mut Vec<u8>, random: &mut Random, kind: Kind) -> Result<(), AllocError> {
     match kind {
-        Kind::Records => put_record(out, random),
+        Kind::Records => put_record(out, random, false),
         Kind::Indented => put_indented(out, random),
         Kind::Integers => put_integer(out, random),
         Kind::Catalogue => put_entry(out, random),

@@ -1,8 +1,9 @@
 -- The steps of the loop that puts a text between quotes.
-use Rattle.std.proofs.Common.{◌≡◌, ℕ, suc, ◌+◌, ◌-◌, ◌<◌, ◌≤◌, Bool, true, false, not, cond, ◌==◌, ◌||◌, List, [], ◌∷◌, ◌++◌, length, take, drop, get_or, flat_map, refl, sym, ap, ◌∙◌, arith, append_assoc, drop-drop}
+use Rattle.std.proofs.Common.{◌≡◌, ℕ, suc, ◌+◌, ◌-◌, ◌<◌, ◌≤◌, Bool, true, false, not, cond, ◌==◌, ◌||◌, List, [], ◌∷◌, ◌++◌, length, take, drop, get_or, flat_map, refl, sym, ap, ◌∙◌, arith, append_assoc, append-nil, drop-drop}
 use Rattle.std.proofs.lemmas.Bool.{or_parts, not-true, eqb-false, ltb-false}
 use Rattle.std.proofs.lemmas.List.{drop_more, drop_all, get_or-drop, length-drop}
 use Rattle.std.proofs.lemmas.List.Sums.{prefix_len_stops}
+use Rattle.std.proofs.Math.Seq.{take-length}
 use Rattle.std.specs.List.{prefix_len}
 use Rattle.sj_text_core.specs.Print.{escaped}
 use Rattle.sj_text_core.proofs.Escapes.{escaped_plain}
@@ -51,3 +52,9 @@ stops_at d i stop is within =
     flipped : (b : Bool) → not b ≡ false → b ≡ true
     flipped true e = refl
     flipped false e = sym e
+
+-- plain bytes stand for themselves
+pub escaped_all_plain : (d : List ℕ) → prefix_len is_plain d ≡ length d → flat_map escaped d ≡ d
+escaped_all_plain d all =
+    escaped_run d ∙ ap (λ n. take n d ++ flat_map escaped (drop n d)) all
+    ∙ ap (λ l. take (length d) d ++ flat_map escaped l) (drop_all (length d) d (omega arith)) ∙ append-nil (take (length d) d) ∙ take-length d

@@ -1,12 +1,12 @@
 -- What a layout has between tokens, and in which order.
-use Rattle.std.proofs.Common.{◌≡◌, ℕ, ◌+◌, ◌-◌, ◌*◌, ◌^◌, min, List, [], ◌∷◌, ◌++◌, Option, Some, None, codes, replicate, refl, ap, ◌∙◌, append_assoc}
+use Rattle.std.proofs.Common.{◌≡◌, ℕ, ◌+◌, ◌-◌, ◌*◌, ◌^◌, min, List, [], ◌∷◌, ◌++◌, Option, Some, None, codes, replicate, flat_map, refl, sym, ap, ◌∙◌, subst, append_assoc, append-nil}
 use Rattle.sj_text_core.specs.Tree.{Tree, list, obj, Items, item, Members, member}
-use Rattle.sj_text_core.specs.Print.{quoted, compact, compact_items, compact_members, pretty, pretty_items, pretty_members, new_line}
+use Rattle.sj_text_core.specs.Print.{escaped, quoted, compact, compact_items, compact_members, pretty, pretty_items, pretty_members, new_line}
 use Rattle.sj_print.proofs.Utf8.{IsUtf8-line}
 use Rattle.sj_print.specs.Layouts.{laid, laid_items, laid_members, deeper, gap, colon}
-use Rattle.sj_print.specs.Outputs.{Appends, Lays}
-use Rattle.sj_print.specs.declared.layout.Layout.TheVariants.{Pretty}
-use Rattle.sj_print.proofs.Puts.{appends_text}
+use Rattle.sj_print.specs.Outputs.{Appends, AppendsText, HoldsText, Lays}
+use Rattle.sj_print.specs.declared.layout.Layout.TheVariants.{Compact, Pretty}
+use Rattle.sj_print.proofs.Puts.{appends_text, appends_both}
 
 -- what follows an item of an array, and so for members
 abbrev pub items_end : Option ℕ → Items → List ℕ
@@ -42,3 +42,19 @@ laid-member (Some n) k t ms = ap (λ l. 44 ∷ l) (five (new_line n) (quoted k) 
 pub lays_gap : {S O : Type 0} (holds : S → O → List ℕ → Type 0) (a b : O) (spaces : ℕ) → ((k : ℕ) → spaces ≡ min k (2 ^ 64 - 1) → Appends holds a b (10 ∷ replicate k 32)) → Lays holds a b (Pretty spaces) gap
 lays_gap holds a b spaces f None l = absurd l
 lays_gap holds a b spaces f (Some n) l = appends_text holds a b (new_line n) (f (2 * n) l) (IsUtf8-line (2 * n))
+
+closed : (k tail : List ℕ) → (34 ∷ []) ++ (flat_map escaped k ++ 34 ∷ tail) ≡ quoted k ++ tail
+closed k tail = ap (λ l. 34 ∷ l) (sym (append_assoc (flat_map escaped k) (34 ∷ []) tail))
+
+pub lays_key_compact : {S O : Type 0} (holds : S → O → List ℕ → Type 0) (a b : O) (mark marked k : List ℕ) → marked ≡ mark ++ 34 ∷ []
+    → AppendsText holds a b (marked ++ (flat_map escaped k ++ codes "\":")) → Lays holds a b Compact (λ s. (mark ++ gap s) ++ (quoted k ++ colon s))
+lays_key_compact holds a b mark marked k e f None l =
+    subst (AppendsText holds a b)
+    (ap (λ o. o ++ (flat_map escaped k ++ codes "\":")) e ∙ append_assoc mark (34 ∷ []) _ ∙ ap (λ r. mark ++ r) (closed k (58 ∷ [])) ∙ ap (λ m. m ++ (quoted k ++ 58 ∷ [])) (sym (append-nil mark))) f
+lays_key_compact holds a b mark marked k e f (Some n) l = absurd l
+
+pub lays_key_pretty : {S O : Type 0} (holds : S → O → List ℕ → Type 0) (a b c : O) (spaces : ℕ) (mark k : List ℕ) → Lays holds a b (Pretty spaces) (λ s. mark ++ gap s)
+    → AppendsText holds b c ((34 ∷ []) ++ (flat_map escaped k ++ codes "\": ")) → Lays holds a c (Pretty spaces) (λ s. (mark ++ gap s) ++ (quoted k ++ colon s))
+lays_key_pretty holds a b c spaces mark k f g None l = absurd l
+lays_key_pretty holds a b c spaces mark k f g (Some n) l =
+    appends_both (HoldsText holds) a b c (mark ++ gap (Some n)) (quoted k ++ colon (Some n)) (f (Some n) l) (subst (AppendsText holds b c) (closed k (58 ∷ 32 ∷ [])) g)

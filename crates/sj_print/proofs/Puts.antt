@@ -1,6 +1,8 @@
 -- What one call after another appends.
-use Rattle.std.proofs.Common.{◌≡◌, ℕ, List, [], ◌++◌, IsUtf8, sym, ap, ◌∙◌, subst, append_assoc, append-nil}
+use Rattle.std.proofs.Common.{◌≡◌, ℕ, List, [], ◌++◌, IsUtf8, flat_map, sym, ap, ◌∙◌, subst, append_assoc, append-nil}
 use Rattle.std.proofs.lemmas.Str.{IsUtf8-append}
+use Rattle.sj_text_core.specs.Print.{escaped}
+use Rattle.sj_print.proofs.Utf8.{IsUtf8-escaped}
 use Rattle.sj_print.specs.Outputs.{Appends, AppendsText}
 
 -- what was put, with the rest makes the whole
@@ -18,6 +20,13 @@ module _ {S O : Type 0} (holds : S → O → List ℕ → Type 0) where
 
   pub appends_text : (a b : O) (p : List ℕ) → Appends holds a b p → IsUtf8 p → AppendsText holds a b p
   appends_text a b p f u start x h = (IsUtf8-append x p h.0 u, f start x h.1)
+
+  -- a text with its escapes, between two others
+  pub appends_escaped : (a b : O) (o t e before key behind : List ℕ) → o ≡ before → t ≡ key → e ≡ behind → IsUtf8 o → IsUtf8 t → IsUtf8 e
+      → Appends holds a b (o ++ (flat_map escaped t ++ e)) → AppendsText holds a b (before ++ (flat_map escaped key ++ behind))
+  appends_escaped a b o t e before key behind p q r u v w f =
+      subst (AppendsText holds a b) (ap (λ l. l ++ (flat_map escaped t ++ e)) p ∙ ap (λ l. before ++ (flat_map escaped l ++ e)) q ∙ ap (λ l. before ++ (flat_map escaped key ++ l)) r)
+      (appends_text a b (o ++ (flat_map escaped t ++ e)) f (IsUtf8-append o _ u (IsUtf8-append _ e (IsUtf8-escaped t v) w)))
 
   pub begin : (a b : O) (part rest whole : List ℕ) → Appends holds a b part → part ++ rest ≡ whole → Towards holds a b rest whole
   begin a b part rest whole f e = record { done = part; put = f; makes = e }

@@ -1,13 +1,14 @@
 //! What prints go to.
 
-ghost use Rattle.std.specs.Prelude.{◌≡◌, ℕ, ◌+◌, ◌-◌, ◌^◌, ◌≤◌, min, List, ◌∷◌, ◌++◌, length, replicate};
-ghost use Rattle.sj_text_core.specs.Print.{quoted, compact};
+ghost use Rattle.std.specs.Prelude.{◌≡◌, ℕ, ◌+◌, ◌-◌, ◌^◌, ◌≤◌, min, List, ◌∷◌, ◌++◌, length, replicate, flat_map};
+ghost use Rattle.sj_text_core.specs.Print.{escaped, quoted, compact};
 ghost use Rattle.sj_text_core.specs.Scalars.{static_tree};
 ghost use Rattle.sj_print.specs.Layouts.{gap};
 ghost use Rattle.sj_print.specs.Outputs.{Appends, AppendsText, Lays};
 
 mod bytes;
 mod count;
+mod decimal;
 mod growing;
 mod line;
 mod plain;
@@ -17,6 +18,7 @@ use crate::layout::Layout;
 pub use count::Count;
 pub(crate) use growing::append_quoted;
 pub(crate) use line::append_line;
+use plain::is_all_plain;
 use quote::put_runs;
 use sj_text_core::StaticNode;
 
@@ -36,6 +38,22 @@ pub trait Output {
     fn put_line(&mut self, spaces: usize)
         ensures { (k : ℕ) → spaces ≡ min k (2 ^ 64 - 1) → Appends holds self.old self.new (10 ∷ replicate k 32) };
 
+    /// Appends the bytes, with others before and behind them.
+    fn put_between(&mut self, before: &[u8], bytes: &[u8], behind: &[u8])
+        ensures { Appends holds self.old self.new (before.now ++ (bytes.now ++ behind.now)) }
+    {
+        self.put_bytes(before);
+        self.put_bytes(bytes);
+        self.put_bytes(behind);
+    }
+
+    /// Appends `null`, `true`, `false`, or the number in decimal.
+    fn put_static(&mut self, node: StaticNode)
+        ensures { AppendsText holds self.old self.new (compact (static_tree node)) }
+    {
+        self.put_bytes(node.text_in(&mut itoa::Buffer::new()).as_bytes());
+    }
+
     /// Appends the text as it is.
     final fn put(&mut self, text: &str)
         ensures { AppendsText holds self.old self.new text.now }
@@ -43,18 +61,26 @@ pub trait Output {
         self.put_bytes(text.as_bytes());
     }
 
+    /// Appends the text between `before` and `behind`, with escapes where they are needed.
+    #[inline(always)]
+    final fn put_text(&mut self, before: &str, text: &str, behind: &str)
+        ensures { AppendsText holds self.old self.new (before.now ++ (flat_map escaped text.now ++ behind.now)) }
+    {
+        let before = before.as_bytes();
+        let bytes = text.as_bytes();
+        let behind = behind.as_bytes();
+        if is_all_plain(bytes) {
+            self.put_between(before, bytes, behind);
+        } else {
+            put_runs(self, before, bytes, behind);
+        }
+    }
+
     /// Appends the text between quotes, with escapes where they are needed.
     final fn put_quoted(&mut self, text: &str)
         ensures { AppendsText holds self.old self.new (quoted text.now) }
     {
-        put_runs(self, text.as_bytes());
-    }
-
-    /// Appends `null`, `true`, `false`, or the number in decimal.
-    final fn put_static(&mut self, node: StaticNode)
-        ensures { AppendsText holds self.old self.new (compact (static_tree node)) }
-    {
-        self.put(node.text_in(&mut itoa::Buffer::new()));
+        self.put_text("\"", text, "\"");
     }
 
     /// Appends what the layout has between tokens.

@@ -1,6 +1,6 @@
 //! The walk over a value.
 
-ghost use Rattle.std.specs.Prelude.{◌++◌};
+ghost use Rattle.std.specs.Prelude.{◌≡◌, [], ◌∷◌, ◌++◌};
 ghost use Rattle.sj_text_core.specs.Print.{quoted};
 ghost use Rattle.sj_text_core.specs.Tree.{list, obj, items_from, members_from};
 ghost use Rattle.sj_print.specs.Layouts.{laid, gap, colon};
@@ -19,20 +19,25 @@ fn put_then_gap<O: Output>(text: &str, layout: Layout, out: &mut O)
     out.put_gap(layout);
 }
 
-/// Appends a key and a colon.
+/// Appends what stands before a member's value: the mark, which `marked` has with a quote behind it,
+/// the key and a colon.
 #[inline(always)]
-fn put_key<O: Output>(key: &str, layout: Layout, out: &mut O)
-    ensures { Lays O.holds out.old out.new layout (λ s. quoted key.now ++ colon s) }
+fn put_key<O: Output>(mark: &str, marked: &str, key: &str, layout: Layout, out: &mut O)
+    requires { marked.now ≡ mark.now ++ 34 ∷ [] }
+    ensures { Lays O.holds out.old out.new layout (λ s. (mark.now ++ gap s) ++ (quoted key.now ++ colon s)) }
 {
-    out.put_quoted(key);
     match layout {
-        Layout::Compact => out.put(":"),
-        Layout::Pretty { .. } => out.put(": "),
+        Layout::Compact => out.put_text(marked, key, "\":"),
+        Layout::Pretty { .. } => {
+            put_then_gap(mark, layout, out);
+            out.put_text("\"", key, "\": ");
+        }
     }
 }
 
 /// Appends the value's print.
 #[cycle(print)]
+#[inline(always)]
 pub(crate) fn print<P: Parts, O: Output>(value: &P, layout: Layout, out: &mut O)
     ensures { Lays O.holds out.old out.new layout (λ s. laid s (P.tree_of value.now)) }
 {
@@ -72,12 +77,10 @@ fn print_members<P: Parts, O: Output>(mut members: P::Members, layout: Layout, o
         return;
     };
     let inner = layout.deeper();
-    put_then_gap("{", inner, out);
-    put_key(P::key_text(&key), inner, out);
+    put_key("{", "{\"", P::key_text(&key), inner, out);
     print(&first, inner, out);
     while let Some((key, value)) = P::next_member(&mut members) {
-        put_then_gap(",", inner, out);
-        put_key(P::key_text(&key), inner, out);
+        put_key(",", ",\"", P::key_text(&key), inner, out);
         print(&value, inner, out);
     }
     out.put_gap(layout);

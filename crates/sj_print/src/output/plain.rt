@@ -1,6 +1,7 @@
 //! Passing over the plain bytes of a text.
 
 ghost use Rattle.std.specs.Prelude.{◌≡◌, ◌+◌, ◌≤◌, length, drop, map};
+ghost use Rattle.std.specs.Bool.{OnTrue};
 ghost use Rattle.std.specs.List.{prefix_len};
 ghost use Rattle.std.specs.Simd.Lanes.{mask_l};
 ghost use Rattle.sj_print.specs.Runs.{is_plain, is_stop};
@@ -15,6 +16,26 @@ fn stops(lanes: u8x16) -> u64
     (lanes.simd_eq(u8x16::splat(b'"'))
         | lanes.simd_eq(u8x16::splat(b'\\'))
         | lanes.simd_lt(u8x16::splat(0x20))).to_bitmask()
+}
+
+/// The same for eight lanes.
+#[inline(always)]
+fn stops_8(lanes: u8x8) -> u64
+    ensures { result ≡ mask_l (map is_stop lanes) }
+{
+    (lanes.simd_eq(u8x8::splat(b'"'))
+        | lanes.simd_eq(u8x8::splat(b'\\'))
+        | lanes.simd_lt(u8x8::splat(0x20))).to_bitmask()
+}
+
+/// The same for four lanes.
+#[inline(always)]
+fn stops_4(lanes: u8x4) -> u64
+    ensures { result ≡ mask_l (map is_stop lanes) }
+{
+    (lanes.simd_eq(u8x4::splat(b'"'))
+        | lanes.simd_eq(u8x4::splat(b'\\'))
+        | lanes.simd_lt(u8x4::splat(0x20))).to_bitmask()
 }
 
 /// `plain_end`, a byte at a time.
@@ -45,4 +66,37 @@ pub(super) fn plain_end(text: &[u8], from: usize) -> usize
         i += 16;
     }
     plain_end_slowly(text, i)
+}
+
+/// `is_all_plain` of a text of 16 bytes or more.
+fn is_all_plain_far(text: &[u8]) -> bool
+    requires { 16 ≤ length text.now }
+    ensures { OnTrue result (prefix_len is_plain text.now ≡ length text.now) }
+{
+    let mut i = 0;
+    while text.len() - i > 16 {
+        if stops(u8x16::from_slice(&text[i..])) != 0 {
+            return false;
+        }
+        i += 16;
+    }
+    stops(u8x16::from_slice(&text[text.len() - 16..])) == 0
+}
+
+/// Whether the text has no quote, backslash or control byte. A short text is seen by two loads that
+/// overlap.
+#[inline(always)]
+pub(super) fn is_all_plain(text: &[u8]) -> bool
+    ensures { OnTrue result (prefix_len is_plain text.now ≡ length text.now) }
+{
+    let len = text.len();
+    if len >= 16 {
+        is_all_plain_far(text)
+    } else if len >= 8 {
+        stops_8(u8x8::from_slice(text)) == 0 && stops_8(u8x8::from_slice(&text[len - 8..])) == 0
+    } else if len >= 4 {
+        stops_4(u8x4::from_slice(text)) == 0 && stops_4(u8x4::from_slice(&text[len - 4..])) == 0
+    } else {
+        plain_end_slowly(text, 0) == len
+    }
 }

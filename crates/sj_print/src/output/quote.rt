@@ -1,7 +1,7 @@
 //! Texts between quotes.
 
-ghost use Rattle.std.specs.Prelude.{◌≡◌, ◌<◌, IsTrue};
-ghost use Rattle.sj_text_core.specs.Print.{hex_digit, escaped, quoted};
+ghost use Rattle.std.specs.Prelude.{◌≡◌, ◌<◌, ◌++◌, IsTrue, flat_map};
+ghost use Rattle.sj_text_core.specs.Print.{hex_digit, escaped};
 ghost use Rattle.sj_print.specs.Runs.{is_stop};
 ghost use Rattle.sj_print.specs.Outputs.{Appends};
 
@@ -34,17 +34,19 @@ fn put_escape<O: Output>(out: &mut O, byte: u8)
     }
 }
 
-/// Appends the text between quotes: runs of plain bytes at once, the others by their escapes.
-pub(super) fn put_runs<O: Output>(out: &mut O, text: &[u8])
-    ensures { Appends O.holds out.old out.new (quoted text.now) }
+/// Appends the text between `before` and `behind`: runs of plain bytes at once, the others by their
+/// escapes.
+#[inline(never)]
+pub(super) fn put_runs<O: Output>(out: &mut O, before: &[u8], text: &[u8], behind: &[u8])
+    ensures { Appends O.holds out.old out.new (before.now ++ (flat_map escaped text.now ++ behind.now)) }
 {
-    out.put_bytes(b"\"");
+    out.put_bytes(before);
     let mut at = 0;
     loop {
         let stop = plain_end(text, at);
         out.put_bytes(&text[at..stop]);
         if stop == text.len() {
-            out.put_bytes(b"\"");
+            out.put_bytes(behind);
             return;
         }
         put_escape(out, text[stop]);

@@ -1,0 +1,10 @@
+use Rattle.std.proofs.Common.{◌≡◌, ◌+◌, ◌-◌, ◌≤◌, length, drop}
+use Rattle.std.specs.List.{prefix_len}
+use Rattle.sj_print.specs.Runs.{is_plain}
+use Rattle.sj_print.proofs.output.plain.is_all_plain_far.Given as goal
+
+abbrev pub invariant-loop-i : goal.invariant-loop-i
+invariant-loop-i l = (prefix_len is_plain l.text ≡ l.i + prefix_len is_plain (drop l.i l.text)) × (l.i ≤ length l.text)
+
+abbrev pub decreases-loop-i : goal.decreases-loop-i
+decreases-loop-i l = length l.text - l.i
