@@ -1,5 +1,6 @@
 mod LineLemmas
 mod Series
+mod Firsts
 mod rows
 mod SessionLemmas
 mod CommandLemmas

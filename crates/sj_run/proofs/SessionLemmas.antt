@@ -9,18 +9,19 @@ use borrow.Rule.Slice.PartMut.{put_mid}
 use Rattle.std.proofs.lemmas.List.{take_all, take-take, length-drop, length-take-le, drop-drop}
 use Rattle.sj_text_core.specs.Tree.{Tree, IsWithin}
 use Rattle.sj_text_core.specs.Grammar.{Spells}
-use Rattle.sj_text_core.specs.Keep.{keep}
+use Rattle.sj_text_core.specs.Repeats.{keep_by}
+use Rattle.sj_text_core.specs.declared.repeats.Repeats.{Repeats}
 use Rattle.sj_run.specs.Commands.{PlainCommand}
 use Rattle.sj_run.specs.CommandLines.{AreCommandsOf}
-use Rattle.sj_run.specs.Answers.{start, answer, replies_of, tree_after}
+use Rattle.sj_run.specs.Answers.{answer, replies_of, tree_after}
+use Rattle.sj_run.specs.Repeats.{replies_by, start_by}
 use Rattle.sj_run.specs.Answered.{AnswersLine, AnswersLines, IsBegunBy, PassesLine, PassesLines}
 use Rattle.sj_run.specs.Replies.{PlainReply}
 use Rattle.sj_run.specs.Shown.{reply_text, shown, shown_all}
-use Rattle.sj_run.specs.Session.{IsServed, IsAnswered, PassesAll}
+use Rattle.sj_run.specs.Session.{IsServed, IsAnsweredBy, PassesAllBy}
 use Rattle.sj_run.specs.declared.sessions.Form.{Form}
 use Rattle.sj_run.specs.declared.sessions.Form.TheVariants.{Owned, Borrowed, Lazy}
 use Rattle.sj_run.specs.declared.document.Way.{Way}
-use Rattle.sj_run.specs.declared.document.Way.TheVariants.{ByText, ByKnownKey}
 use Rattle.sj_run.specs.declared.sessions.SessionFault.{SessionFault}
 use Rattle.sj_run.specs.declared.sessions.SessionFault.TheVariants.{Refused, OutOfMemory as NoMemory}
 use Rattle.sj_text_core.specs.declared.error.ErrorKind.{ErrorKind}
@@ -28,6 +29,7 @@ use Rattle.sj_text_core.specs.declared.error.ErrorKind.TheVariants.{InvalidUtf8,
 use Rattle.std.proofs.Math.Seq.{take-append_seam}
 use Rattle.sj_run.specs.Lines.{document, lines, after_mark, full_lines, line_text, line_texts, is_empty}
 use Rattle.sj_run.proofs.LineLemmas.{LineAt}
+use Rattle.sj_run.proofs.Firsts.{replies-first}
 
 -- lines answered in turn
 pub answers-none : (t : Tree) (old : List ℕ) → AnswersLines t [] t old old
@@ -156,13 +158,11 @@ written_length a at n line h e =
     let same : length line ≡ k = e ∙ part_length a at n h in
     omega (arith, same, length-append (take at a) (line ++ post), length-append line post, length-take-le at a (omega (arith, h)), length-drop k (drop at a), length-drop at a)
 
--- a served session begins with the first member of each key alone
-pub kept_start : (f : Form) (w : Way) (t : Tree) → IsServed f w → start f t ≡ keep t
-kept_start Owned ByText t h = refl
-kept_start Owned ByKnownKey t h = absurd h
-kept_start Borrowed ByText t h = refl
-kept_start Borrowed ByKnownKey t h = absurd h
-kept_start Lazy w t h = absurd h
+-- a served session answers on the tree with the member of each key that counts
+started : (r : Repeats) (f : Form) (w : Way) (t : Tree) (cs : List PlainCommand) → IsServed f w → replies_of (keep_by r t) cs ≡ replies_by (start_by r f t) cs
+started r Owned w t cs h = sym (replies-first (keep_by r t) cs)
+started r Borrowed w t cs h = sym (replies-first (keep_by r t) cs)
+started r Lazy w t cs h = absurd h
 
 -- what is left of bytes that went on, cut to their old length
 pub begun_cut : (old new : List ℕ) → IsBegunBy old new → take (length old) new ≡ old
@@ -179,11 +179,11 @@ refused_kind NumberTooLarge k r m n e = let f : r ≡ Refused NumberTooLarge = n
 refused_kind TooDeep k r m n e = let f : r ≡ Refused TooDeep = n (λ x. cc) in (λ x. cc, λ x. cc)
 
 -- a session that was answered
-pub session_answered : (f : Form) (w : Way) (input part behind : List ℕ) (t u : Tree) (old new : List ℕ)
+pub session_answered : (r : Repeats) (f : Form) (w : Way) (input part behind : List ℕ) (t u : Tree) (old new : List ℕ)
     → IsServed f w → part ≡ document input → line_texts (full_lines behind) ≡ lines input → Spells part t → IsWithin t
-    → AnswersLines (keep t) (line_texts (full_lines behind)) u old new → (written : List ℕ) × (new ≡ old ++ written) × IsAnswered f input written
-session_answered f w input part behind t u old new served e lines_are s within a = (
-  shown_all (replies_of (keep t) a.commands),
+    → AnswersLines (keep_by r t) (line_texts (full_lines behind)) u old new → (written : List ℕ) × (new ≡ old ++ written) × IsAnsweredBy r f input written
+session_answered r f w input part behind t u old new served e lines_are s within a = (
+  shown_all (replies_of (keep_by r t) a.commands),
   a.shows,
   record {
     tree = t;
@@ -191,7 +191,7 @@ session_answered f w input part behind t u old new served e lines_are s within a
     within = within;
     commands = a.commands;
     lines_are = subst (λ (ls : List (List ℕ)). AreCommandsOf ls a.commands) lines_are a.are;
-    replies = ap (λ x. shown_all (replies_of x a.commands)) (sym (kept_start f w t served));
+    replies = ap (λ rs. shown_all rs) (started r f w t a.commands served);
   },
 )
 
@@ -213,11 +213,11 @@ lines_behind input behind at next h within e f =
     ap (λ r. line_texts (full_lines r)) (whole ∙ there) ∙ ap (λ ls. line_texts ls) f
 
 -- a session whose replies pass
-pub session_passes : (f : Form) (w : Way) (input part behind : List ℕ) (t : Tree) (n : ℕ)
-    → IsServed f w → part ≡ document input → line_texts (full_lines behind) ≡ lines input → Spells part t → IsWithin t → PassesLines (keep t) (line_texts (full_lines behind)) n → PassesAll f input n
-session_passes f w input part behind t n served e lines_are s within h = record {
+pub session_passes : (r : Repeats) (f : Form) (w : Way) (input part behind : List ℕ) (t : Tree) (n : ℕ)
+    → IsServed f w → part ≡ document input → line_texts (full_lines behind) ≡ lines input → Spells part t → IsWithin t → PassesLines (keep_by r t) (line_texts (full_lines behind)) n → PassesAllBy r f input n
+session_passes r f w input part behind t n served e lines_are s within h = record {
   tree = t;
   spelled = subst (λ (b : List ℕ). Spells b t) e s;
   within = within;
-  passes = λ cs are. subst (λ (x : Tree). 2 ^ 64 ≤ n + length (shown_all (replies_of x cs))) (sym (kept_start f w t served)) (h cs (subst (λ (ls : List (List ℕ)). AreCommandsOf ls cs) (sym lines_are) are));
+  passes = λ cs are. subst (λ (rs : List PlainReply). 2 ^ 64 ≤ n + length (shown_all rs)) (started r f w t cs served) (h cs (subst (λ (ls : List (List ℕ)). AreCommandsOf ls cs) (sym lines_are) are));
 }

@@ -44,7 +44,7 @@ pub trait Document {
 /// A document that owns its texts.
 #[derive(Debug, Drop)]
 pub struct OwnedDoc {
-    /// How keys are looked up; today by text in both ways.
+    /// How keys are looked up.
     pub way: Way,
     /// The document.
     pub value: OwnedValue,
@@ -58,8 +58,10 @@ impl Document for OwnedDoc {
 
     fn apply(&mut self, alloc: Global, command: Command) -> Result<Reply, Why> {
         match taken_apart(command) {
-            Asked::Read(path, read) => find(&self.value, &path, &read).into_reply(alloc),
-            Asked::Write(path, write) => Ok(reply_of(change_at(&mut self.value, &path, write)?)),
+            Asked::Read(path, read) => find(&self.value, self.way, &path, &read).into_reply(alloc),
+            Asked::Write(path, write) => {
+                Ok(reply_of(change_at(&mut self.value, self.way, &path, write)?))
+            }
             Asked::Bad => Ok(Reply::BadCommand),
         }
     }
@@ -68,7 +70,7 @@ impl Document for OwnedDoc {
 /// A document whose texts may be lent.
 #[derive(Debug, Drop)]
 pub struct BorrowedDoc<'v> {
-    /// How keys are looked up; today by text in both ways.
+    /// How keys are looked up, and inserted.
     pub way: Way,
     /// The document.
     pub value: BorrowedValue<'v>,
@@ -82,10 +84,10 @@ impl<'v> Document for BorrowedDoc<'v> {
 
     fn apply(&mut self, alloc: Global, command: Command) -> Result<Reply, Why> {
         match taken_apart(command) {
-            Asked::Read(path, read) => find(&self.value, &path, &read).into_reply(alloc),
+            Asked::Read(path, read) => find(&self.value, self.way, &path, &read).into_reply(alloc),
             Asked::Write(path, write) => {
                 let write = borrowed_write(alloc, write)?;
-                let changed = change_at(&mut self.value, &path, write)?;
+                let changed = change_at(&mut self.value, self.way, &path, write)?;
                 Ok(reply_of(owned_changed(alloc, changed)?))
             }
             Asked::Bad => Ok(Reply::BadCommand),

@@ -11,28 +11,34 @@ ghost use Rattle.sj_run.specs.Meant.{step_meant, width_meant};
 mod found;
 
 use crate::command::{Read, Step, Width};
+use crate::document::Way;
+use crate::keys::member;
 pub(crate) use found::Found;
 use sj_document::Document;
 use sj_object::KeyText;
 use sj_text_core::{TypedValue, ValueAsScalar};
 
 /// What one step finds.
-fn follow<'v, T: KeyText>(value: &'v Document<T>, step: &Step) -> Option<&'v Document<T>>
+fn follow<'v, T: KeyText>(value: &'v Document<T>, way: Way, step: &Step) -> Option<&'v Document<T>>
     ensures { option_map (λ v. tree T.text_of v.now) result ≡ step_into (step_meant step.now) (tree T.text_of value.now) }
 {
     match step {
-        Step::Key(key) => value.get(key.as_str()),
+        Step::Key(key) => member(value, way, key.as_str()),
         Step::Idx(place) => value.get_idx(*place),
     }
 }
 
 /// What stands at the path; None where a step finds nothing.
-fn read_at<'v, T: KeyText>(value: &'v Document<T>, path: &[Step]) -> Option<&'v Document<T>>
+fn read_at<'v, T: KeyText>(
+    value: &'v Document<T>,
+    way: Way,
+    path: &[Step],
+) -> Option<&'v Document<T>>
     ensures { option_map (λ v. tree T.text_of v.now) result ≡ tree_at (map step_meant path.now) (tree T.text_of value.now) }
 {
     let mut at = value;
     for step in path {
-        at = follow(at, step)?;
+        at = follow(at, way, step)?;
     }
     Some(at)
 }
@@ -67,7 +73,7 @@ fn length<T: KeyText>(value: &Document<T>) -> Found<'_, T>
 }
 
 /// What is read of a value.
-fn read_value<'v, T: KeyText>(value: &'v Document<T>, read: &Read) -> Found<'v, T>
+fn read_value<'v, T: KeyText>(value: &'v Document<T>, way: Way, read: &Read) -> Found<'v, T>
     ensures { found_meant T.text_of result ≡ reply_to (read_meant read.now) (tree T.text_of value.now) }
 {
     match read {
@@ -82,7 +88,7 @@ fn read_value<'v, T: KeyText>(value: &'v Document<T>, read: &Read) -> Found<'v, 
             Some(members) => Found::Keys(members),
             None => Found::NotAnObject,
         },
-        Read::Has(key) => Found::Truth(value.contains_key(key.as_str())),
+        Read::Has(key) => Found::Truth(member(value, way, key.as_str()).is_some()),
         Read::Encode => Found::Print(value),
         Read::EncodePp => Found::Pretty(value),
     }
@@ -91,13 +97,14 @@ fn read_value<'v, T: KeyText>(value: &'v Document<T>, read: &Read) -> Found<'v, 
 /// What is read of the value at a path.
 pub(crate) fn find<'v, T: KeyText>(
     value: &'v Document<T>,
+    way: Way,
     path: &[Step],
     read: &Read,
 ) -> Found<'v, T>
     ensures { found_meant T.text_of result ≡ read_found (tree_at (map step_meant path.now) (tree T.text_of value.now)) (read_meant read.now) }
 {
-    match read_at(value, path) {
-        Some(at) => read_value(at, read),
+    match read_at(value, way, path) {
+        Some(at) => read_value(at, way, read),
         None => Found::Missing,
     }
 }

@@ -4,7 +4,7 @@ ghost use Rattle.std.specs.Prelude.{◌≡◌, ◌≢◌, ◌↔◌, List, ℕ, 
 ghost use Rattle.sj_text_core.specs.Grammar.{IsReadable};
 ghost use Rattle.sj_run.specs.Lines.{document as document_of};
 ghost use Rattle.sj_run.specs.Answered.{ReadsTree};
-ghost use Rattle.sj_run.specs.Session.{IsServed, IsAnswered, PassesAll};
+ghost use Rattle.sj_run.specs.Session.{IsServed, IsAnswered, IsAnsweredBy, PassesAll, PassesAllBy};
 
 mod answer;
 
@@ -13,8 +13,8 @@ use crate::lines::cut_at_mark;
 use crate::runs::Why;
 use crate::sessions::answer::answer_all;
 use sj_document::{BorrowedValue, OwnedValue};
-use sj_object::{Builder, KeyOf, deserialize};
-use sj_text_core::ErrorKind;
+use sj_object::{Builder, KeyOf, deserialize_repeats};
+use sj_text_core::{ErrorKind, Repeats};
 use std::alloc::{AllocError, Global};
 use std::borrow::CowStr;
 use thiserror::Error;
@@ -34,14 +34,13 @@ impl Form {
     ghost use Rattle.std.specs.Prelude.{◌↔◌, IsTrue};
     ghost use Rattle.sj_run.specs.Session.{IsServed};
 
-    /// Whether a session serves the form in this way: today owned and borrowed documents by text.
+    /// Whether a session serves the form in this way: today owned and borrowed documents, in both.
     pub fn is_served(self, way: Way) -> bool
         ensures { IsTrue result ↔ IsServed self way }
     {
         match (self, way) {
-            (Form::Owned, Way::ByText) => true,
-            (Form::Borrowed, Way::ByText) => true,
-            _ => false,
+            (Form::Lazy, Way::ByText | Way::ByKnownKey) => false,
+            (Form::Owned | Form::Borrowed, _) => true,
         }
     }
 }
@@ -104,14 +103,15 @@ fn refused(kind: ErrorKind) -> SessionFault
 fn read_document<'v, V: Builder<'v, Key>, Key: KeyOf<'v>>(
     alloc: Global,
     text: &'v mut [u8],
+    repeats: Repeats,
 ) -> Result<V, SessionFault>
-    ensures read { IfOk result (λ v. ReadsTree text.old (V.tree v)) }
+    ensures read { IfOk result (λ v. ReadsTree repeats text.old (V.tree v)) }
     ensures refused { (k : ErrorKind) → result ≡ Err (SessionFault.Refused k) → (k ≢ ErrorKind.OutOfMemory) × (¬ (IsReadable text.old)) }
     ensures utf8 { IsErrOf result (SessionFault.Refused ErrorKind.InvalidUtf8) ↔ ¬ (IsUtf8 text.old) }
     ensures usage { result ≢ Err SessionFault.Usage }
     ensures too_long { result ≢ Err SessionFault.TooLong }
 {
-    match deserialize::<V, Key>(alloc, text) {
+    match deserialize_repeats::<V, Key>(alloc, text, repeats) {
         Ok(value) => Ok(value),
         Err(kind) => Err(refused(kind)),
     }
@@ -120,8 +120,7 @@ fn read_document<'v, V: Builder<'v, Key>, Key: KeyOf<'v>>(
 /// Reads the document of the input, answers the command lines behind its first line `---` in turn,
 /// and appends each printed reply with a line feed to `out`.
 ///
-/// Today owned and borrowed documents are served by text. Refused as `Usage` for every other form
-/// and way, as `Refused` where the document can't be read, as `OutOfMemory` where memory was
+/// Today owned and borrowed documents are served, in both ways. Refused as `Usage` for lazy ones, as `Refused` where the document can't be read, as `OutOfMemory` where memory was
 /// refused, and as `TooLong` only where `out` with all replies would pass `usize::MAX` bytes. On a
 /// fault `out` is as it was, and of the input's bytes nothing is said.
 pub fn session(
@@ -138,6 +137,26 @@ pub fn session(
     ensures utf8 { IsServed form way → (IsErrOf result (SessionFault.Refused ErrorKind.InvalidUtf8) ↔ ¬ (IsUtf8 (document_of input.old))) }
     ensures too_long { IsErrOf result SessionFault.TooLong → PassesAll form input.old (length out.old.items) }
 {
+    session_repeats(alloc, form, way, Repeats::First, input, out)
+}
+
+/// A session as `session` has it, where the document is read by the choice: with `Last` it keeps
+/// the last value of each key, in the place of the first. The command lines keep the first.
+pub fn session_repeats(
+    alloc: Global,
+    form: Form,
+    way: Way,
+    repeats: Repeats,
+    input: &mut [u8],
+    out: &mut Vec<u8>,
+) -> Result<(), SessionFault>
+    ensures ok { OnOk result ((written : List ℕ) × (out.new.items ≡ out.old.items ++ written) × IsAnsweredBy repeats form input.old written) }
+    ensures err { OnErr result (out.new.items ≡ out.old.items) }
+    ensures usage { IsErrOf result SessionFault.Usage ↔ ¬ (IsServed form way) }
+    ensures refused { (k : ErrorKind) → result ≡ Err (SessionFault.Refused k) → (k ≢ ErrorKind.OutOfMemory) × (¬ (IsReadable (document_of input.old))) }
+    ensures utf8 { IsServed form way → (IsErrOf result (SessionFault.Refused ErrorKind.InvalidUtf8) ↔ ¬ (IsUtf8 (document_of input.old))) }
+    ensures too_long { IsErrOf result SessionFault.TooLong → PassesAllBy repeats form input.old (length out.old.items) }
+{
     if !form.is_served(way) {
         return Err(SessionFault::Usage);
     }
@@ -146,11 +165,11 @@ pub fn session(
     let lines = &mut behind[cut.commands - cut.document..];
     match form {
         Form::Owned => {
-            let value = read_document::<OwnedValue, String>(alloc, text)?;
+            let value = read_document::<OwnedValue, String>(alloc, text, repeats)?;
             answer_all(alloc, &mut OwnedDoc { way, value }, lines, out)?;
         }
         Form::Borrowed => {
-            let value = read_document::<BorrowedValue<'_>, CowStr<'_>>(alloc, text)?;
+            let value = read_document::<BorrowedValue<'_>, CowStr<'_>>(alloc, text, repeats)?;
             answer_all(alloc, &mut BorrowedDoc { way, value }, lines, out)?;
         }
         Form::Lazy => return Err(SessionFault::Usage),

@@ -1,5 +1,6 @@
 //! Sessions on small inputs.
 
+mod repeats;
 mod runs;
 
 use crate::{Form, SessionFault, Way, session};
@@ -8,27 +9,33 @@ use std::alloc::Global;
 use std::process::Abort;
 use std::test::Fail;
 
-/// The forms that are served.
-const FORMS: [Form; 2] = [Form::Owned, Form::Borrowed];
+/// The forms and ways that are served.
+const SERVED: [(Form, Way); 4] = [
+    (Form::Owned, Way::ByText),
+    (Form::Owned, Way::ByKnownKey),
+    (Form::Borrowed, Way::ByText),
+    (Form::Borrowed, Way::ByKnownKey),
+];
 
 /// What a session answers, and what `out` has then, which held `> ` before.
 fn answered(
     alloc: Global,
     form: Form,
+    way: Way,
     input: &[u8],
 ) -> Result<(Result<(), SessionFault>, String), Fail> {
     let mut bytes = input.to_vec(alloc)?;
     let mut out = b"> ".to_vec(alloc)?;
-    let answer = session(alloc, form, Way::ByText, bytes.as_mut_slice(), &mut out);
+    let answer = session(alloc, form, way, bytes.as_mut_slice(), &mut out);
     Ok((answer, String::from_utf8(out)?))
 }
 
-/// Every form answers so.
+/// Every form answers so in each way.
 fn check(rt: &impl Abort, alloc: Global, input: &str, want: &str) -> Result<(), Fail> {
-    for form in FORMS {
-        let (answer, out) = answered(alloc, form, input.as_bytes())?;
-        assert_eq!(rt; answer, Ok(()), "{form:?} on {input:?}");
-        assert_eq!(rt; out.as_str(), want, "{form:?} on {input:?}");
+    for (form, way) in SERVED {
+        let (answer, out) = answered(alloc, form, way, input.as_bytes())?;
+        assert_eq!(rt; answer, Ok(()), "{form:?} {way:?} on {input:?}");
+        assert_eq!(rt; out.as_str(), want, "{form:?} {way:?} on {input:?}");
     }
     Ok(())
 }
@@ -38,8 +45,8 @@ fn refuse(rt: &impl Abort, alloc: Global, text: &[u8], kind: ErrorKind) -> Resul
     for lines in ["", "\n---\n[\"encode\",[]]\n"] {
         let mut input = text.to_vec(alloc)?;
         input.extend_from_slice(lines.as_bytes())?;
-        for form in FORMS {
-            let (answer, out) = answered(alloc, form, input.as_slice())?;
+        for (form, way) in SERVED {
+            let (answer, out) = answered(alloc, form, way, input.as_slice())?;
             assert_eq!(rt; answer, Err(SessionFault::Refused(kind)), "on {text:?}");
             assert_eq!(rt; out.as_str(), "> ", "on {text:?}");
         }
@@ -180,8 +187,8 @@ fn counts_levels(rt: HostRuntime) -> Result<(), Fail> {
 /// A line that is no UTF-8 is a bad command.
 #[test]
 fn answers_any_bytes(rt: HostRuntime) -> Result<(), Fail> {
-    for form in FORMS {
-        let (answer, out) = answered(rt.alloc(), form, b"1\n---\n\xff\n[\"encode\",[]]")?;
+    for (form, way) in SERVED {
+        let (answer, out) = answered(rt.alloc(), form, way, b"1\n---\n\xff\n[\"encode\",[]]")?;
         assert_eq!(rt; answer, Ok(()));
         assert_eq!(rt; out.as_str(), "> bad command\n1\n");
     }
@@ -208,21 +215,4 @@ fn answers_at_colliding_keys(rt: HostRuntime) -> Result<(), Fail> {
         members.as_str(),
         "> 0\n32\ntrue\n1\nnone\n33\n",
     )
-}
-
-#[test]
-fn serves_by_text(rt: HostRuntime) -> Result<(), Fail> {
-    let mut out = b"> ".to_vec(rt.alloc())?;
-    for (form, way) in [
-        (Form::Owned, Way::ByKnownKey),
-        (Form::Borrowed, Way::ByKnownKey),
-        (Form::Lazy, Way::ByText),
-        (Form::Lazy, Way::ByKnownKey),
-    ] {
-        let mut bytes = *b"[1]\n---\n[\"encode\",[]]";
-        let answer = session(rt.alloc(), form, way, &mut bytes, &mut out);
-        assert_eq!(rt; answer, Err(SessionFault::Usage), "{form:?} {way:?}");
-        assert_eq!(rt; out.as_slice(), b"> ".as_slice());
-    }
-    Ok(())
 }

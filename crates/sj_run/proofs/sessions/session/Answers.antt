@@ -1,40 +1,9 @@
-use Rattle.std.proofs.Common.{◌∙◌, ◌-◌, drop, take, length, subst, rules, string_bytes}
-use Rattle.std.specs.Cow.{cow_str_bytes}
-use Rattle.sj_text_core.specs.Tree.{Tree}
-use Rattle.sj_document.specs.Document.{tree}
-use Rattle.sj_run.specs.Answered.{AnswersLines}
-use Rattle.sj_run.specs.Lines.{full_lines, line_texts}
-use Rattle.sj_run.proofs.SessionLemmas.{session_answered, lines_behind}
+use Rattle.std.proofs.Common.{length}
+use Rattle.sj_run.proofs.Firsts.{first_answered, first_passes}
 use Rattle.sj_run.proofs.sessions.session.Goals as goal
 
-pub returns-in_ok-answer_all-in-Owned-clause-ok : goal.returns-in_ok-answer_all-in-Owned-clause-ok
-returns-in_ok-answer_all-in-Owned-clause-ok c =
-    let r = c.in_ok-value-in-Owned.ensures.read in
-    let input = c.args.input.now in
-    let cut = c.cut_at_mark-cut in
-    let part = c.split_at_mut-text.result.0.now in
-    let behind = c.split_at_mut-text.result.1.now in
-    let k = cut.result.commands - cut.result.document in
-    let lines = take (length behind - k) (drop k behind) in
-    let new = c.answer_all.new.out.items in
-    let u = tree string_bytes c.answer_all.new.document.value in
-    session_answered c.args.form c.args.way input part lines r.tree u c.args.out.now.items new (c.is_served.ensures.0 (search rules))
-    (c.split_at_mut-text.ensures.front ∙ cut.ensures.document)
-    (lines_behind input behind cut.result.document cut.result.commands cut.ensures.ordered cut.ensures.within c.split_at_mut-text.ensures.back cut.ensures.commands) r.spelled r.within
-    (subst (λ (t : Tree). AnswersLines t (line_texts (full_lines lines)) u c.args.out.now.items new) r.kept c.in_ok-answer_all-in-Owned.ensures.ok)
+pub returns-clause-ok : goal.returns-clause-ok
+returns-clause-ok c = first_answered c.args.form c.args.input.now c.args.out.now.items _ c.session_repeats.result c.session_repeats.ensures.ok
 
-pub returns-in_ok-answer_all-in-Borrowed-clause-ok : goal.returns-in_ok-answer_all-in-Borrowed-clause-ok
-returns-in_ok-answer_all-in-Borrowed-clause-ok c =
-    let r = c.in_ok-value-in-Borrowed.ensures.read in
-    let input = c.args.input.now in
-    let cut = c.cut_at_mark-cut in
-    let part = c.split_at_mut-text.result.0.now in
-    let behind = c.split_at_mut-text.result.1.now in
-    let k = cut.result.commands - cut.result.document in
-    let lines = take (length behind - k) (drop k behind) in
-    let new = c.answer_all-in-Borrowed.new.out.items in
-    let u = tree cow_str_bytes c.answer_all-in-Borrowed.new.document.value in
-    session_answered c.args.form c.args.way input part lines r.tree u c.args.out.now.items new (c.is_served.ensures.0 (search rules))
-    (c.split_at_mut-text.ensures.front ∙ cut.ensures.document)
-    (lines_behind input behind cut.result.document cut.result.commands cut.ensures.ordered cut.ensures.within c.split_at_mut-text.ensures.back cut.ensures.commands) r.spelled r.within
-    (subst (λ (t : Tree). AnswersLines t (line_texts (full_lines lines)) u c.args.out.now.items new) r.kept c.in_ok-answer_all-in-Borrowed.ensures.ok)
+pub returns-clause-too_long : goal.returns-clause-too_long
+returns-clause-too_long c = λ e. first_passes c.args.form c.args.input.now (length c.args.out.now.items) (c.session_repeats.ensures.too_long e)
