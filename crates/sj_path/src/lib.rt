@@ -7,10 +7,10 @@
 //! ```
 //! let mut bytes = b"{\"foo\":[\"bar\",\"baz\"],\"m~n\":8}".to_vec(alloc)?;
 //! let mut value = sj_owned::to_value(alloc, bytes.as_mut_slice())?;
-//! let found = owned::find(&value, &pointer(alloc, "/foo/1")?).ok_or("an item")?;
-//! assert_eq!(rt; found.as_str(), Some("baz"));
-//! let escaped = pointer(alloc, "/m~0n")?;
-//! let before = owned::replace(&mut value, &escaped, Value::from(9));
+//! let item = pointer(alloc, "/foo/1")?;
+//! assert!(rt; owned::find(&value, &item).is_some_and(|found| found.is_str()));
+//! let key = pointer(alloc, "/m~0n")?;
+//! assert!(rt; owned::replace(&mut value, &key, owned::Value::from(9_u8)).is_ok());
 //! assert_eq!(rt; value.encode(alloc)?.as_str(), "{\"foo\":[\"bar\",\"baz\"],\"m~n\":9}");
 //! assert_eq!(rt; pointer(alloc, "/a~2").err(), Some(PointerError::BadTilde));
 //! ```

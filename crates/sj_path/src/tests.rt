@@ -1,4 +1,5 @@
 mod finds;
+mod page;
 mod texts;
 mod writes;
 

@@ -1,9 +1,10 @@
 //! Writes at pointers.
 
-use crate::{borrowed, lazy, owned, pointer};
+use crate::{Pointer, borrowed, lazy, owned, pointer};
 use sj_document::Document;
 use sj_tape::to_tape;
 use sj_text_core::{StaticNode, Writable};
+use std::alloc::Global;
 use std::test::Fail;
 
 const SMALL: &str = r#"{"a":[1,{"b~":2}],"c":3}"#;
@@ -86,26 +87,39 @@ fn lazy_documents(rt: HostRuntime) -> Result<(), Fail> {
     Ok(())
 }
 
+/// An owned document with a null written through a reference.
+fn owned_with_null(alloc: Global, pointer: &Pointer) -> Result<String, Fail> {
+    let mut bytes = SMALL.as_bytes().to_vec(alloc)?;
+    let mut value = sj_owned::to_value(alloc, bytes.as_mut_slice())?;
+    *owned::find_mut(&mut value, pointer).ok_or("a value")? = Document::null();
+    Ok(value.encode(alloc)?)
+}
+
+/// A borrowed one.
+fn borrowed_with_null(alloc: Global, pointer: &Pointer) -> Result<String, Fail> {
+    let mut bytes = SMALL.as_bytes().to_vec(alloc)?;
+    let mut value = sj_borrowed::to_value(alloc, bytes.as_mut_slice())?;
+    *borrowed::find_mut(&mut value, pointer).ok_or("a value")? = Document::null();
+    Ok(value.encode(alloc)?)
+}
+
+/// A lazy one.
+fn lazy_with_null(alloc: Global, pointer: &Pointer) -> Result<String, Fail> {
+    let mut bytes = SMALL.as_bytes().to_vec(alloc)?;
+    let tape = to_tape(alloc, bytes.as_mut_slice())?;
+    let mut value: lazy::Value<'_, '_, '_> = lazy::Value::from_tape(tape.as_value());
+    *lazy::find_mut(&mut value, alloc, pointer)?.ok_or("a value")? = Document::null();
+    Ok(value.encode(alloc)?)
+}
+
 #[test]
 fn references_are_written_through(rt: HostRuntime) -> Result<(), Fail> {
     let alloc = rt.alloc();
     for (text, _, after) in WRITES {
         let pointer = pointer(alloc, text)?;
-        let mut bytes = SMALL.as_bytes().to_vec(alloc)?;
-        let mut value = sj_owned::to_value(alloc, bytes.as_mut_slice())?;
-        *owned::find_mut(&mut value, &pointer).ok_or("a value")? = Document::null();
-        assert_eq!(rt; value.encode(alloc)?.as_str(), after);
-
-        let mut bytes = SMALL.as_bytes().to_vec(alloc)?;
-        let mut value = sj_borrowed::to_value(alloc, bytes.as_mut_slice())?;
-        *borrowed::find_mut(&mut value, &pointer).ok_or("a value")? = Document::null();
-        assert_eq!(rt; value.encode(alloc)?.as_str(), after);
-
-        let mut bytes = SMALL.as_bytes().to_vec(alloc)?;
-        let tape = to_tape(alloc, bytes.as_mut_slice())?;
-        let mut value: lazy::Value<'_, '_, '_> = lazy::Value::from_tape(tape.as_value());
-        *lazy::find_mut(&mut value, alloc, &pointer)?.ok_or("a value")? = Document::null();
-        assert_eq!(rt; value.encode(alloc)?.as_str(), after);
+        assert_eq!(rt; owned_with_null(alloc, &pointer)?.as_str(), after);
+        assert_eq!(rt; borrowed_with_null(alloc, &pointer)?.as_str(), after);
+        assert_eq!(rt; lazy_with_null(alloc, &pointer)?.as_str(), after);
     }
     Ok(())
 }
