@@ -77,7 +77,7 @@ fn answer_made(found: Option<u64>, is_made: bool) -> Answer {
     }
 }
 
-fn insert<'v>(document: &mut Value<'v>, text: String, new: u64) -> Answer {
+fn insert(document: &mut Value<'static>, text: String, new: u64) -> Answer {
     match document.insert(CowStr::Owned(text), number(new)) {
         Ok(before) => answer_of(before),
         Err(refused) => {
@@ -90,7 +90,7 @@ fn insert<'v>(document: &mut Value<'v>, text: String, new: u64) -> Answer {
     }
 }
 
-fn known_insert<'v>(document: &mut Value<'v>, key: &KnownKey<'v>, new: u64) -> Answer {
+fn known_insert(document: &mut Value<'static>, key: &KnownKey<'static>, new: u64) -> Answer {
     match key.insert(document, number(new)) {
         Ok(before) => answer_of(before),
         Err(refused) => {
@@ -115,14 +115,18 @@ fn lookup_or_insert<'v>(document: &mut Value<'v>, key: &KnownKey<'v>, new: u64) 
     answer_made(found, is_made)
 }
 
-fn map_insert<'v>(members: &mut Object<'v>, key: &KnownKey<'v>, new: u64) -> Answer {
+fn map_insert(members: &mut Object<'static>, key: &KnownKey<'static>, new: u64) -> Answer {
     match key.map_insert(members, number(new)) {
         Ok(before) => answer_of(before),
         Err(refused) => Answer::OutOfMemory(refused.value.same_as(&new)),
     }
 }
 
-fn map_lookup_or_insert<'v>(members: &mut Object<'v>, key: &KnownKey<'v>, new: u64) -> Answer {
+fn map_lookup_or_insert(
+    members: &mut Object<'static>,
+    key: &KnownKey<'static>,
+    new: u64,
+) -> Answer {
     let mut is_made = false;
     let found = match KnownKey::map_lookup_or_insert_mut(members, key, || {
         is_made = true;
@@ -136,19 +140,19 @@ fn map_lookup_or_insert<'v>(members: &mut Object<'v>, key: &KnownKey<'v>, new: u
 
 /// A key that an insert is made with.
 #[derive(Drop)]
-struct Key<'v> {
+struct Key {
     text: String,
-    known: KnownKey<'v>,
+    known: KnownKey<'static>,
 }
 
-fn keyed<'v>(alloc: Global, place: u64) -> Result<Key<'v>, AllocError> {
+fn keyed(alloc: Global, place: u64) -> Result<Key, AllocError> {
     Ok(Key {
         text: key_of(alloc, place)?,
         known: KnownKey::from(key_of(alloc, place)?),
     })
 }
 
-fn insert_by<'v>(call: Call, document: &mut Value<'v>, key: Key<'v>, new: u64) -> Answer {
+fn insert_by(call: Call, document: &mut Value<'static>, key: Key, new: u64) -> Answer {
     let Key { text, known } = key;
     match call {
         Call::Insert => insert(document, text, new),
@@ -166,7 +170,7 @@ fn insert_by<'v>(call: Call, document: &mut Value<'v>, key: Key<'v>, new: u64) -
 }
 
 /// An object of so many members.
-fn numbered<'v>(alloc: Global, members: u64) -> Result<Value<'v>, Fault> {
+fn numbered(alloc: Global, members: u64) -> Result<Value<'static>, Fault> {
     let mut document = Value::object(alloc)?;
     for place in 0..members {
         match insert(&mut document, key_of(alloc, place)?, place) {
