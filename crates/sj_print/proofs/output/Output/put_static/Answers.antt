@@ -1,4 +1,4 @@
-use Rattle.std.proofs.Common.{sym, ◌∙◌, subst}
+use Rattle.std.proofs.Common.{◌∙◌, subst}
 use Rattle.sj_print.specs.Outputs.{AppendsText}
 use Rattle.sj_print.proofs.Puts.{appends_text}
 use Rattle.sj_print.proofs.output.Output.put_static.Goals as goal

@@ -1,4 +1,4 @@
-use Rattle.std.proofs.Common.{◌/◌, arith}
+use Rattle.std.proofs.Common.{arith}
 use Rattle.std.proofs.lemmas.Fmt.{IsAscii-decimal_wide}
 use Rattle.std.proofs.lemmas.Str.{IsUtf8-from_ascii}
 use Rattle.itoa.proofs.Decimal.{length_wide, length_step_wide}
