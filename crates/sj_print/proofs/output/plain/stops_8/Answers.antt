@@ -1,11 +1,11 @@
 use Rattle.std.proofs.Common.{arith}
-use Rattle.std.proofs.lemmas.Simd.{zip2_splat}
+use Rattle.std.proofs.lemmas.Simd.{zip2_splat, zip2_of_maps}
 use Rattle.sj_print.specs.Runs.{is_stop}
-use Rattle.sj_print.proofs.Lanes.{hit, below, either, masked}
+use Rattle.sj_print.proofs.Lanes.{masked}
 use Rattle.sj_print.proofs.output.plain.stops_8.Goals as goal
 
 pub returns : goal.returns
 returns c =
     let v = c.args.lanes in
     let long = c.fits-lanes.0 in
-    masked _ is_stop v _ (omega arith) c.fits-lanes.1 (either _ _ v (either _ _ v (zip2_splat hit v 8 34 long) (zip2_splat hit v 8 92 long)) (zip2_splat below v 8 32 long)) tt
+    masked _ is_stop v _ (omega arith) c.fits-lanes.1 (zip2_of_maps _ _ _ v (zip2_of_maps _ _ _ v (zip2_splat _ v 8 34 long) (zip2_splat _ v 8 92 long)) (zip2_splat _ v 8 32 long)) tt
