@@ -1,5 +1,5 @@
 -- Positions are the numerals of JSON below 2^64.
-use Rattle.std.proofs.Common.{◌≡◌, ◌≢◌, ◌⊎◌, inl, inr, ◌≤◌, ◌<◌, ◌^◌, ◌&&◌, ◌↔◌, ℕ, Bool, true, false, nat_lt, List, [], ◌∷◌, length, Option, Some, None, eqb, if◌then◌else◌, refl, sym, ap, subst, ◌∙◌, arith}
+use Rattle.std.proofs.Common.{◌≡◌, ◌≢◌, ◌⊎◌, inl, inr, ◌≤◌, ◌<◌, ◌^◌, ◌&&◌, ◌↔◌, ℕ, Bool, true, false, nat_lt, List, [], ◌∷◌, Some, None, eqb, if◌then◌else◌, refl, sym, ap, subst, ◌∙◌, arith}
 use Rattle.std.specs.Char.{is_ascii_digit}
 use Rattle.std.specs.List.{AllByRecursion, list_all}
 use Rattle.std.proofs.lemmas.Bool.Decides.{eqb_tells, nat_tests}

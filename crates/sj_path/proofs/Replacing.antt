@@ -1,6 +1,6 @@
 -- A write one token further down.
-use Rattle.std.proofs.Common.{◌≡◌, ℕ, zero, suc, ◌<◌, ◌≤◌, Bool, true, false, List, [], ◌∷◌, length, get_or, set, map, option_map, option_and_then, Option, Some, None, Result, Ok, Err, if◌then◌else◌, bytes_eq, refl, sym, ap, ◌∙◌, arith}
-use Rattle.std.specs.Result.{result_ok, OnErr}
+use Rattle.std.proofs.Common.{◌≡◌, ℕ, zero, suc, ◌<◌, ◌≤◌, Bool, true, false, List, [], ◌∷◌, length, get_or, set, map, option_and_then, Some, None, Result, Ok, Err, if◌then◌else◌, bytes_eq, refl, sym, ap, ◌∙◌, arith}
+use Rattle.std.specs.Result.{OnErr}
 use Rattle.sj_text_core.specs.Tree.{Tree, null, boolean, int, text, list, obj, Items, no_items, item, items_from, Members, no_members, member}
 use Rattle.sj_text_core.specs.Find.{find_member, nth_item}
 use Rattle.sj_text_core.specs.Edits.{put}

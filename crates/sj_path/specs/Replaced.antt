@@ -1,5 +1,5 @@
 -- What a write at tokens answers and leaves. Only private clauses cite it.
-use Rattle.std.specs.Prelude.{◌≡◌, ℕ, List, Option, option_map, Result}
+use Rattle.std.specs.Prelude.{◌≡◌, ℕ, List, option_map, Result}
 use Rattle.std.specs.Result.{result_ok, IfErr, OnErr}
 use Rattle.sj_text_core.specs.Tree.{Tree}
 use Rattle.sj_document.specs.Document.{tree}

@@ -1,6 +1,6 @@
 -- What pointers find.
 use Rattle.std.proofs.Common.{◌≡◌, ℕ, List, [], ◌∷◌, Option, Some, None, pos, refl, codes}
-use Rattle.sj_text_core.specs.Tree.{u64, Tree, null, int, text, list, obj, Items, no_items, item, no_members, member}
+use Rattle.sj_text_core.specs.Tree.{u64, Tree, null, int, text, list, obj, no_items, item, no_members, member}
 use Rattle.sj_text_core.specs.declared.repeats.Repeats.TheVariants.{First, Last}
 use Rattle.sj_path.specs.Tokens.{tokens_of}
 use Rattle.sj_path.specs.Pointed.{pointed, pointed_by, set_pointed}

@@ -1,7 +1,7 @@
 -- Which texts are pointers, and their tokens.
 use Rattle.std.proofs.Common.{◌≡◌, true, false, [], ◌∷◌, refl, codes}
 use Rattle.sj_path.specs.Syntax.{is_begun, is_escaped}
-use Rattle.sj_path.specs.Tokens.{parted, decoded, tokens_of}
+use Rattle.sj_path.specs.Tokens.{decoded, tokens_of}
 
 -- the examples of RFC 6901, section 5
 whole : tokens_of (codes "") ≡ []

@@ -1,4 +1,4 @@
-use Rattle.std.proofs.Common.{◌≡◌, rules, Box, Vec, Global, Some, None, map, option_map, string_bytes, refl, sym, ap, ◌∙◌, arith}
+use Rattle.std.proofs.Common.{◌≡◌, rules, Box, Vec, Global, map, option_map, string_bytes, sym, ap, ◌∙◌, arith}
 use Rattle.sj_text_core.specs.Tree.{list, obj, items_from}
 use Rattle.sj_text_core.specs.Paths.{set_found}
 use Rattle.sj_text_core.specs.declared.repeats.Repeats.TheVariants.{First}
