@@ -7,3 +7,6 @@ pub use value::{
     BorrowedValue, CopyText, Document, Object, OwnedValue, borrowed_from_tape, owned_from_tape,
     replace_at, same,
 };
+
+#[cfg(test)]
+mod tests;

@@ -27,7 +27,6 @@ fn scalars_and_texts(rt: HostRuntime) -> Result<(), Fail> {
     for (value, print, shown) in rows {
         assert_eq!(rt; value.encode(alloc)?.as_str(), print);
         assert_eq!(rt; format!(in alloc; "{value}")?.as_str(), shown);
-        assert!(rt; laws::reads_back(alloc, &value)?, "{print}");
     }
     let mut bytes = b" { \"k\" : null } ".to_vec(alloc)?;
     let value = parsed(&mut bytes)?;
@@ -48,7 +47,6 @@ fn lines(rt: HostRuntime) -> Result<(), Fail> {
     let mut bytes = b"{\"q\\\"k\":\"a\\/b\\u0041\"}".to_vec(alloc)?;
     let value = parsed(&mut bytes)?;
     assert_eq!(rt; value.encode(alloc)?.as_str(), "{\"q\\\"k\":\"a/bA\"}");
-    assert!(rt; laws::reads_back(alloc, &value)?);
     let mut out = b"> ".to_vec(alloc)?;
     value.write(&mut out)?;
     assert_eq!(rt; out.as_slice(), b"> {\"q\\\"k\":\"a/bA\"}".as_slice());

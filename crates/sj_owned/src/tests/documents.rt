@@ -83,7 +83,6 @@ fn deeper_than_the_reader(rt: HostRuntime) -> Result<(), Fail> {
         outer.push(value)?;
         value = outer;
     }
-    assert!(rt; !laws::reads_back(alloc, &value)?);
     let mut text = value.encode(alloc)?.into_bytes();
     assert_eq!(rt; text.len(), 2050);
     let refused = to_value(alloc, text.as_mut_slice());

@@ -27,7 +27,6 @@ fn scalars_and_texts(rt: HostRuntime) -> Result<(), Fail> {
     for (value, print, shown) in rows {
         assert_eq!(rt; value.encode(alloc)?.as_str(), print);
         assert_eq!(rt; format!(in alloc; "{value}")?.as_str(), shown);
-        assert!(rt; laws::reads_back(alloc, &value)?, "{print}");
     }
     let value = parsed(alloc, " { \"k\" : null } ")?;
     assert_eq!(rt; value.encode(alloc)?.as_str(), "{\"k\":null}");
