@@ -1,10 +1,7 @@
 //! The type, and what makes and ends its values.
 
-ghost use Rattle.std.specs.Prelude.{◌≡◌, IfOk, not, true, false, option_map, is_some, IfSome};
-ghost use Rattle.std.specs.Cow.{cow_str_bytes};
-ghost use Rattle.sj_text_core.specs.Reads.{as_text};
+ghost use Rattle.std.specs.Prelude.{◌≡◌, not, true, option_map, IfSome};
 ghost use Rattle.sj_text_core.specs.Tree.{null};
-ghost use Rattle.sj_document.specs.Document.{tree as document_tree};
 ghost use Rattle.sj_tape.specs.Value.{tree as tape_tree, choice as tape_choice};
 ghost use Rattle.sj_lazy.specs.Value.{tree, choice, kept, lent_tree};
 ghost use Rattle.sj_text_core.specs.Repeats.{keep_by};
@@ -22,12 +19,10 @@ mod serialize;
 mod typed;
 mod upgrade;
 
-use crate::upgrade::{Lent, Upgrade};
-use sj_document::{BorrowedValue, CopyText, Document};
+use sj_document::{BorrowedValue, Document};
 use sj_object::KeyText;
 use sj_tape::Value as TapeValue;
 use sj_text_core::Repeats;
-use std::alloc::{AllocError, Global};
 use std::borrow::CowStr;
 
 /// A document, lent or owned.
