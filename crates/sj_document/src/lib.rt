@@ -7,6 +7,3 @@ pub use value::{
     BorrowedValue, CopyText, Document, Object, OwnedValue, borrowed_from_tape, owned_from_tape,
     replace_at, same,
 };
-
-#[cfg(test)]
-mod tests;

@@ -26,8 +26,6 @@ mod reader;
 mod search;
 mod step;
 mod tape;
-#[cfg(test)]
-mod tests;
 mod value;
 
 pub use array::Array;

@@ -1,4 +1,8 @@
-use super::*;
+//! Documents, through the type that both forms have.
+
+use sj_document::{
+    BorrowedValue, Document, OwnedValue, borrowed_from_tape, owned_from_tape, replace_at,
+};
 use sj_object::{HashMap, ObjectHasher, deserialize};
 use sj_tape::{Node, Tape, to_tape};
 use sj_text_core::{Repeats, SameAs, StaticNode, Writable};

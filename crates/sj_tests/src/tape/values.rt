@@ -2,7 +2,7 @@
 
 ghost use Rattle.std.specs.Prelude.{◌≡◌, ◌<◌};
 
-use crate::{Node, Tape, Value};
+use sj_tape::{Node, Tape, Value};
 use sj_text_core::{Repeats, StaticNode, Steps, TypedValue, ValueAsScalar, ValueType};
 use std::alloc::Global;
 use std::marker::Brand;

@@ -1,6 +1,6 @@
 //! Prints of tapes.
 
-use crate::{ErrorKind, Node, Repeats, StaticNode, Tape, Writable, laws, to_tape};
+use sj_tape::{ErrorKind, Node, Repeats, StaticNode, Tape, Writable, laws, to_tape};
 use std::test::Fail;
 
 /// A text, and what it prints.

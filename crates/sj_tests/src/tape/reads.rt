@@ -1,6 +1,6 @@
 //! Reads of the parts of tapes that were read from texts.
 
-use crate::{
+use sj_tape::{
     ExtendedValueType, Repeats, TryTypeError, TypedValue, Value, ValueAsScalar, ValueType, to_tape,
 };
 use std::test::Fail;

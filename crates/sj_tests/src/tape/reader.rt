@@ -1,4 +1,4 @@
-use crate::{Buffers, DEPTH_LIMIT, to_tape, to_tape_with_buffers};
+use sj_tape::{Buffers, DEPTH_LIMIT, to_tape, to_tape_with_buffers};
 use std::alloc::{AllocError, Global};
 
 /// What the answer of a reading prints: the tape, or the kind of the refusal.

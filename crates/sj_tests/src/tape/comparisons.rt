@@ -1,6 +1,6 @@
 //! Comparisons of tapes.
 
-use crate::to_tape;
+use sj_tape::to_tape;
 use sj_text_core::{Repeats, SameAs};
 use std::test::Fail;
 
