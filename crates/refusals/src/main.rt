@@ -3,14 +3,21 @@
 //! that call refused in turn, which `tools/refusals.sh` does; its words name the call:
 //!
 //!     refusals read CALL TEXT | buffers | insert CALL MEMBERS | present CALL MEMBERS | capacity
-//!     refusals room | map reads | write CALL GENERATOR | tape new | tape reads | session
+//!     refusals room | map reads | write CALL GENERATOR | tape new | tape reads
+//!     refusals document FORM CALL | make SOURCE | convert CALL | lazy FORM CALL | session
+//!
+//! `refusals nodes LIST ..` makes a tape of each list of nodes.
 //!
 //! The statuses: 0 told; 2 usage; 4 out of memory where the call was not yet made, or again; 5
 //! output failed.
 #![tactic(auto)]
 
+mod documents;
 mod fault;
+mod lazy;
+mod makes;
 mod maps;
+mod nodes;
 mod prints;
 mod readings;
 mod say;
@@ -44,6 +51,11 @@ fn run(rt: &(impl Env + Print + AllocGlobal)) -> Result<(), Fault> {
         "map" => maps::reads(rt),
         "write" => prints::write(rt, second, third),
         "tape" => tapes::call(rt, second),
+        "document" => documents::call(rt, second, third),
+        "make" => makes::make(rt, second),
+        "convert" => makes::convert(rt, second),
+        "lazy" => lazy::call(rt, second, third),
+        "nodes" => nodes::tell(rt, words.get(1..).unwrap_or(&[])),
         "session" => sessions::answer(rt),
         _ => Err(Fault::Usage),
     }
