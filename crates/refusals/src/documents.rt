@@ -138,7 +138,10 @@ fn answer_of<T: CopyText + Drop>(
         Call::ArrayWithCapacity => Answer::from(Document::array_with_capacity(alloc, 40)),
         Call::Object => Answer::from(Document::object(alloc)),
         Call::ObjectWithCapacity => Answer::from(Document::object_with_capacity(alloc, 40)),
-        Call::Clone => Answer::from(document.clone()),
+        Call::Clone => {
+            let copy: Result<Document<T>, AllocError> = document.clone();
+            Answer::from(copy)
+        }
         Call::Insert => inserted(document.insert(key, value)),
         Call::TryInsert => tried(document.try_insert(key, value)),
         Call::Push => pushed(document, value),
@@ -151,7 +154,7 @@ fn answer_of<T: CopyText + Drop>(
 
 /// Makes the call on the document of the first example, and tells what it answered and what
 /// stands.
-pub fn call(rt: &(impl Print + AllocGlobal), form: &str, call: &str) -> Result<(), Fault> {
+pub fn run_call(rt: &(impl Print + AllocGlobal), form: &str, call: &str) -> Result<(), Fault> {
     if call == "reads" {
         return reads(rt, form);
     }

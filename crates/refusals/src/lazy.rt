@@ -64,7 +64,7 @@ enum Answer {
     ValueLost,
 }
 
-fn returned<'i, E>(
+fn returned<'i, E: Drop>(
     answer: Result<Option<BorrowedValue<'i>>, Refused<E, BorrowedValue<'i>>>,
 ) -> Answer {
     match answer {
@@ -148,7 +148,7 @@ fn write(
 }
 
 /// Makes the call on the document of the first example, or on its array, as that form.
-pub fn call(rt: &(impl Print + AllocGlobal), form: &str, call: &str) -> Result<(), Fault> {
+pub fn run_call(rt: &(impl Print + AllocGlobal), form: &str, call: &str) -> Result<(), Fault> {
     let alloc = rt.alloc();
     let call = Call::of(call)?;
     let mut bytes = text_of(alloc, "example")?;
