@@ -94,10 +94,15 @@ fn inserted<T: KeyText + Drop>(
     match inserted {
         Ok(None) => Answer::Done,
         Ok(Some(_)) => Answer::Another,
-        Err(refused) if refused.why == AccessError::OutOfMemory => {
-            Answer::Refused(Some(refused.value))
-        }
-        Err(_) => Answer::Another,
+        Err(refused) => refused_by(refused.why, refused.value),
+    }
+}
+
+fn refused_by<T: KeyText + Drop>(why: AccessError, value: Document<T>) -> Answer<T> {
+    if why == AccessError::OutOfMemory {
+        Answer::Refused(Some(value))
+    } else {
+        Answer::Another
     }
 }
 
@@ -118,10 +123,7 @@ fn pushed<T: KeyText + Drop>(document: &mut Document<T>, value: Document<T>) -> 
     };
     match items.push(value) {
         Ok(()) => Answer::Done,
-        Err(refused) if refused.why == AccessError::OutOfMemory => {
-            Answer::Refused(Some(refused.value))
-        }
-        Err(_) => Answer::Another,
+        Err(refused) => refused_by(refused.why, refused.value),
     }
 }
 
@@ -158,27 +160,27 @@ pub fn run_call(rt: &(impl Print + AllocGlobal), form: &str, call: &str) -> Resu
     if call == "reads" {
         return reads(rt, form);
     }
-    let alloc = rt.alloc();
-    let call = Call::of(call)?;
-    let mut bytes = text_of(alloc, "example")?;
+    let mut bytes = text_of(rt.alloc(), "example")?;
     match form {
-        "owned" => {
-            let first = (String::from_str(alloc, "n")?, OwnedValue::null());
-            let second = (String::from_str(alloc, "n")?, OwnedValue::null());
-            let document = read(deserialize::<OwnedValue, String>(alloc, bytes.as_mut_slice()))?;
-            make(rt, call, document, first, second)
-        }
-        "borrowed" => {
-            let first = (CowStr::Borrowed("n"), BorrowedValue::null());
-            let second = (CowStr::Borrowed("n"), BorrowedValue::null());
-            let read_document = deserialize::<BorrowedValue<'_>, CowStr<'_>>(
-                alloc,
-                bytes.as_mut_slice(),
-            );
-            make(rt, call, read(read_document)?, first, second)
-        }
+        "owned" => on_owned(rt, Call::of(call)?, bytes.as_mut_slice()),
+        "borrowed" => on_borrowed(rt, Call::of(call)?, bytes.as_mut_slice()),
         _ => Err(Fault::Usage),
     }
+}
+
+fn on_owned(rt: &(impl Print + AllocGlobal), call: Call, bytes: &mut [u8]) -> Result<(), Fault> {
+    let alloc = rt.alloc();
+    let first = (String::from_str(alloc, "n")?, OwnedValue::null());
+    let second = (String::from_str(alloc, "n")?, OwnedValue::null());
+    let document = read(deserialize::<OwnedValue, String>(alloc, bytes))?;
+    make(rt, call, document, first, second)
+}
+
+fn on_borrowed(rt: &(impl Print + AllocGlobal), call: Call, bytes: &mut [u8]) -> Result<(), Fault> {
+    let document = read(deserialize::<BorrowedValue<'_>, CowStr<'_>>(rt.alloc(), bytes))?;
+    let first = (CowStr::Borrowed("n"), BorrowedValue::null());
+    let second = (CowStr::Borrowed("n"), BorrowedValue::null());
+    make(rt, call, document, first, second)
 }
 
 /// A document that was read.
@@ -202,19 +204,20 @@ fn make<T: CopyText + Drop>(
     let before = document.encode(alloc)?;
     let mut out = b"> ".to_vec(alloc)?;
     say_call(rt)?;
-    let answer = answer_of(alloc, call, &mut document, first, &mut out);
-    if let Answer::Refused(back) = answer {
-        say(rt, "refused, ")?;
-        if let Some(value) = back {
-            say_kept(rt, "value", value.is_null())?;
+    match answer_of(alloc, call, &mut document, first, &mut out) {
+        Answer::Refused(back) => {
+            say(rt, "refused, ")?;
+            if let Some(value) = back {
+                say_kept(rt, "value", value.is_null())?;
+            }
+            let is_kept = document.encode(alloc)?.as_str() == before.as_str();
+            say_kept(rt, "document", is_kept)?;
+            say_kept(rt, "out", out.as_slice() == b"> ".as_slice())?;
+            let again = answer_of(alloc, call, &mut document, second, &mut out);
+            tell(rt, &document, &again, out.as_slice())
         }
-        let is_kept = document.encode(alloc)?.as_str() == before.as_str();
-        say_kept(rt, "document", is_kept)?;
-        say_kept(rt, "out", out.as_slice() == b"> ".as_slice())?;
-        let again = answer_of(alloc, call, &mut document, second, &mut out);
-        return tell(rt, &document, &again, out.as_slice());
+        answer => tell(rt, &document, &answer, out.as_slice()),
     }
-    tell(rt, &document, &answer, out.as_slice())
 }
 
 /// Tells what was made or printed, and else the document.

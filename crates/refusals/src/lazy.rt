@@ -9,7 +9,7 @@ use sj_lazy::{Shared, Value};
 use sj_object::deserialize;
 use sj_tape::to_tape;
 use sj_text_core::{AccessError, Refused, ValueAsScalar, Writable};
-use std::alloc::Global;
+use std::alloc::{AllocError, Global};
 use std::borrow::CowStr;
 
 /// A call that writes, or lends for writing.
@@ -64,21 +64,37 @@ enum Answer {
     ValueLost,
 }
 
-fn returned<'i, E: Drop>(
-    answer: Result<Option<BorrowedValue<'i>>, Refused<E, BorrowedValue<'i>>>,
+/// A call that was given a null is refused.
+fn returned(value: &BorrowedValue<'_>) -> Answer {
+    if value.is_null() {
+        Answer::Returned
+    } else {
+        Answer::ValueLost
+    }
+}
+
+fn inserted<'i>(
+    answer: Result<Option<BorrowedValue<'i>>, Refused<AccessError, BorrowedValue<'i>>>,
 ) -> Answer {
     match answer {
         Ok(_) => Answer::Done,
-        Err(refused) if refused.value.is_null() => Answer::Returned,
-        Err(_) => Answer::ValueLost,
+        Err(refused) => returned(&refused.value),
+    }
+}
+
+fn tried<'i>(
+    answer: Result<Option<BorrowedValue<'i>>, Refused<AllocError, BorrowedValue<'i>>>,
+) -> Answer {
+    match answer {
+        Ok(_) => Answer::Done,
+        Err(refused) => returned(&refused.value),
     }
 }
 
 fn pushed<'i>(answer: Result<(), Refused<AccessError, BorrowedValue<'i>>>) -> Answer {
     match answer {
         Ok(()) => Answer::Done,
-        Err(refused) if refused.value.is_null() => Answer::Returned,
-        Err(_) => Answer::ValueLost,
+        Err(refused) => returned(&refused.value),
     }
 }
 
@@ -98,8 +114,8 @@ fn answer_of(alloc: Global, call: Call, value: &mut Value<'_, '_, '_>) -> Answer
         Call::AsObjectMut => done(value.as_object_mut(alloc).is_ok()),
         Call::GetMut => done(value.get_mut(alloc, "some").is_ok()),
         Call::GetIdxMut => done(value.get_idx_mut(alloc, 0).is_ok()),
-        Call::Insert => returned(value.insert(alloc, key, BorrowedValue::null())),
-        Call::TryInsert => returned(value.try_insert(alloc, key, BorrowedValue::null())),
+        Call::Insert => inserted(value.insert(alloc, key, BorrowedValue::null())),
+        Call::TryInsert => tried(value.try_insert(alloc, key, BorrowedValue::null())),
         Call::Remove => done(value.remove(alloc, "some").is_ok()),
         Call::Push => pushed(value.push(alloc, BorrowedValue::null())),
         Call::Pop => done(value.pop(alloc).is_ok()),
@@ -149,29 +165,54 @@ fn write(
 
 /// Makes the call on the document of the first example, or on its array, as that form.
 pub fn run_call(rt: &(impl Print + AllocGlobal), form: &str, call: &str) -> Result<(), Fault> {
-    let alloc = rt.alloc();
-    let call = Call::of(call)?;
-    let mut bytes = text_of(alloc, "example")?;
-    if form == "tape" {
-        let tape = read(to_tape(alloc, bytes.as_mut_slice()))?;
-        let whole = tape.as_value();
-        let part = if call.is_on_array() {
-            whole.get("some")
-        } else {
-            Some(whole)
-        };
-        return write(rt, call, Value::from_tape(part.ok_or(Fault::Usage)?));
-    }
-    let document = read(deserialize::<BorrowedValue<'_>, CowStr<'_>>(alloc, bytes.as_mut_slice()))?;
-    let part = if call.is_on_array() {
-        document.get("some")
-    } else {
-        Some(&document)
-    };
-    let lent = Value::Value(Shared::Borrowed(part.ok_or(Fault::Usage)?));
+    let mut bytes = text_of(rt.alloc(), "example")?;
     match form {
-        "lent" => write(rt, call, lent),
-        "owned" => write(rt, call, lent.into_owned(alloc)?),
+        "tape" => on_tape(rt, Call::of(call)?, bytes.as_mut_slice()),
+        "lent" => on_lent(rt, Call::of(call)?, bytes.as_mut_slice()),
+        "owned" => on_owned(rt, Call::of(call)?, bytes.as_mut_slice()),
         _ => Err(Fault::Usage),
     }
+}
+
+fn on_tape<'i>(
+    rt: &(impl Print + AllocGlobal),
+    call: Call,
+    bytes: &'i mut [u8],
+) -> Result<(), Fault> {
+    let tape = read(to_tape(rt.alloc(), bytes))?;
+    let whole = tape.as_value();
+    let mut part = whole;
+    if let Some(items) = whole.get("some")
+        && call.is_on_array()
+    {
+        part = items;
+    }
+    let value: Value<'i, '_, 'i> = Value::from_tape(part);
+    write(rt, call, value)
+}
+
+fn on_lent(rt: &(impl Print + AllocGlobal), call: Call, bytes: &mut [u8]) -> Result<(), Fault> {
+    let document = read(deserialize::<BorrowedValue<'_>, CowStr<'_>>(rt.alloc(), bytes))?;
+    match document.get("some") {
+        Some(items) if call.is_on_array() => {
+            write(rt, call, Value::Value(Shared::Borrowed(items)))
+        }
+        _ => write(rt, call, Value::Value(Shared::Borrowed(&document))),
+    }
+}
+
+fn on_owned<'i>(
+    rt: &(impl Print + AllocGlobal),
+    call: Call,
+    bytes: &'i mut [u8],
+) -> Result<(), Fault> {
+    let mut document = read(deserialize::<BorrowedValue<'_>, CowStr<'_>>(rt.alloc(), bytes))?;
+    if call.is_on_array() {
+        match document.remove("some") {
+            Ok(Some(items)) => document = items,
+            _ => return Err(Fault::Usage),
+        }
+    }
+    let value: Value<'i, 'i, 'i> = Value::from(document);
+    write(rt, call, value)
 }
