@@ -151,6 +151,79 @@ for generator in pretty pretty_writer; do
   writes new_line $generator $'\n                    '
 done
 
+example='{"some":["key","value",2]}'
+pretty='{
+  "some": [
+    "key",
+    "value",
+    2
+  ]
+}'
+
+# document FORM CALL RETURNED DONE; a call that was refused is made again
+document() {
+  each "document $1 $2" "call: refused, $3document as before, out as before, done $4"$'\n' "call: done $4"$'\n'
+}
+
+for form in owned borrowed; do
+  for call in array array_with_capacity; do
+    document $form $call '' '[] > '
+  done
+  for call in object object_with_capacity; do
+    document $form $call '' '{} > '
+  done
+  document $form clone '' "$example > "
+  for call in insert try_insert; do
+    document $form $call 'value as before, ' '{"some":["key","value",2],"n":null} > '
+  done
+  document $form push 'value as before, ' '{"some":["key","value",2,null]} > '
+  document $form encode '' "$example > "
+  document $form encode_pp '' "$pretty > "
+  document $form write '' "$example > $example"
+  document $form write_pp '' "$example > $pretty"
+  free "document $form reads" $'call: found\n'
+done
+
+# makes WORDS MADE
+makes() {
+  each "$1" "call: AllocError, then $2"$'\n' "call: made, again $2"$'\n'
+}
+
+for source in text string cow; do
+  makes "make $source" '"a text"'
+done
+for source in items from_items; do
+  makes "make $source" '[false,true]'
+done
+makes 'make object' '{"b":null,"a":null}'
+makes 'make map' '{"a":null,"b":null}'
+makes 'make from_pairs' '{"b":null,"a":null}'
+for call in clone_static into_static owned_from_borrowed borrowed_from_owned; do
+  makes "convert $call" '{"q\"k":"a/bA"}'
+done
+
+# lazy FORM CALL DONE
+lazy() {
+  each "lazy $1 $2" "call: refused, tree as before, form as before, done, owned $3"$'\n' "call: done, owned $3"$'\n'
+}
+
+for form in tape lent; do
+  for call in as_mut as_array_mut as_object_mut get_mut get_idx_mut; do
+    lazy $form $call "$example"
+  done
+  for call in insert try_insert; do
+    lazy $form $call '{"some":["key","value",2],"n":null}'
+  done
+  lazy $form remove '{}'
+  lazy $form push '["key","value",2,null]'
+  lazy $form pop '["key","value"]'
+done
+for call in as_mut as_array_mut as_object_mut get_mut get_idx_mut; do
+  free "lazy owned $call" "call: done, owned $example"$'\n'
+done
+free 'lazy owned remove' $'call: done, owned {}\n'
+free 'lazy owned pop' $'call: done, owned ["key","value"]\n'
+
 free 'tape new' $'call: made, and refused\n'
 free 'tape reads' $'call: found\n'
 

@@ -5,14 +5,21 @@
 //!     refusals read CALL TEXT | buffers | insert CALL MEMBERS | present CALL MEMBERS | capacity
 //!     refusals room | map reads | member CALL MEMBERS | member_present CALL MEMBERS
 //!     refusals write CALL GENERATOR | tape new | tape reads | session
+//!     refusals document FORM CALL | make SOURCE | convert CALL | lazy FORM CALL
+//!
+//! `refusals nodes LIST ..` makes a tape of each list of nodes.
 //!
 //! The statuses: 0 told; 2 usage; 4 out of memory where the call was not yet made, or again; 5
 //! output failed.
 #![tactic(auto)]
 
+mod documents;
 mod fault;
+mod lazy;
+mod makes;
 mod maps;
 mod members;
+mod nodes;
 mod prints;
 mod readings;
 mod say;
@@ -48,6 +55,11 @@ fn run(rt: &(impl Env + Print + AllocGlobal)) -> Result<(), Fault> {
         "map" => maps::reads(rt),
         "write" => prints::write(rt, second, third),
         "tape" => tapes::call(rt, second),
+        "document" => documents::run_call(rt, second, third),
+        "make" => makes::make(rt, second),
+        "convert" => makes::convert(rt, second),
+        "lazy" => lazy::run_call(rt, second, third),
+        "nodes" => nodes::tell(rt, words.get(1..).unwrap_or(&[])),
         "session" => sessions::answer(rt),
         _ => Err(Fault::Usage),
     }

@@ -1,0 +1,218 @@
+//! Calls on lazy documents: on a part of a tape, and on a document that is lent.
+
+use crate::documents::read;
+use crate::fault::Fault;
+use crate::say::{say, say_call, say_kept};
+use crate::texts::text_of;
+use sj_document::BorrowedValue;
+use sj_lazy::{Shared, Value};
+use sj_object::deserialize;
+use sj_tape::to_tape;
+use sj_text_core::{AccessError, Refused, ValueAsScalar, Writable};
+use std::alloc::{AllocError, Global};
+use std::borrow::CowStr;
+
+/// A call that writes, or lends for writing.
+#[derive(Clone, Copy, Debug, PartialEq, Eq)]
+enum Call {
+    AsMut,
+    AsArrayMut,
+    AsObjectMut,
+    GetMut,
+    GetIdxMut,
+    Insert,
+    TryInsert,
+    Remove,
+    Push,
+    Pop,
+}
+
+impl Call {
+    fn of(word: &str) -> Result<Call, Fault> {
+        match word {
+            "as_mut" => Ok(Call::AsMut),
+            "as_array_mut" => Ok(Call::AsArrayMut),
+            "as_object_mut" => Ok(Call::AsObjectMut),
+            "get_mut" => Ok(Call::GetMut),
+            "get_idx_mut" => Ok(Call::GetIdxMut),
+            "insert" => Ok(Call::Insert),
+            "try_insert" => Ok(Call::TryInsert),
+            "remove" => Ok(Call::Remove),
+            "push" => Ok(Call::Push),
+            "pop" => Ok(Call::Pop),
+            _ => Err(Fault::Usage),
+        }
+    }
+
+    /// Whether it is made on the array `some` of the document.
+    fn is_on_array(self) -> bool {
+        matches!(self, Call::Push | Call::Pop)
+    }
+
+    /// Whether it may be refused for the write, once the value is a document.
+    fn grows(self) -> bool {
+        matches!(self, Call::Insert | Call::TryInsert | Call::Push)
+    }
+}
+
+/// Whether the call was refused for want of memory, and whether it handed back what it was given.
+#[derive(Clone, Copy, Debug, PartialEq, Eq)]
+enum Answer {
+    Done,
+    Refused,
+    Returned,
+    ValueLost,
+}
+
+/// A call that was given a null is refused.
+fn returned(value: &BorrowedValue<'_>) -> Answer {
+    if value.is_null() {
+        Answer::Returned
+    } else {
+        Answer::ValueLost
+    }
+}
+
+fn inserted<'i>(
+    answer: Result<Option<BorrowedValue<'i>>, Refused<AccessError, BorrowedValue<'i>>>,
+) -> Answer {
+    match answer {
+        Ok(_) => Answer::Done,
+        Err(refused) => returned(&refused.value),
+    }
+}
+
+fn tried<'i>(
+    answer: Result<Option<BorrowedValue<'i>>, Refused<AllocError, BorrowedValue<'i>>>,
+) -> Answer {
+    match answer {
+        Ok(_) => Answer::Done,
+        Err(refused) => returned(&refused.value),
+    }
+}
+
+fn pushed<'i>(answer: Result<(), Refused<AccessError, BorrowedValue<'i>>>) -> Answer {
+    match answer {
+        Ok(()) => Answer::Done,
+        Err(refused) => returned(&refused.value),
+    }
+}
+
+fn done(is_done: bool) -> Answer {
+    if is_done {
+        Answer::Done
+    } else {
+        Answer::Refused
+    }
+}
+
+fn answer_of(alloc: Global, call: Call, value: &mut Value<'_, '_, '_>) -> Answer {
+    let key = CowStr::Borrowed("n");
+    match call {
+        Call::AsMut => done(value.as_mut(alloc).is_ok()),
+        Call::AsArrayMut => done(value.as_array_mut(alloc).is_ok()),
+        Call::AsObjectMut => done(value.as_object_mut(alloc).is_ok()),
+        Call::GetMut => done(value.get_mut(alloc, "some").is_ok()),
+        Call::GetIdxMut => done(value.get_idx_mut(alloc, 0).is_ok()),
+        Call::Insert => inserted(value.insert(alloc, key, BorrowedValue::null())),
+        Call::TryInsert => tried(value.try_insert(alloc, key, BorrowedValue::null())),
+        Call::Remove => done(value.remove(alloc, "some").is_ok()),
+        Call::Push => pushed(value.push(alloc, BorrowedValue::null())),
+        Call::Pop => done(value.pop(alloc).is_ok()),
+    }
+}
+
+/// The texts of the forms.
+fn form_of(value: &Value<'_, '_, '_>) -> &'static str {
+    match value {
+        Value::Tape(_) => "tape",
+        Value::Value(Shared::Borrowed(_)) => "lent",
+        Value::Value(Shared::Owned(_)) => "owned",
+    }
+}
+
+/// Makes the call on the value between the first two writes, and again where it was refused.
+fn write(
+    rt: &(impl Print + AllocGlobal),
+    call: Call,
+    mut value: Value<'_, '_, '_>,
+) -> Result<(), Fault> {
+    let alloc = rt.alloc();
+    let form = form_of(&value);
+    let before = value.encode(alloc)?;
+    say_call(rt)?;
+    let answer = answer_of(alloc, call, &mut value);
+    if answer != Answer::Done {
+        say(rt, "refused, ")?;
+        say(
+            rt,
+            if answer == Answer::ValueLost {
+                "VALUE LOST, "
+            } else {
+                ""
+            },
+        )?;
+        say_kept(rt, "tree", value.encode(alloc)?.as_str() == before.as_str())?;
+        say_kept(rt, "form", call.grows() || form_of(&value) == form)?;
+        answer_of(alloc, call, &mut value);
+    }
+    say(rt, "done, ")?;
+    say(rt, form_of(&value))?;
+    say(rt, " ")?;
+    say(rt, value.encode(alloc)?.as_str())?;
+    say(rt, "\n")
+}
+
+/// Makes the call on the document of the first example, or on its array, as that form.
+pub fn run_call(rt: &(impl Print + AllocGlobal), form: &str, call: &str) -> Result<(), Fault> {
+    let mut bytes = text_of(rt.alloc(), "example")?;
+    match form {
+        "tape" => on_tape(rt, Call::of(call)?, bytes.as_mut_slice()),
+        "lent" => on_lent(rt, Call::of(call)?, bytes.as_mut_slice()),
+        "owned" => on_owned(rt, Call::of(call)?, bytes.as_mut_slice()),
+        _ => Err(Fault::Usage),
+    }
+}
+
+fn on_tape<'i>(
+    rt: &(impl Print + AllocGlobal),
+    call: Call,
+    bytes: &'i mut [u8],
+) -> Result<(), Fault> {
+    let tape = read(to_tape(rt.alloc(), bytes))?;
+    let whole = tape.as_value();
+    let mut part = whole;
+    if let Some(items) = whole.get("some")
+        && call.is_on_array()
+    {
+        part = items;
+    }
+    let value: Value<'i, '_, 'i> = Value::from_tape(part);
+    write(rt, call, value)
+}
+
+fn on_lent(rt: &(impl Print + AllocGlobal), call: Call, bytes: &mut [u8]) -> Result<(), Fault> {
+    let document = read(deserialize::<BorrowedValue<'_>, CowStr<'_>>(rt.alloc(), bytes))?;
+    match document.get("some") {
+        Some(items) if call.is_on_array() => {
+            write(rt, call, Value::Value(Shared::Borrowed(items)))
+        }
+        _ => write(rt, call, Value::Value(Shared::Borrowed(&document))),
+    }
+}
+
+fn on_owned<'i>(
+    rt: &(impl Print + AllocGlobal),
+    call: Call,
+    bytes: &'i mut [u8],
+) -> Result<(), Fault> {
+    let mut document = read(deserialize::<BorrowedValue<'_>, CowStr<'_>>(rt.alloc(), bytes))?;
+    if call.is_on_array() {
+        match document.remove("some") {
+            Ok(Some(items)) => document = items,
+            _ => return Err(Fault::Usage),
+        }
+    }
+    let value: Value<'i, 'i, 'i> = Value::from(document);
+    write(rt, call, value)
+}

@@ -1,0 +1,390 @@
+"""Documents, command lines and their replies on plain trees, by RFC 8259 and the rules of docs/DEFINITIONS.md alone.
+
+It shares nothing with the program. A tree is None, a bool, a number as ('int', value, carrier), a text as str, an array as
+('list', [..]), an object as ('obj', [(key, value), ..]).
+"""
+
+FIRST, LAST = 'first', 'last'
+DEPTH_LIMIT = 1024
+
+# ---- reading (RFC 8259 without fractions and exponents)
+
+
+class Unread(Exception):
+    """A text that is not read; its argument is the name of the refusal."""
+
+
+ESCAPES = {'"': '"', '\\': '\\', '/': '/', 'b': '\b', 'f': '\f', 'n': '\n', 'r': '\r', 't': '\t'}
+HEX = frozenset('0123456789abcdefABCDEF')
+
+
+class Reader:
+    def __init__(self, text):
+        self.text = text
+        self.at = 0
+
+    def peek(self):
+        return self.text[self.at] if self.at < len(self.text) else ''
+
+    def take(self, char):
+        if self.peek() != char:
+            raise Unread('Syntax')
+        self.at += 1
+
+    def blank(self):
+        while self.peek() and self.peek() in ' \t\n\r':
+            self.at += 1
+
+    def hex4(self):
+        digits = self.text[self.at:self.at + 4]
+        if len(digits) < 4 or not HEX.issuperset(digits):
+            raise Unread('Syntax')
+        self.at += 4
+        return int(digits, 16)
+
+    def low(self):
+        """The second half of a pair: what is no such escape leaves the first half alone, an end of the text leaves it open."""
+        for char in '\\u':
+            if self.peek() != char:
+                raise Unread('LoneSurrogate' if self.peek() else 'Syntax')
+            self.at += 1
+        code = self.hex4()
+        if not 0xDC00 <= code < 0xE000:
+            raise Unread('LoneSurrogate')
+        return code
+
+    def escape(self):
+        kind = self.peek()
+        self.at += 1
+        if kind in ESCAPES:
+            return ESCAPES[kind]
+        if kind != 'u':
+            raise Unread('Syntax')
+        code = self.hex4()
+        if 0xD800 <= code < 0xDC00:
+            return chr(0x10000 + (code - 0xD800) * 0x400 + (self.low() - 0xDC00))
+        if 0xDC00 <= code < 0xE000:
+            raise Unread('LoneSurrogate')
+        return chr(code)
+
+    def string(self):
+        self.take('"')
+        out = []
+        while True:
+            char = self.peek()
+            if char == '' or ord(char) < 0x20:
+                raise Unread('Syntax')
+            self.at += 1
+            if char == '"':
+                return ''.join(out)
+            out.append(self.escape() if char == '\\' else char)
+
+    def number(self):
+        start = self.at
+        if self.peek() == '-':
+            self.at += 1
+        digits = self.at
+        while self.peek() and self.peek() in '0123456789':
+            self.at += 1
+        spelled = self.text[digits:self.at]
+        if spelled == '' or (len(spelled) > 1 and spelled[0] == '0'):
+            raise Unread('Syntax')
+        if self.peek() and self.peek() in '.eE':
+            raise Unread('Float')
+        value = int(self.text[start:self.at])
+        if not -2**127 <= value < 2**128:
+            raise Unread('NumberTooLarge')
+        if digits > start:
+            return ('int', value, 'I64' if value >= -2**63 else 'I128')
+        return ('int', value, 'U64' if value < 2**64 else 'U128')
+
+    def value(self, depth):
+        char = self.peek()
+        for word, means in (('null', None), ('true', True), ('false', False)):
+            if char and char == word[0]:
+                if not self.text.startswith(word, self.at):
+                    raise Unread('Syntax')
+                self.at += len(word)
+                return means
+        if char == '"':
+            return self.string()
+        if char and char in '[{':
+            if depth == DEPTH_LIMIT:
+                raise Unread('TooDeep')
+            return self.items(depth + 1) if char == '[' else self.members(depth + 1)
+        return self.number()
+
+    def items(self, depth):
+        self.take('[')
+        items = []
+        self.blank()
+        if self.peek() == ']':
+            self.at += 1
+            return ('list', items)
+        while True:
+            self.blank()
+            items.append(self.value(depth))
+            self.blank()
+            if self.peek() == ']':
+                self.at += 1
+                return ('list', items)
+            self.take(',')
+
+    def members(self, depth):
+        self.take('{')
+        members = []
+        self.blank()
+        if self.peek() == '}':
+            self.at += 1
+            return ('obj', members)
+        while True:
+            self.blank()
+            key = self.string()
+            self.blank()
+            self.take(':')
+            self.blank()
+            members.append((key, self.value(depth)))
+            self.blank()
+            if self.peek() == '}':
+                self.at += 1
+                return ('obj', members)
+            self.take(',')
+
+
+def read(text):
+    """The tree of a text, which is a str, or bytes that have to be UTF-8."""
+    if isinstance(text, bytes):
+        try:
+            text = text.decode('utf-8')
+        except UnicodeDecodeError:
+            raise Unread('InvalidUtf8') from None
+    reader = Reader(text)
+    reader.blank()
+    tree = reader.value(0)
+    reader.blank()
+    if reader.at != len(text):
+        raise Unread('Syntax')
+    return tree
+
+
+def keep(tree, choice=FIRST):
+    """Of each key one member stays, at every depth, where its first one stood."""
+    if is_list(tree):
+        return ('list', [keep(item, choice) for item in tree[1]])
+    if is_obj(tree):
+        kept = {}
+        for key, value in tree[1]:
+            if choice == LAST or key not in kept:
+                kept[key] = value
+        return ('obj', [(key, keep(value, choice)) for key, value in kept.items()])
+    return tree
+
+
+# ---- kinds and prints
+
+
+def is_int(tree):
+    return isinstance(tree, tuple) and tree[0] == 'int'
+
+
+def is_list(tree):
+    return isinstance(tree, tuple) and tree[0] == 'list'
+
+
+def is_obj(tree):
+    return isinstance(tree, tuple) and tree[0] == 'obj'
+
+
+def kind(tree):
+    if tree is None:
+        return 'Null'
+    if isinstance(tree, bool):
+        return 'Bool'
+    if isinstance(tree, str):
+        return 'String'
+    return {'int': lambda: tree[2], 'list': lambda: 'Array', 'obj': lambda: 'Object'}[tree[0]]()
+
+
+SHORT = {'"': '\\"', '\\': '\\\\', '\b': '\\b', '\t': '\\t', '\n': '\\n', '\f': '\\f', '\r': '\\r'}
+
+
+def quoted(text):
+    out = []
+    for char in text:
+        out.append(SHORT.get(char) or ('\\u%04x' % ord(char) if ord(char) < 0x20 else char))
+    return '"' + ''.join(out) + '"'
+
+
+def scalar(tree):
+    if tree is None:
+        return 'null'
+    if isinstance(tree, bool):
+        return 'true' if tree else 'false'
+    if isinstance(tree, str):
+        return quoted(tree)
+    return str(tree[1])
+
+
+def compact(tree):
+    if is_list(tree):
+        return '[' + ','.join(compact(item) for item in tree[1]) + ']'
+    if is_obj(tree):
+        return '{' + ','.join(quoted(key) + ':' + compact(value) for key, value in tree[1]) + '}'
+    return scalar(tree)
+
+
+def pretty(tree, level=0):
+    inside, behind = '\n' + '  ' * (level + 1), '\n' + '  ' * level
+    if is_list(tree) and tree[1]:
+        return '[' + inside + (',' + inside).join(pretty(item, level + 1) for item in tree[1]) + behind + ']'
+    if is_obj(tree) and tree[1]:
+        members = (quoted(key) + ': ' + pretty(value, level + 1) for key, value in tree[1])
+        return '{' + inside + (',' + inside).join(members) + behind + '}'
+    return compact(tree)
+
+
+# ---- commands
+
+WIDTHS = {'i8': (-2**7, 2**7), 'i16': (-2**15, 2**15), 'i32': (-2**31, 2**31), 'i64': (-2**63, 2**63),
+          'i128': (-2**127, 2**127), 'u8': (0, 2**8), 'u16': (0, 2**16), 'u32': (0, 2**32), 'u64': (0, 2**64),
+          'u128': (0, 2**128), 'usize': (0, 2**64)}
+READS = {'kind': 0, 'fits': 1, 'str': 0, 'len': 0, 'keys': 0, 'has': 1, 'encode': 0, 'encode_pp': 0}
+WRITES = {'insert': 2, 'remove': 1, 'push': 1, 'pop': 0, 'put': 1}
+
+
+def is_step(tree):
+    return isinstance(tree, str) or (is_int(tree) and 0 <= tree[1] < 2**64)
+
+
+def command_of(line):
+    """The command that a line is, as (name, path, what it takes); None for a bad one."""
+    try:
+        tree = keep(read(line))
+    except Unread:
+        return None
+    if not is_list(tree) or len(tree[1]) < 2:
+        return None
+    name, path, *rest = tree[1]
+    if not isinstance(name, str) or not is_list(path) or not all(map(is_step, path[1])):
+        return None
+    if {**READS, **WRITES}.get(name) != len(rest):
+        return None
+    if name in ('has', 'remove', 'insert') and not isinstance(rest[0], str):
+        return None
+    if name == 'fits' and not (isinstance(rest[0], str) and rest[0] in WIDTHS):
+        return None
+    return name, [step if isinstance(step, str) else step[1] for step in path[1]], rest
+
+
+def find(tree, step, choice=FIRST):
+    """The place of what the step finds among the parts of the tree; None where it finds nothing."""
+    if isinstance(step, str) and is_obj(tree):
+        places = [at for at, (key, _) in enumerate(tree[1]) if key == step]
+        return places[0 if choice == FIRST else -1] if places else None
+    if not isinstance(step, str) and is_list(tree) and step < len(tree[1]):
+        return step
+    return None
+
+
+def part(tree, at):
+    return tree[1][at][1] if is_obj(tree) else tree[1][at]
+
+
+def changed(tree, name, rest):
+    """The tree after a write at it, and the reply."""
+    if name == 'put':
+        return rest[0], compact(tree)
+    if name in ('push', 'pop'):
+        if not is_list(tree):
+            return tree, 'not an array'
+        if name == 'push':
+            return ('list', tree[1] + [rest[0]]), 'ok'
+        return ('list', tree[1][:-1]), compact(tree[1][-1]) if tree[1] else 'none'
+    if not is_obj(tree):
+        return tree, 'not an object'
+    at = find(tree, rest[0])
+    old = 'none' if at is None else compact(part(tree, at))
+    if name == 'remove':
+        return ('obj', [member for i, member in enumerate(tree[1]) if i != at]), old
+    if at is None:
+        return ('obj', tree[1] + [(rest[0], rest[1])]), old
+    return ('obj', [(key, rest[1] if i == at else value) for i, (key, value) in enumerate(tree[1])]), old
+
+
+def edit(tree, path, name, rest):
+    if not path:
+        return changed(tree, name, rest)
+    at = find(tree, path[0])
+    if at is None:
+        return tree, 'missing'
+    new, reply = edit(part(tree, at), path[1:], name, rest)
+    if is_obj(tree):
+        return ('obj', [(key, new if i == at else value) for i, (key, value) in enumerate(tree[1])]), reply
+    return ('list', [new if i == at else item for i, item in enumerate(tree[1])]), reply
+
+
+def read_reply(tree, name, rest):
+    if name == 'kind':
+        return kind(tree)
+    if name == 'fits':
+        low, high = WIDTHS[rest[0]]
+        return 'true' if is_int(tree) and low <= tree[1] < high else 'false'
+    if name == 'str':
+        return quoted(tree) if isinstance(tree, str) else 'not a string'
+    if name == 'len':
+        return str(len(tree[1])) if is_list(tree) or is_obj(tree) else 'no length'
+    if name == 'keys':
+        return '[' + ','.join(quoted(key) for key, _ in tree[1]) + ']' if is_obj(tree) else 'not an object'
+    if name == 'has':
+        return 'true' if is_obj(tree) and find(tree, rest[0]) is not None else 'false'
+    return compact(tree) if name == 'encode' else pretty(tree)
+
+
+def answer(tree, line, choice=FIRST):
+    """The tree after a line, and the printed reply. A write works on the kept tree, a read on the tree as it is."""
+    command = command_of(line)
+    if command is None:
+        return tree, 'bad command'
+    name, path, rest = command
+    if name in WRITES:
+        return edit(keep(tree, choice), path, name, rest)
+    at = tree
+    for step in path:
+        place = find(at, step, choice)
+        if place is None:
+            return tree, 'missing'
+        at = part(at, place)
+    return tree, read_reply(at, name, rest)
+
+
+# ---- sessions
+
+
+def cut(given):
+    """The document of an input, and its command lines."""
+    at = 0
+    while at < len(given):
+        end = given.find(b'\n', at)
+        end = len(given) if end < 0 else end
+        if uncarried(given[at:end]) == b'---':
+            lines = given[end + 1:].split(b'\n')
+            return given[:at], [line for line in map(uncarried, lines) if line]
+        at = end + 1
+    return given, []
+
+
+def uncarried(line):
+    return line[:-1] if line.endswith(b'\r') else line
+
+
+def session(given, is_lazy, choice):
+    """What a session over the bytes of an input writes; Unread where its document is refused."""
+    document, lines = cut(given)
+    tree = read(document)
+    if not is_lazy:
+        tree = keep(tree, choice)
+    replies = []
+    for line in lines:
+        tree, reply = answer(tree, line, choice)
+        replies.append(reply + '\n')
+    return ''.join(replies).encode()
