@@ -7,7 +7,7 @@ use crate::texts::text_of;
 use sj_document::BorrowedValue;
 use sj_lazy::{Shared, Value};
 use sj_object::deserialize;
-use sj_tape::to_tape;
+use sj_tape::{Value as TapeValue, to_tape};
 use sj_text_core::{AccessError, Refused, ValueAsScalar, Writable};
 use std::alloc::{AllocError, Global};
 use std::borrow::CowStr;
@@ -174,21 +174,18 @@ pub fn run_call(rt: &(impl Print + AllocGlobal), form: &str, call: &str) -> Resu
     }
 }
 
-fn on_tape<'i>(
-    rt: &(impl Print + AllocGlobal),
-    call: Call,
-    bytes: &'i mut [u8],
-) -> Result<(), Fault> {
+fn on_tape(rt: &(impl Print + AllocGlobal), call: Call, bytes: &mut [u8]) -> Result<(), Fault> {
     let tape = read(to_tape(rt.alloc(), bytes))?;
     let whole = tape.as_value();
-    let mut part = whole;
-    if let Some(items) = whole.get("some")
-        && call.is_on_array()
-    {
-        part = items;
+    match whole.get("some") {
+        Some(items) if call.is_on_array() => write(rt, call, of_tape(items)),
+        _ => write(rt, call, of_tape(whole)),
     }
-    let value: Value<'i, '_, 'i> = Value::from_tape(part);
-    write(rt, call, value)
+}
+
+/// The part of a tape, with a name for each lifetime.
+fn of_tape<'t, 'i>(part: TapeValue<'t, 'i>) -> Value<'t, 't, 'i> {
+    Value::from_tape(part)
 }
 
 fn on_lent(rt: &(impl Print + AllocGlobal), call: Call, bytes: &mut [u8]) -> Result<(), Fault> {
@@ -201,11 +198,7 @@ fn on_lent(rt: &(impl Print + AllocGlobal), call: Call, bytes: &mut [u8]) -> Res
     }
 }
 
-fn on_owned<'i>(
-    rt: &(impl Print + AllocGlobal),
-    call: Call,
-    bytes: &'i mut [u8],
-) -> Result<(), Fault> {
+fn on_owned(rt: &(impl Print + AllocGlobal), call: Call, bytes: &mut [u8]) -> Result<(), Fault> {
     let mut document = read(deserialize::<BorrowedValue<'_>, CowStr<'_>>(rt.alloc(), bytes))?;
     if call.is_on_array() {
         match document.remove("some") {
@@ -213,6 +206,10 @@ fn on_owned<'i>(
             _ => return Err(Fault::Usage),
         }
     }
-    let value: Value<'i, 'i, 'i> = Value::from(document);
-    write(rt, call, value)
+    write(rt, call, of_document(document))
+}
+
+/// The document, with a name for each lifetime.
+fn of_document<'i>(document: BorrowedValue<'i>) -> Value<'i, 'i, 'i> {
+    Value::from(document)
 }
