@@ -3,7 +3,8 @@
 //! that call refused in turn, which `tools/refusals.sh` does; its words name the call:
 //!
 //!     refusals read CALL TEXT | buffers | insert CALL MEMBERS | present CALL MEMBERS | capacity
-//!     refusals room | map reads | write CALL GENERATOR | tape new | tape reads | session
+//!     refusals room | map reads | write CALL GENERATOR | tape new | tape reads
+//!     refusals session FORM INPUT
 //!
 //! The statuses: 0 told; 2 usage; 4 out of memory where the call was not yet made, or again; 5
 //! output failed.
@@ -44,7 +45,7 @@ fn run(rt: &(impl Env + Print + AllocGlobal)) -> Result<(), Fault> {
         "map" => maps::reads(rt),
         "write" => prints::write(rt, second, third),
         "tape" => tapes::call(rt, second),
-        "session" => sessions::answer(rt),
+        "session" => sessions::answer(rt, second, third),
         _ => Err(Fault::Usage),
     }
 }

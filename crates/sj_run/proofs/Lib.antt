@@ -1,5 +1,6 @@
 mod LineLemmas
 mod Series
+mod Firsts
 mod rows
 mod SessionLemmas
 mod CommandLemmas
@@ -8,3 +9,4 @@ pub mod Founds
 pub mod Ways
 pub mod Unread
 mod Kept
+mod Lazies

@@ -1,6 +1,7 @@
 pub mod Commands
 pub mod Replies
 pub mod Answers
+pub mod Repeats
 pub mod Run
 pub mod Lines
 pub mod CommandLines

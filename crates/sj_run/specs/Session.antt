@@ -22,7 +22,8 @@ IsServed Owned ByText = ⊤
 IsServed Owned ByKnownKey = ⊥
 IsServed Borrowed ByText = ⊤
 IsServed Borrowed ByKnownKey = ⊥
-IsServed Lazy w = ⊥
+IsServed Lazy ByText = ⊤
+IsServed Lazy ByKnownKey = ⊥
 
 -- The document spells a tree within the limit, and written are the replies to the lines' commands on that tree as the form reads it.
 pub record IsAnswered (form : Form) (input written : List ℕ) : Type 0 where

@@ -9,10 +9,12 @@ ghost use Rattle.sj_run.specs.Changed.{changed_meant, Edits};
 ghost use Rattle.sj_run.specs.Meant.{step_meant};
 
 mod edit;
+mod lazy;
 mod told;
 
 use crate::command::Step;
 use edit::edit_at;
+pub(crate) use lazy::change_lazy;
 use sj_document::Document;
 use sj_object::KeyText;
 use sj_text_core::AccessError;

@@ -1,19 +1,22 @@
 //! Sessions over bytes.
 
 ghost use Rattle.std.specs.Prelude.{◌≡◌, ◌≢◌, ◌↔◌, List, ℕ, ◌++◌, IfOk, OnOk, OnErr, IsErrOf, IsUtf8, Ok, Err, length};
-ghost use Rattle.sj_text_core.specs.Grammar.{IsReadable};
+ghost use Rattle.sj_text_core.specs.Grammar.{IsReadable, Spells};
+ghost use Rattle.sj_text_core.specs.Tree.{IsWithin};
 ghost use Rattle.sj_run.specs.Lines.{document as document_of};
 ghost use Rattle.sj_run.specs.Answered.{ReadsTree};
 ghost use Rattle.sj_run.specs.Session.{IsServed, IsAnswered, PassesAll};
 
 mod answer;
 
-use crate::document::{BorrowedDoc, OwnedDoc, Way};
+use crate::document::{BorrowedDoc, LazyDoc, OwnedDoc, Way};
 use crate::lines::cut_at_mark;
 use crate::runs::Why;
 use crate::sessions::answer::answer_all;
 use sj_document::{BorrowedValue, OwnedValue};
+use sj_lazy::Value;
 use sj_object::{Builder, KeyOf, deserialize};
+use sj_tape::{Tape, to_tape};
 use sj_text_core::ErrorKind;
 use std::alloc::{AllocError, Global};
 use std::borrow::CowStr;
@@ -34,13 +37,14 @@ impl Form {
     ghost use Rattle.std.specs.Prelude.{◌↔◌, IsTrue};
     ghost use Rattle.sj_run.specs.Session.{IsServed};
 
-    /// Whether a session serves the form in this way: today owned and borrowed documents by text.
+    /// Whether a session serves the form in this way: today each by text.
     pub fn is_served(self, way: Way) -> bool
         ensures { IsTrue result ↔ IsServed self way }
     {
         match (self, way) {
             (Form::Owned, Way::ByText) => true,
             (Form::Borrowed, Way::ByText) => true,
+            (Form::Lazy, Way::ByText) => true,
             _ => false,
         }
     }
@@ -117,10 +121,26 @@ fn read_document<'v, V: Builder<'v, Key>, Key: KeyOf<'v>>(
     }
 }
 
+/// Reads a session's document to a tape.
+fn read_tape<'i>(alloc: Global, text: &'i mut [u8]) -> Result<Tape<'i>, SessionFault>
+    ensures spelled { IfOk result (λ t. Spells text.old t) }
+    ensures within { IfOk result (λ t. IsWithin t) }
+    ensures refused { (k : ErrorKind) → result ≡ Err (SessionFault.Refused k) → (k ≢ ErrorKind.OutOfMemory) × (¬ (IsReadable text.old)) }
+    ensures utf8 { IsErrOf result (SessionFault.Refused ErrorKind.InvalidUtf8) ↔ ¬ (IsUtf8 text.old) }
+    ensures usage { result ≢ Err SessionFault.Usage }
+    ensures too_long { result ≢ Err SessionFault.TooLong }
+{
+    match to_tape(alloc, text) {
+        Ok(tape) => Ok(tape),
+        Err(why) => Err(refused(why)),
+    }
+}
+
 /// Reads the document of the input, answers the command lines behind its first line `---` in turn,
 /// and appends each printed reply with a line feed to `out`.
 ///
-/// Today owned and borrowed documents are served by text. Refused as `Usage` for every other form
+/// Today each form is served by text. A lazy document is built at the first write, so a session that
+/// only reads builds none. Refused as `Usage` for every other form
 /// and way, as `Refused` where the document can't be read, as `OutOfMemory` where memory was
 /// refused, and as `TooLong` only where `out` with all replies would pass `usize::MAX` bytes. On a
 /// fault `out` is as it was, and of the input's bytes nothing is said.
@@ -153,7 +173,11 @@ pub fn session(
             let value = read_document::<BorrowedValue<'_>, CowStr<'_>>(alloc, text)?;
             answer_all(alloc, &mut BorrowedDoc { way, value }, lines, out)?;
         }
-        Form::Lazy => return Err(SessionFault::Usage),
+        Form::Lazy => {
+            let tape = read_tape(alloc, text)?;
+            let value = Value::from_tape(tape.as_value());
+            answer_all(alloc, &mut LazyDoc { value }, lines, out)?;
+        }
     }
     Ok(())
 }

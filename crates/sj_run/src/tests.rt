@@ -8,8 +8,7 @@ use std::alloc::Global;
 use std::process::Abort;
 use std::test::Fail;
 
-/// The forms that are served.
-const FORMS: [Form; 2] = [Form::Owned, Form::Borrowed];
+const FORMS: [Form; 3] = [Form::Owned, Form::Borrowed, Form::Lazy];
 
 /// What a session answers, and what `out` has then, which held `> ` before.
 fn answered(
@@ -23,12 +22,24 @@ fn answered(
     Ok((answer, String::from_utf8(out)?))
 }
 
+/// The form answers so.
+fn check_form(
+    rt: &impl Abort,
+    alloc: Global,
+    form: Form,
+    input: &str,
+    want: &str,
+) -> Result<(), Fail> {
+    let (answer, out) = answered(alloc, form, input.as_bytes())?;
+    assert_eq!(rt; answer, Ok(()), "{form:?} on {input:?}");
+    assert_eq!(rt; out.as_str(), want, "{form:?} on {input:?}");
+    Ok(())
+}
+
 /// Every form answers so.
 fn check(rt: &impl Abort, alloc: Global, input: &str, want: &str) -> Result<(), Fail> {
     for form in FORMS {
-        let (answer, out) = answered(alloc, form, input.as_bytes())?;
-        assert_eq!(rt; answer, Ok(()), "{form:?} on {input:?}");
-        assert_eq!(rt; out.as_str(), want, "{form:?} on {input:?}");
+        check_form(rt, alloc, form, input, want)?;
     }
     Ok(())
 }
@@ -92,10 +103,10 @@ fn answers(rt: HostRuntime) -> Result<(), Fail> {
         ("[1]\r\n---\r\n[\"encode\",[]]\r\n", "> [1]\n"),
         ("[1]\n---\n\n\r\n[\"encode\",[]]\n\n", "> [1]\n"),
         ("[1]\n---\n---\n", "> bad command\n"),
-        // a text with repeats, and a write of the wrong kind
+        // reads and writes of members
         (
-            "{\"a\":1,\"a\":2}\n---\n[\"len\",[]]\n[\"pop\",[]]\n[\"encode\",[]]",
-            "> 1\nnot an array\n{\"a\":1}\n",
+            "{\"key\": \"value\", \"snot\": 42}\n---\n[\"str\",[\"key\"]]\n[\"insert\",[],\"new\",42]\n[\"keys\",[]]\n[\"fits\",[\"snot\"],\"i8\"]\n[\"remove\",[],\"snot\"]\n[\"encode\",[]]",
+            "> \"value\"\nnone\n[\"key\",\"snot\",\"new\"]\ntrue\n42\n{\"key\":\"value\",\"new\":42}\n",
         ),
         // a pretty print
         (
@@ -130,8 +141,54 @@ fn keeps_the_first_of_many(rt: HostRuntime) -> Result<(), Fail> {
     let input = format!(in rt.alloc(); "{{{members},\"k00\":99}}\n---\n[\"encode\",[]]\n")?;
     let want = format!(in rt.alloc(); "> {{{members}}}\n")?;
     // the same text twice in one process
-    check(&rt, rt.alloc(), input.as_str(), want.as_str())?;
-    check(&rt, rt.alloc(), input.as_str(), want.as_str())?;
+    for form in [Form::Owned, Form::Borrowed, Form::Owned] {
+        check_form(&rt, rt.alloc(), form, input.as_str(), want.as_str())?;
+    }
+    Ok(())
+}
+
+/// A lazy document shows repeats until its first write, also where that is refused or finds nothing.
+#[test]
+fn repeats_are_shown_until_a_write(rt: HostRuntime) -> Result<(), Fail> {
+    let (object, array) = ("{\"a\":1,\"a\":2}", "[{\"a\":{\"b\":0,\"b\":1},\"a\":2}]");
+    let table = [
+        (
+            object,
+            "[\"len\",[]]\n[\"pop\",[]]\n[\"encode\",[]]",
+            "> 2\nnot an array\n{\"a\":1}\n",
+            "> 1\nnot an array\n{\"a\":1}\n",
+        ),
+        (
+            object,
+            "[\"keys\",[]]\n[\"pop\",[3]]\n[\"keys\",[]]",
+            "> [\"a\",\"a\"]\nmissing\n[\"a\"]\n",
+            "> [\"a\"]\nmissing\n[\"a\"]\n",
+        ),
+        (
+            object,
+            "[\"keys\",[\"b\"]]\n[\"keys\",[\"a\"]]\n[\"encode\",[]]",
+            "> missing\nnot an object\n{\"a\":1,\"a\":2}\n",
+            "> missing\nnot an object\n{\"a\":1}\n",
+        ),
+        (
+            object,
+            "[\"remove\",[],\"a\"]\n[\"has\",[],\"a\"]\n[\"len\",[]]",
+            "> 1\nfalse\n0\n",
+            "> 1\nfalse\n0\n",
+        ),
+        (
+            array,
+            "[\"encode\",[0,\"a\"]]\n[\"len\",[0]]\n[\"put\",[0,\"a\",\"b\"],7]\n[\"encode\",[]]",
+            "> {\"b\":0,\"b\":1}\n2\n0\n[{\"a\":{\"b\":7}}]\n",
+            "> {\"b\":0}\n1\n0\n[{\"a\":{\"b\":7}}]\n",
+        ),
+    ];
+    for (text, lines, lazy, kept) in table {
+        let input = format!(in rt.alloc(); "{text}\n---\n{lines}")?;
+        check_form(&rt, rt.alloc(), Form::Lazy, input.as_str(), lazy)?;
+        check_form(&rt, rt.alloc(), Form::Owned, input.as_str(), kept)?;
+        check_form(&rt, rt.alloc(), Form::Borrowed, input.as_str(), kept)?;
+    }
     Ok(())
 }
 
@@ -216,7 +273,6 @@ fn serves_by_text(rt: HostRuntime) -> Result<(), Fail> {
     for (form, way) in [
         (Form::Owned, Way::ByKnownKey),
         (Form::Borrowed, Way::ByKnownKey),
-        (Form::Lazy, Way::ByText),
         (Form::Lazy, Way::ByKnownKey),
     ] {
         let mut bytes = *b"[1]\n---\n[\"encode\",[]]";
