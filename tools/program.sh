@@ -32,7 +32,7 @@ session() {
   expect "$1" "$4" "$5" "$6"
 }
 
-# table FORM: the sessions of tools/commands.txt, each a line '= DOCUMENT' with lines '> COMMAND' and their replies, where a lazy document
+# table WORDS: the sessions of tools/commands.txt, each a line '= DOCUMENT' with lines '> COMMAND' and their replies, where a lazy document
 # replies otherwise behind a line '~'
 table() {
   local at=0 from
@@ -46,7 +46,8 @@ table() {
        !lazy || form == "lazy" { reply = reply $0 "\n" }
        END { tell() }' "$tools/commands.txt"
   for from in sessions/*.in; do
-    "$program" "$1" < "$from" > out 2> err
+    # shellcheck disable=SC2086
+    "$program" $1 < "$from" > out 2> err
     if [ $? = 0 ] && cmp -s out "${from%.in}.want" && [ ! -s err ]; then
       at=$((at + 1))
     else
@@ -59,7 +60,7 @@ table() {
   passed=$((passed + at))
 }
 
-usage='usage: sjval owned|borrowed|lazy [known]\n'
+usage='usage: sjval owned|borrowed|lazy [known] [last]\n'
 
 session 'an insert and two encodes' owned '{"a":1}\n---\n["insert",[],"b",[true]]\n["encode",[]]\n' 0 'none\n{"a":1,"b":[true]}\n' ''
 session 'no commands' owned '[1]' 0 '' ''
@@ -71,14 +72,17 @@ session 'a text refused as lazy' lazy '[1,]' 3 '' 'text refused: Syntax\n'
 session 'a pretty print' borrowed '{"a":[1,{}]}\n---\n["encode_pp",[]]\n' 0 '{\n  "a": [\n    1,\n    {}\n  ]\n}\n' ''
 session 'escapes' borrowed '{"q\\"k":"a\\/b\\u0041"}\n---\n["encode",[]]\n' 0 '{"q\\"k":"a/bA"}\n' ''
 session 'a text refused as borrowed' borrowed '[1,]' 3 '' 'text refused: Syntax\n'
-session 'borrowed by known key, which is not served yet' 'borrowed known' '1' 2 '' "$usage"
 session 'a line that is no command' owned 'null\n---\n["nonsense"]\n' 0 'bad command\n' ''
 session 'no words' '' 'null' 2 '' "$usage"
 session 'a word too many' 'owned known known' 'null' 2 '' "$usage"
+session 'a word behind the last' 'owned last known' 'null' 2 '' "$usage"
+session 'last twice' 'borrowed last last' 'null' 2 '' "$usage"
+session 'four words' 'owned known last last' 'null' 2 '' "$usage"
 session 'an unknown word' 'own' 'null' 2 '' "$usage"
 session 'a word that is not UTF-8' $'\xff' 'null' 2 '' "$usage"
 session 'a second word that is not UTF-8' $'owned \xff' 'null' 2 '' "$usage"
 session 'lazy by known key' 'lazy known' 'null' 2 '' "$usage"
+session 'lazy by known key with the last' 'lazy known last' 'null' 2 '' "$usage"
 session 'the empty text' owned '' 3 '' 'text refused: Syntax\n'
 session 'no UTF-8' owned '"\xff"' 3 '' 'text refused: InvalidUtf8\n'
 session 'a fraction' owned '[1.5]' 3 '' 'text refused: Float\n'
@@ -118,8 +122,37 @@ if command -v python3 > out 2>&1; then
     echo 'failed: tools/commands.txt is what tools/commands.py writes'
   fi
 fi
-table owned
-table borrowed
+
+# 33 keys of six blocks, each Aa or BB, all of one hash: key i has the value i
+keys=''
+for i in {0..32}; do
+  key=''
+  for bit in 32 16 8 4 2 1; do
+    if ((i & bit)); then key+=BB; else key+=Aa; fi
+  done
+  keys+=",\"$key\":$i"
+done
+collide="{${keys:1}}\n---\n"'["remove",[],"AaAaAaAaAaAa"]\n["len",[]]\n["has",[],"BBAaAaAaAaAa"]\n["encode",["AaAaAaAaAaBB"]]\n["insert",[],"AaAaAaAaAaAa",7]\n["len",[]]\n'
+
+kinds='[1,[2,3]]\n---\n["kind",[1]]\n["len",[1]]\n["push",[1],{"a":1,"a":2}]\n["put",[0],null]\n["pop",[5]]\n["pop",[]]\n["has",[],"a"]\n["len",[0]]\n["insert",[],"k",1]\n["nonsense"]\n["encode",[]]\n'
+
+# the text with repeats, whose first or last values count; the command lines keep the first
+repeats='{"a":1,"b":{"c":4,"c":5},"a":[6]}\n---\n["encode",["a"]]\n["encode",["b","c"]]\n["len",[]]\n["keys",[]]\n["pop",["b"]]\n["encode",[]]\n["insert",[],"z",{"q":1,"q":2}]\n["encode",["z"]]\n'
+
+for words in owned 'owned known' borrowed 'borrowed known'; do
+  session "keys of one hash, $words" "$words" "$collide" 0 '0\n32\ntrue\n1\nnone\n33\n' ''
+  session "kinds, $words" "$words" "$kinds" 0 'Array\n2\nok\n1\nmissing\n[2,3,{"a":1}]\nfalse\nno length\nnot an object\nbad command\n[null]\n' ''
+  session "first values, $words" "$words" "$repeats" 0 '1\n4\n2\n["a","b"]\nnot an array\n{"a":1,"b":{"c":4}}\nnone\n{"q":1}\n' ''
+  session "last values, $words" "$words last" "$repeats" 0 '[6]\n5\n2\n["a","b"]\nnot an array\n{"a":[6],"b":{"c":5}}\nnone\n{"q":1}\n' ''
+  session "last in the place of the first, $words" "$words last" '{"a":1,"b":2,"a":3}\n---\n["encode",[]]\n' 0 '{"a":3,"b":2}\n' ''
+  session "a text refused, $words" "$words last" '[1,]' 3 '' 'text refused: Syntax\n'
+  table "$words"
+done
+
+session 'keys of one hash, lazy' lazy "$collide" 0 '0\n32\ntrue\n1\nnone\n33\n' ''
+session 'kinds, lazy' lazy "$kinds" 0 'Array\n2\nok\n1\nmissing\n[2,3,{"a":1}]\nfalse\nno length\nnot an object\nbad command\n[null]\n' ''
+session 'first values, lazy' lazy "$repeats" 0 '1\n4\n3\n["a","b","a"]\nnot an array\n{"a":1,"b":{"c":4}}\nnone\n{"q":1}\n' ''
+session 'last values, lazy' 'lazy last' "$repeats" 0 '[6]\n5\n3\n["a","b","a"]\nnot an array\n{"a":[6],"b":{"c":5}}\nnone\n{"q":1}\n' ''
 table lazy
 
 echo "$passed passed, $failed failed"

@@ -12,12 +12,11 @@ use Rattle.sj_text_core.specs.Grammar.{Spells}
 use Rattle.sj_run.specs.Commands.{PlainCommand}
 use Rattle.sj_run.specs.CommandLines.{AreCommandsOf}
 use Rattle.sj_text_core.specs.declared.repeats.Repeats.{Repeats}
-use Rattle.sj_text_core.specs.declared.repeats.Repeats.TheVariants.{First}
 use Rattle.sj_run.specs.Repeats.{answer_by, replies_by, part_after, start_by}
 use Rattle.sj_run.specs.Answered.{AnswersLine, AnswersLines, IsBegunBy, PassesLine, PassesLines}
 use Rattle.sj_run.specs.Replies.{PlainReply}
 use Rattle.sj_run.specs.Shown.{reply_text, shown, shown_all}
-use Rattle.sj_run.specs.Session.{IsAnswered, PassesAll, fault_of}
+use Rattle.sj_run.specs.Session.{IsAnsweredBy, PassesAllBy, fault_of}
 use Rattle.sj_run.specs.declared.sessions.Form.{Form}
 use Rattle.sj_run.specs.declared.sessions.SessionFault.{SessionFault}
 use Rattle.sj_run.specs.declared.sessions.SessionFault.TheVariants.{Refused, OutOfMemory as NoMemory}
@@ -28,7 +27,6 @@ use Rattle.sj_text_core.specs.declared.error.ErrorKind.{ErrorKind}
 use Rattle.sj_text_core.specs.declared.error.ErrorKind.TheVariants.{InvalidUtf8, Syntax, LoneSurrogate, Float, NumberTooLarge, TooDeep, OutOfMemory}
 use Rattle.std.proofs.Math.Seq.{take-append_seam}
 use Rattle.sj_run.specs.Lines.{document, lines, after_mark, full_lines, line_text, line_texts, is_empty}
-use Rattle.sj_run.proofs.Firsts.{started-first}
 use Rattle.sj_run.proofs.LineLemmas.{LineAt}
 
 -- lines answered in turn
@@ -173,10 +171,10 @@ refused_kind NumberTooLarge k r m n e = let f : r ≡ Refused NumberTooLarge = n
 refused_kind TooDeep k r m n e = let f : r ≡ Refused TooDeep = n (λ x. cc) in (λ x. cc, λ x. cc)
 
 -- a session that was answered
-pub session_answered : (f : Form) (input part behind : List ℕ) (t : Tree) (s u : Repeats × Tree) (old new : List ℕ)
-    → s ≡ start_by First f t → part ≡ document input → line_texts (full_lines behind) ≡ lines input → Spells part t → IsWithin t
-    → AnswersLines s (line_texts (full_lines behind)) u old new → (written : List ℕ) × (new ≡ old ++ written) × IsAnswered f input written
-session_answered f input part behind t s u old new starts e lines_are spelled within a = (
+pub session_answered : (r : Repeats) (f : Form) (input part behind : List ℕ) (t : Tree) (s u : Repeats × Tree) (old new : List ℕ)
+    → s ≡ start_by r f t → part ≡ document input → line_texts (full_lines behind) ≡ lines input → Spells part t → IsWithin t
+    → AnswersLines s (line_texts (full_lines behind)) u old new → (written : List ℕ) × (new ≡ old ++ written) × IsAnsweredBy r f input written
+session_answered r f input part behind t s u old new starts e lines_are spelled within a = (
   shown_all (replies_by s a.commands),
   a.shows,
   record {
@@ -185,7 +183,7 @@ session_answered f input part behind t s u old new starts e lines_are spelled wi
     within = within;
     commands = a.commands;
     lines_are = subst (λ (ls : List (List ℕ)). AreCommandsOf ls a.commands) lines_are a.are;
-    replies = ap (λ x. shown_all (replies_by x a.commands)) starts ∙ ap (λ rs. shown_all rs) (started-first f t a.commands);
+    replies = ap (λ x. shown_all (replies_by x a.commands)) starts;
   },
 )
 
@@ -207,13 +205,13 @@ lines_behind input behind at next h within e f =
     ap (λ r. line_texts (full_lines r)) (whole ∙ there) ∙ ap (λ ls. line_texts ls) f
 
 -- a session whose replies pass
-pub session_passes : (f : Form) (input part behind : List ℕ) (t : Tree) (s : Repeats × Tree) (n : ℕ)
-    → s ≡ start_by First f t → part ≡ document input → line_texts (full_lines behind) ≡ lines input → Spells part t → IsWithin t → PassesLines s (line_texts (full_lines behind)) n → PassesAll f input n
-session_passes f input part behind t s n starts e lines_are spelled within h = record {
+pub session_passes : (r : Repeats) (f : Form) (input part behind : List ℕ) (t : Tree) (s : Repeats × Tree) (n : ℕ)
+    → s ≡ start_by r f t → part ≡ document input → line_texts (full_lines behind) ≡ lines input → Spells part t → IsWithin t → PassesLines s (line_texts (full_lines behind)) n → PassesAllBy r f input n
+session_passes r f input part behind t s n starts e lines_are spelled within h = record {
   tree = t;
   spelled = subst (λ (b : List ℕ). Spells b t) e spelled;
   within = within;
-  passes = λ cs are. subst (λ (rs : List PlainReply). 2 ^ 64 ≤ n + length (shown_all rs)) (ap (λ x. replies_by x cs) starts ∙ started-first f t cs) (h cs (subst (λ (ls : List (List ℕ)). AreCommandsOf ls cs) (sym lines_are) are));
+  passes = λ cs are. subst (λ (rs : List PlainReply). 2 ^ 64 ≤ n + length (shown_all rs)) (ap (λ x. replies_by x cs) starts) (h cs (subst (λ (ls : List (List ℕ)). AreCommandsOf ls cs) (sym lines_are) are));
 }
 
 -- a session is too long where its answers are

@@ -2,19 +2,19 @@
 use Rattle.std.specs.Prelude.{◌≡◌, ℕ, ◌+◌, ◌^◌, ◌≤◌, List, ◌++◌, length}
 use Rattle.sj_text_core.specs.Tree.{Tree, IsWithin}
 use Rattle.sj_text_core.specs.Grammar.{Spells}
-use Rattle.sj_text_core.specs.Keep.{keep}
+use Rattle.sj_text_core.specs.Repeats.{keep_by}
 use Rattle.sj_text_core.specs.declared.repeats.Repeats.{Repeats}
 use Rattle.sj_run.specs.Commands.{PlainCommand}
 use Rattle.sj_run.specs.CommandLines.{IsCommandOf, AreCommandsOf}
 use Rattle.sj_run.specs.Repeats.{answer_by, replies_by, part_after}
 use Rattle.sj_run.specs.Shown.{reply_text, shown, shown_all}
 
--- a document was read: the bytes spell a tree within the limit, and u is that tree with the first member of each key
-pub record ReadsTree (b : List ℕ) (u : Tree) : Type 0 where
+-- a document was read: the bytes spell a tree within the limit, and u is that tree with the member of each key that counts
+pub record ReadsTree (c : Repeats) (b : List ℕ) (u : Tree) : Type 0 where
   pub tree : Tree
   pub spelled : Spells b tree
   pub within : IsWithin tree
-  pub kept : u ≡ keep tree
+  pub kept : u ≡ keep_by c tree
 
 -- bytes that begin with those, and go on in some way
 pub record IsBegunBy (old new : List ℕ) : Type 0 where

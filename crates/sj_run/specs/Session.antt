@@ -2,9 +2,11 @@
 use Rattle.std.specs.Prelude.{◌≡◌, ℕ, ◌+◌, ◌^◌, ◌≤◌, List, length, ⊤}
 use Rattle.sj_text_core.specs.Tree.{Tree, IsWithin}
 use Rattle.sj_text_core.specs.Grammar.{Spells}
+use Rattle.sj_text_core.specs.declared.repeats.Repeats.{Repeats}
 use Rattle.sj_run.specs.Commands.{PlainCommand}
 use Rattle.sj_run.specs.CommandLines.{AreCommandsOf}
 use Rattle.sj_run.specs.Answers.{replies_of, start}
+use Rattle.sj_run.specs.Repeats.{replies_by, start_by}
 use Rattle.sj_run.specs.Lines.{document, lines}
 use Rattle.sj_run.specs.Shown.{shown_all}
 use Rattle.sj_run.specs.declared.document.Way.{Way}
@@ -18,10 +20,8 @@ use Rattle.sj_run.specs.declared.sessions.SessionFault.TheVariants as fault
 
 -- the forms and ways that are served today
 abbrev pub IsServed : Form → Way → Type 0
-IsServed Owned ByText = ⊤
-IsServed Owned ByKnownKey = ⊥
-IsServed Borrowed ByText = ⊤
-IsServed Borrowed ByKnownKey = ⊥
+IsServed Owned w = ⊤
+IsServed Borrowed w = ⊤
 IsServed Lazy ByText = ⊤
 IsServed Lazy ByKnownKey = ⊥
 
@@ -40,6 +40,21 @@ pub record PassesAll (form : Form) (input : List ℕ) (n : ℕ) : Type 0 where
   pub spelled : Spells (document input) tree
   pub within : IsWithin tree
   pub passes : (commands : List PlainCommand) → AreCommandsOf (lines input) commands → 2 ^ 64 ≤ n + length (shown_all (replies_of (start form tree) commands))
+
+-- the same where the document is read by a choice; the command lines keep the first member of each key
+pub record IsAnsweredBy (c : Repeats) (form : Form) (input written : List ℕ) : Type 0 where
+  pub tree : Tree
+  pub spelled : Spells (document input) tree
+  pub within : IsWithin tree
+  pub commands : List PlainCommand
+  pub lines_are : AreCommandsOf (lines input) commands
+  pub replies : written ≡ shown_all (replies_by (start_by c form tree) commands)
+
+pub record PassesAllBy (c : Repeats) (form : Form) (input : List ℕ) (n : ℕ) : Type 0 where
+  pub tree : Tree
+  pub spelled : Spells (document input) tree
+  pub within : IsWithin tree
+  pub passes : (commands : List PlainCommand) → AreCommandsOf (lines input) commands → 2 ^ 64 ≤ n + length (shown_all (replies_by (start_by c form tree) commands))
 
 -- a session's fault where a command was refused
 abbrev pub fault_of : Why → SessionFault

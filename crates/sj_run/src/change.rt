@@ -9,11 +9,14 @@ ghost use Rattle.sj_run.specs.Changed.{changed_meant, Edits};
 ghost use Rattle.sj_run.specs.Meant.{step_meant};
 
 mod edit;
+mod insert;
 mod lazy;
 mod told;
 
 use crate::command::Step;
+use crate::document::Way;
 use edit::edit_at;
+pub(crate) use insert::Inserts;
 pub(crate) use lazy::change_lazy;
 use sj_document::Document;
 use sj_object::KeyText;
@@ -54,23 +57,6 @@ pub(crate) enum Changed<T: KeyText> {
     NotAnArray,
 }
 
-fn insert<T: KeyText + Drop>(
-    value: &mut Document<T>,
-    key: T,
-    new: Document<T>,
-) -> Result<Changed<T>, AllocError>
-    ensures { Edits T.text_of [] (command.insert (T.text_of key) (tree T.text_of new)) (tree T.text_of value.old) (tree T.text_of value.new) result }
-{
-    match value.insert(key, new) {
-        Ok(Some(before)) => Ok(Changed::Old(before)),
-        Ok(None) => Ok(Changed::Nothing),
-        Err(refused) => match refused.why {
-            AccessError::OutOfMemory => Err(AllocError),
-            _ => Ok(Changed::NotAnObject),
-        },
-    }
-}
-
 fn push<T: KeyText + Drop>(
     value: &mut Document<T>,
     new: Document<T>,
@@ -109,12 +95,15 @@ fn remove<T: KeyText + Drop>(value: &mut Document<T>, key: &str) -> Result<Chang
 /// Changes the value itself.
 fn change<T: KeyText + Drop>(
     value: &mut Document<T>,
+    way: Way,
     write: Write<T>,
 ) -> Result<Changed<T>, AllocError>
+where
+    Way: Inserts<T>,
     ensures { Edits T.text_of [] (write_meant T.text_of write) (tree T.text_of value.old) (tree T.text_of value.new) result }
 {
     match write {
-        Write::Insert(key, new) => insert(value, key, new),
+        Write::Insert(key, mut new) => way.insert(value, key, &mut new),
         Write::Remove(key) => remove(value, key.as_str()),
         Write::Push(new) => push(value, new),
         Write::Pop => pop(value),
@@ -125,13 +114,16 @@ fn change<T: KeyText + Drop>(
 /// Changes the value at a path, as the command does on the tree.
 pub(crate) fn change_at<T: KeyText + Drop>(
     value: &mut Document<T>,
+    way: Way,
     path: &[Step],
     write: Write<T>,
 ) -> Result<Changed<T>, AllocError>
+where
+    Way: Inserts<T>,
     ensures reply { IfOk result (λ changed. changed_meant T.text_of changed ≡ (answer (tree T.text_of value.old) (command.write (map step_meant path.now) (write_meant T.text_of write))).1) }
     ensures after { OnOk result (tree T.text_of value.new ≡ (answer (tree T.text_of value.old) (command.write (map step_meant path.now) (write_meant T.text_of write))).0) }
     ensures refused { OnErr result (tree T.text_of value.new ≡ tree T.text_of value.old) }
     ensures short { ¬ (IsLong (answer (tree T.text_of value.old) (command.write (map step_meant path.now) (write_meant T.text_of write))).1) }
 {
-    edit_at(value, path, write)
+    edit_at(value, way, path, write)
 }

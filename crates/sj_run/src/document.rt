@@ -49,7 +49,7 @@ pub trait Document {
 /// A document that owns its texts.
 #[derive(Debug, Drop)]
 pub struct OwnedDoc {
-    /// How keys are looked up; today by text in both ways.
+    /// How keys are looked up.
     pub way: Way,
     /// The document.
     pub value: OwnedValue,
@@ -64,8 +64,10 @@ impl Document for OwnedDoc {
 
     fn apply(&mut self, alloc: Global, command: Command) -> Result<Reply, Why> {
         match taken_apart(command) {
-            Asked::Read(path, read) => reply_at(alloc, &self.value, &path, &read),
-            Asked::Write(path, write) => Ok(reply_of(change_at(&mut self.value, &path, write)?)),
+            Asked::Read(path, read) => reply_at(alloc, &self.value, self.way, &path, &read),
+            Asked::Write(path, write) => {
+                Ok(reply_of(change_at(&mut self.value, self.way, &path, write)?))
+            }
             Asked::Bad => Ok(Reply::BadCommand),
         }
     }
@@ -74,7 +76,7 @@ impl Document for OwnedDoc {
 /// A document whose texts may be lent.
 #[derive(Debug, Drop)]
 pub struct BorrowedDoc<'v> {
-    /// How keys are looked up; today by text in both ways.
+    /// How keys are looked up, and inserted.
     pub way: Way,
     /// The document.
     pub value: BorrowedValue<'v>,
@@ -89,10 +91,10 @@ impl<'v> Document for BorrowedDoc<'v> {
 
     fn apply(&mut self, alloc: Global, command: Command) -> Result<Reply, Why> {
         match taken_apart(command) {
-            Asked::Read(path, read) => reply_at(alloc, &self.value, &path, &read),
+            Asked::Read(path, read) => reply_at(alloc, &self.value, self.way, &path, &read),
             Asked::Write(path, write) => {
                 let write = borrowed_write(alloc, write)?;
-                let changed = change_at(&mut self.value, &path, write)?;
+                let changed = change_at(&mut self.value, self.way, &path, write)?;
                 Ok(reply_of(owned_changed(alloc, changed)?))
             }
             Asked::Bad => Ok(Reply::BadCommand),

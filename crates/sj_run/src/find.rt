@@ -13,6 +13,7 @@ mod found;
 mod place;
 
 use crate::command::{Read, Step, Width};
+use crate::document::Way;
 use crate::reply::Reply;
 use crate::runs::Why;
 use found::Found;
@@ -21,24 +22,24 @@ use sj_text_core::{TypedValue, ValueAsScalar};
 use std::alloc::Global;
 
 /// What one step finds.
-fn follow<P: Place>(place: &P, step: &Step) -> Option<P>
+fn follow<P: Place>(place: &P, way: Way, step: &Step) -> Option<P>
     ensures value { option_map P.tree_of result ≡ step_into_by (P.choice place.now) (step_meant step.now) (P.tree_of place.now) }
     ensures choice { IfSome result (λ p. P.choice p ≡ P.choice place.now) }
 {
     match step {
-        Step::Key(key) => place.member(key.as_str()),
+        Step::Key(key) => place.member(way, key.as_str()),
         Step::Idx(index) => place.item(*index),
     }
 }
 
 /// What stands at the path; None where a step finds nothing.
-fn place_at<P: Place>(place: P, path: &[Step]) -> Option<P>
+fn place_at<P: Place>(place: P, way: Way, path: &[Step]) -> Option<P>
     ensures value { option_map P.tree_of result ≡ tree_at_by (P.choice place) (map step_meant path.now) (P.tree_of place) }
     ensures choice { IfSome result (λ p. P.choice p ≡ P.choice place) }
 {
     let mut at = place;
     for step in path {
-        at = follow(&at, step)?;
+        at = follow(&at, way, step)?;
     }
     Some(at)
 }
@@ -63,7 +64,7 @@ fn fits<V: ValueAsScalar>(value: &V, width: Width) -> bool
 }
 
 /// What is read of a value.
-fn read_value<'v, P: Place>(place: &'v P, read: &Read) -> Found<'v, P>
+fn read_value<'v, P: Place>(place: &'v P, way: Way, read: &Read) -> Found<'v, P>
     ensures { found_meant P.tree_of result ≡ reply_to_by (P.choice place.now) (read_meant read.now) (P.tree_of place.now) }
 {
     match read {
@@ -78,7 +79,7 @@ fn read_value<'v, P: Place>(place: &'v P, read: &Read) -> Found<'v, P>
             None => Found::NoLength,
         },
         Read::Keys => Found::Keys(place),
-        Read::Has(key) => Found::Truth(place.member(key.as_str()).is_some()),
+        Read::Has(key) => Found::Truth(place.member(way, key.as_str()).is_some()),
         Read::Encode => Found::Print(place),
         Read::EncodePp => Found::Pretty(place),
     }
@@ -88,14 +89,15 @@ fn read_value<'v, P: Place>(place: &'v P, read: &Read) -> Found<'v, P>
 pub(crate) fn reply_at<P: Place>(
     alloc: Global,
     place: P,
+    way: Way,
     path: &[Step],
     read: &Read,
 ) -> Result<Reply, Why>
     ensures ok { IfOk result (λ reply. reply_meant reply ≡ (answer_by (P.choice place, P.tree_of place) (command.read (map step_meant path.now) (read_meant read.now))).1) }
     ensures too_long { IsErrOf result Why.TooLong ↔ IsLong (answer_by (P.choice place, P.tree_of place) (command.read (map step_meant path.now) (read_meant read.now))).1 }
 {
-    match place_at(place, path) {
-        Some(at) => read_value(&at, read).into_reply(alloc),
+    match place_at(place, way, path) {
+        Some(at) => read_value(&at, way, read).into_reply(alloc),
         None => Ok(Reply::Missing),
     }
 }
@@ -103,6 +105,7 @@ pub(crate) fn reply_at<P: Place>(
 /// Appends the text of the reply to a read at a path. Nothing is copied first.
 pub(crate) fn write_at<P: Place>(
     place: P,
+    way: Way,
     path: &[Step],
     read: &Read,
     out: &mut Vec<u8>,
@@ -111,8 +114,8 @@ pub(crate) fn write_at<P: Place>(
     ensures err { OnErr result (IsBegunBy out.old.items out.new.items) }
     ensures too_long { IsErrOf result Why.TooLong → PassesOne (P.choice place, P.tree_of place) (command.read (map step_meant path.now) (read_meant read.now)) (length out.old.items) }
 {
-    match place_at(place, path) {
-        Some(at) => read_value(&at, read).write(out),
+    match place_at(place, way, path) {
+        Some(at) => read_value(&at, way, read).write(out),
         None => Ok(out.extend_from_slice(b"missing")?),
     }
 }

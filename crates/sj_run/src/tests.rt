@@ -1,5 +1,6 @@
 //! Sessions on small inputs.
 
+mod repeats;
 mod runs;
 
 use crate::{Form, SessionFault, Way, session};
@@ -8,40 +9,55 @@ use std::alloc::Global;
 use std::process::Abort;
 use std::test::Fail;
 
-const FORMS: [Form; 3] = [Form::Owned, Form::Borrowed, Form::Lazy];
+/// The forms and ways that keep one member of each key as read.
+const KEPT: [(Form, Way); 4] = [
+    (Form::Owned, Way::ByText),
+    (Form::Owned, Way::ByKnownKey),
+    (Form::Borrowed, Way::ByText),
+    (Form::Borrowed, Way::ByKnownKey),
+];
+
+/// Those that are served.
+const SERVED: [(Form, Way); 5] = [
+    (Form::Owned, Way::ByText),
+    (Form::Owned, Way::ByKnownKey),
+    (Form::Borrowed, Way::ByText),
+    (Form::Borrowed, Way::ByKnownKey),
+    (Form::Lazy, Way::ByText),
+];
 
 /// What a session answers, and what `out` has then, which held `> ` before.
 fn answered(
     alloc: Global,
     form: Form,
+    way: Way,
     input: &[u8],
 ) -> Result<(Result<(), SessionFault>, String), Fail> {
     let mut bytes = input.to_vec(alloc)?;
     let mut out = b"> ".to_vec(alloc)?;
-    let answer = session(alloc, form, Way::ByText, bytes.as_mut_slice(), &mut out);
+    let answer = session(alloc, form, way, bytes.as_mut_slice(), &mut out);
     Ok((answer, String::from_utf8(out)?))
 }
 
-/// The form answers so.
-fn check_form(
+/// These forms and ways answer so.
+fn check_in(
     rt: &impl Abort,
     alloc: Global,
-    form: Form,
+    served: &[(Form, Way)],
     input: &str,
     want: &str,
 ) -> Result<(), Fail> {
-    let (answer, out) = answered(alloc, form, input.as_bytes())?;
-    assert_eq!(rt; answer, Ok(()), "{form:?} on {input:?}");
-    assert_eq!(rt; out.as_str(), want, "{form:?} on {input:?}");
+    for (form, way) in served {
+        let (answer, out) = answered(alloc, *form, *way, input.as_bytes())?;
+        assert_eq!(rt; answer, Ok(()), "{form:?} {way:?} on {input:?}");
+        assert_eq!(rt; out.as_str(), want, "{form:?} {way:?} on {input:?}");
+    }
     Ok(())
 }
 
-/// Every form answers so.
+/// Every form answers so in each way.
 fn check(rt: &impl Abort, alloc: Global, input: &str, want: &str) -> Result<(), Fail> {
-    for form in FORMS {
-        check_form(rt, alloc, form, input, want)?;
-    }
-    Ok(())
+    check_in(rt, alloc, &SERVED, input, want)
 }
 
 /// The text is refused, alone and with a command behind it, and `out` stays.
@@ -49,8 +65,8 @@ fn refuse(rt: &impl Abort, alloc: Global, text: &[u8], kind: ErrorKind) -> Resul
     for lines in ["", "\n---\n[\"encode\",[]]\n"] {
         let mut input = text.to_vec(alloc)?;
         input.extend_from_slice(lines.as_bytes())?;
-        for form in FORMS {
-            let (answer, out) = answered(alloc, form, input.as_slice())?;
+        for (form, way) in SERVED {
+            let (answer, out) = answered(alloc, form, way, input.as_slice())?;
             assert_eq!(rt; answer, Err(SessionFault::Refused(kind)), "on {text:?}");
             assert_eq!(rt; out.as_str(), "> ", "on {text:?}");
         }
@@ -141,10 +157,8 @@ fn keeps_the_first_of_many(rt: HostRuntime) -> Result<(), Fail> {
     let input = format!(in rt.alloc(); "{{{members},\"k00\":99}}\n---\n[\"encode\",[]]\n")?;
     let want = format!(in rt.alloc(); "> {{{members}}}\n")?;
     // the same text twice in one process
-    for form in [Form::Owned, Form::Borrowed, Form::Owned] {
-        check_form(&rt, rt.alloc(), form, input.as_str(), want.as_str())?;
-    }
-    Ok(())
+    check_in(&rt, rt.alloc(), &KEPT, input.as_str(), want.as_str())?;
+    check_in(&rt, rt.alloc(), &KEPT, input.as_str(), want.as_str())
 }
 
 /// A lazy document shows repeats until its first write, also where that is refused or finds nothing.
@@ -185,9 +199,9 @@ fn repeats_are_shown_until_a_write(rt: HostRuntime) -> Result<(), Fail> {
     ];
     for (text, lines, lazy, kept) in table {
         let input = format!(in rt.alloc(); "{text}\n---\n{lines}")?;
-        check_form(&rt, rt.alloc(), Form::Lazy, input.as_str(), lazy)?;
-        check_form(&rt, rt.alloc(), Form::Owned, input.as_str(), kept)?;
-        check_form(&rt, rt.alloc(), Form::Borrowed, input.as_str(), kept)?;
+        let lazy_form = [(Form::Lazy, Way::ByText)];
+        check_in(&rt, rt.alloc(), &lazy_form, input.as_str(), lazy)?;
+        check_in(&rt, rt.alloc(), &KEPT, input.as_str(), kept)?;
     }
     Ok(())
 }
@@ -237,8 +251,8 @@ fn counts_levels(rt: HostRuntime) -> Result<(), Fail> {
 /// A line that is no UTF-8 is a bad command.
 #[test]
 fn answers_any_bytes(rt: HostRuntime) -> Result<(), Fail> {
-    for form in FORMS {
-        let (answer, out) = answered(rt.alloc(), form, b"1\n---\n\xff\n[\"encode\",[]]")?;
+    for (form, way) in SERVED {
+        let (answer, out) = answered(rt.alloc(), form, way, b"1\n---\n\xff\n[\"encode\",[]]")?;
         assert_eq!(rt; answer, Ok(()));
         assert_eq!(rt; out.as_str(), "> bad command\n1\n");
     }
@@ -265,20 +279,4 @@ fn answers_at_colliding_keys(rt: HostRuntime) -> Result<(), Fail> {
         members.as_str(),
         "> 0\n32\ntrue\n1\nnone\n33\n",
     )
-}
-
-#[test]
-fn serves_by_text(rt: HostRuntime) -> Result<(), Fail> {
-    let mut out = b"> ".to_vec(rt.alloc())?;
-    for (form, way) in [
-        (Form::Owned, Way::ByKnownKey),
-        (Form::Borrowed, Way::ByKnownKey),
-        (Form::Lazy, Way::ByKnownKey),
-    ] {
-        let mut bytes = *b"[1]\n---\n[\"encode\",[]]";
-        let answer = session(rt.alloc(), form, way, &mut bytes, &mut out);
-        assert_eq!(rt; answer, Err(SessionFault::Usage), "{form:?} {way:?}");
-        assert_eq!(rt; out.as_slice(), b"> ".as_slice());
-    }
-    Ok(())
 }

@@ -9,7 +9,7 @@ use thiserror::Error;
 /// Why the program gave no replies, as it is told on standard error.
 #[derive(Debug, Drop, Error)]
 pub enum Fault {
-    #[error("usage: sjval owned|borrowed|lazy [known]")]
+    #[error("usage: sjval owned|borrowed|lazy [known] [last]")]
     Usage,
     #[error("text refused: {0:?}")]
     Refused(ErrorKind),

@@ -2,6 +2,7 @@
 
 use crate::fault::Fault;
 use sj_run::{Form, Way};
+use sj_text_core::Repeats;
 use std::env;
 use std::io::ErrorKind;
 use std::rt::Env;
@@ -18,22 +19,27 @@ pub fn words(rt: &(impl Env + AllocGlobal)) -> Result<Vec<String>, Fault> {
     }
 }
 
-/// The form and the way that the words choose; none where they are no such words, or where the
-/// form is not served in this way.
-pub fn chosen(words: &[String]) -> Option<(Form, Way)> {
-    let form = match words.first()?.as_str() {
+/// The form, the way and the member of each key that counts, as the words choose them; none where
+/// they are no such words, or where the form is not served in this way.
+pub fn chosen(words: &[String]) -> Option<(Form, Way, Repeats)> {
+    let (first, rest) = words.split_first()?;
+    let form = match first.as_str() {
         "owned" => Form::Owned,
         "borrowed" => Form::Borrowed,
         "lazy" => Form::Lazy,
         _ => return None,
     };
-    let way = match words.get(1) {
-        None => Way::ByText,
-        Some(word) if word.as_str() == "known" => Way::ByKnownKey,
-        Some(_) => return None,
+    let (way, rest) = match rest {
+        [word, rest @ ..] if word.as_str() == "known" => (Way::ByKnownKey, rest),
+        _ => (Way::ByText, rest),
     };
-    if words.len() <= 2 && form.is_served(way) {
-        Some((form, way))
+    let repeats = match rest {
+        [] => Repeats::First,
+        [word] if word.as_str() == "last" => Repeats::Last,
+        _ => return None,
+    };
+    if form.is_served(way) {
+        Some((form, way, repeats))
     } else {
         None
     }

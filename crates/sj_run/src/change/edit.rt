@@ -9,8 +9,11 @@ ghost use Rattle.sj_run.specs.Asked.{write_meant};
 ghost use Rattle.sj_run.specs.Changed.{Edits};
 ghost use Rattle.sj_run.specs.Meant.{step_meant};
 
+use super::insert::Inserts;
 use super::{Changed, Write, change};
 use crate::command::Step;
+use crate::document::Way;
+use crate::keys::member_mut;
 use sj_document::{Document, Object};
 use sj_object::KeyText;
 use std::alloc::AllocError;
@@ -20,33 +23,39 @@ use std::alloc::AllocError;
 #[cycle(edit)]
 pub(crate) fn edit_at<T: KeyText + Drop>(
     value: &mut Document<T>,
+    way: Way,
     path: &[Step],
     write: Write<T>,
 ) -> Result<Changed<T>, AllocError>
+where
+    Way: Inserts<T>,
     ensures { Edits T.text_of (map step_meant path.now) (write_meant T.text_of write) (tree T.text_of value.old) (tree T.text_of value.new) result }
 {
     match path {
-        [] => change(value, write),
-        [first, rest @ ..] => edit_step(value, first, rest, write),
+        [] => change(value, way, write),
+        [first, rest @ ..] => edit_step(value, way, first, rest, write),
     }
 }
 
 #[cycle(edit)]
 fn edit_step<T: KeyText + Drop>(
     value: &mut Document<T>,
+    way: Way,
     step: &Step,
     rest: &[Step],
     write: Write<T>,
 ) -> Result<Changed<T>, AllocError>
+where
+    Way: Inserts<T>,
     ensures { Edits T.text_of (step_meant step.now ∷ map step_meant rest.now) (write_meant T.text_of write) (tree T.text_of value.old) (tree T.text_of value.new) result }
 {
     match step {
         Step::Key(key) => match value {
-            Document::Object(members) => edit_member(members, key.as_str(), rest, write),
+            Document::Object(members) => edit_member(members, way, key.as_str(), rest, write),
             _ => Ok(Changed::Missing),
         },
         Step::Idx(at) => match value {
-            Document::Array(items) => edit_item(items, *at, rest, write),
+            Document::Array(items) => edit_item(items, way, *at, rest, write),
             _ => Ok(Changed::Missing),
         },
     }
@@ -55,14 +64,17 @@ fn edit_step<T: KeyText + Drop>(
 #[cycle(edit)]
 fn edit_member<T: KeyText + Drop>(
     members: &mut Object<T>,
+    way: Way,
     key: &str,
     rest: &[Step],
     write: Write<T>,
 ) -> Result<Changed<T>, AllocError>
+where
+    Way: Inserts<T>,
     ensures { Edits T.text_of (by_key key.now ∷ map step_meant rest.now) (write_meant T.text_of write) (obj (entry_members (tree T.text_of) members.old.entries)) (obj (entry_members (tree T.text_of) members.new.entries)) result }
 {
-    match members.get_mut(key) {
-        Some(child) => edit_at(child, rest, write),
+    match member_mut(members, way, key) {
+        Some(child) => edit_at(child, way, rest, write),
         None => Ok(Changed::Missing),
     }
 }
@@ -70,14 +82,17 @@ fn edit_member<T: KeyText + Drop>(
 #[cycle(edit)]
 fn edit_item<T: KeyText + Drop>(
     items: &mut Vec<Document<T>>,
+    way: Way,
     at: usize,
     rest: &[Step],
     write: Write<T>,
 ) -> Result<Changed<T>, AllocError>
+where
+    Way: Inserts<T>,
     ensures { Edits T.text_of (by_place at ∷ map step_meant rest.now) (write_meant T.text_of write) (list (items_from (map (tree T.text_of) items.old.items))) (list (items_from (map (tree T.text_of) items.new.items))) result }
 {
     if at < items.len() {
-        edit_at(&mut items[at], rest, write)
+        edit_at(&mut items[at], way, rest, write)
     } else {
         Ok(Changed::Missing)
     }

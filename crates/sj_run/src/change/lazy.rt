@@ -8,8 +8,9 @@ ghost use Rattle.sj_run.specs.Changed.{changed_meant};
 ghost use Rattle.sj_run.specs.Meant.{step_meant};
 
 use super::edit::edit_at;
-use super::{Changed, Write};
+use super::{Changed, Inserts, Write};
 use crate::command::Step;
+use crate::document::Way;
 use sj_lazy::{Lazy, Lent, Upgrade};
 use sj_object::KeyText;
 use std::alloc::{AllocError, Global};
@@ -23,12 +24,14 @@ pub(crate) fn change_lazy<P: Upgrade<T> + Drop, B: Lent<T> + Drop, T: KeyText + 
     path: &[Step],
     write: Write<T>,
 ) -> Result<Changed<T>, AllocError>
+where
+    Way: Inserts<T>,
     ensures reply { IfOk result (λ changed. changed_meant T.text_of changed ≡ (edit (map step_meant path.now) (write_meant T.text_of write) (lazy_kept P.part_kept B.lent_tree T.text_of value.old)).1) }
     ensures after { OnOk result (owned T.text_of value.new ≡ Some (edit (map step_meant path.now) (write_meant T.text_of write) (lazy_kept P.part_kept B.lent_tree T.text_of value.old)).0) }
     ensures refused { OnErr result ((value.new ≡ value.old) ⊎ (owned T.text_of value.new ≡ Some (lazy_kept P.part_kept B.lent_tree T.text_of value.old))) }
 {
     match value.as_mut(alloc) {
-        Ok(document) => edit_at(document, path, write),
+        Ok(document) => edit_at(document, Way::ByText, path, write),
         Err(why) => Err(why),
     }
 }

@@ -14,7 +14,7 @@ ghost use Rattle.sj_run.specs.Run.{Leaves};
 
 use crate::change::{Changed, Write, change_lazy, owned_changed, reply_of};
 use crate::command::{Asked, Command, Read, Step, taken_apart};
-use crate::document::Document;
+use crate::document::{Document, Way};
 use crate::find::{reply_at, write_at};
 use crate::reply::Reply;
 use crate::runs::Why;
@@ -37,8 +37,8 @@ impl<'b, 't, 'i> LazyDoc<'b, 't, 'i> {
         ensures too_long { IsErrOf result Why.TooLong ↔ IsLong (answer_by (lazy_part self.now.value) (command.read (map step_meant path.now) (read_meant read.now))).1 }
     {
         match &self.value {
-            Lazy::Tape(part) => reply_at(alloc, *part, path, read),
-            Lazy::Value(value) => reply_at(alloc, value.document(), path, read),
+            Lazy::Tape(part) => reply_at(alloc, *part, Way::ByText, path, read),
+            Lazy::Value(value) => reply_at(alloc, value.document(), Way::ByText, path, read),
         }
     }
 
@@ -49,8 +49,8 @@ impl<'b, 't, 'i> LazyDoc<'b, 't, 'i> {
         ensures too_long { IsErrOf result Why.TooLong → PassesOne (lazy_part self.now.value) (command.read (map step_meant path.now) (read_meant read.now)) (length out.old.items) }
     {
         match &self.value {
-            Lazy::Tape(part) => write_at(*part, path, read, out),
-            Lazy::Value(value) => write_at(value.document(), path, read, out),
+            Lazy::Tape(part) => write_at(*part, Way::ByText, path, read, out),
+            Lazy::Value(value) => write_at(value.document(), Way::ByText, path, read, out),
         }
     }
 

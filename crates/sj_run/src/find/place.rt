@@ -7,6 +7,8 @@ ghost use Rattle.sj_text_core.specs.declared.repeats.Repeats.{Repeats};
 ghost use Rattle.sj_run.specs.Answers.{len_reply};
 ghost use Rattle.sj_run.specs.Found.{len_meant};
 
+use crate::document::Way;
+use crate::keys::member;
 use sj_document::Document;
 use sj_object::KeyText;
 use sj_print::Parts;
@@ -25,8 +27,8 @@ pub(crate) trait Place: Parts {
     fn value(&self) -> &Self::Value
         ensures { Self.Value.tree result.now ≡ Self.tree_of self.now };
 
-    /// The value of the key; None where there is none, and on a non-object.
-    fn member(&self, key: &str) -> Option<Self>
+    /// The value of the key, looked up that way; None where there is none, and on a non-object.
+    fn member(&self, way: Way, key: &str) -> Option<Self>
         ensures value { option_map Self.tree_of result ≡ find_by (choice self.now) key.now (Self.tree_of self.now) }
         ensures choice { IfSome result (λ p. choice p ≡ choice self.now) };
 
@@ -50,9 +52,9 @@ impl<'v, T: KeyText> Place for &'v Document<T> {
         value
     }
 
-    fn member(&self, key: &str) -> Option<&'v Document<T>> {
+    fn member(&self, way: Way, key: &str) -> Option<&'v Document<T>> {
         let value: &'v Document<T> = *self;
-        value.get(key)
+        member(value, way, key)
     }
 
     fn item(&self, index: usize) -> Option<&'v Document<T>> {
@@ -70,6 +72,7 @@ impl<'v, T: KeyText> Place for &'v Document<T> {
     }
 }
 
+/// Keys of a tape are looked up by text in both ways.
 impl<'t, 'i> Place for TapeValue<'t, 'i> {
     type Value = TapeValue<'t, 'i>;
 
@@ -81,7 +84,7 @@ impl<'t, 'i> Place for TapeValue<'t, 'i> {
         self
     }
 
-    fn member(&self, key: &str) -> Option<TapeValue<'t, 'i>> {
+    fn member(&self, _way: Way, key: &str) -> Option<TapeValue<'t, 'i>> {
         self.get(key)
     }
 

@@ -27,8 +27,10 @@ pub(super) trait Tells: Document {
 impl Tells for OwnedDoc {
     fn tell(&mut self, alloc: Global, command: Command, out: &mut Vec<u8>) -> Result<(), Why> {
         match taken_apart(command) {
-            Asked::Read(path, read) => write_at(&self.value, &path, &read, out),
-            Asked::Write(path, write) => change_at(&mut self.value, &path, write)?.write(out),
+            Asked::Read(path, read) => write_at(&self.value, self.way, &path, &read, out),
+            Asked::Write(path, write) => {
+                change_at(&mut self.value, self.way, &path, write)?.write(out)
+            }
             Asked::Bad => Ok(out.extend_from_slice(b"bad command")?),
         }
     }
@@ -37,10 +39,10 @@ impl Tells for OwnedDoc {
 impl<'v> Tells for BorrowedDoc<'v> {
     fn tell(&mut self, alloc: Global, command: Command, out: &mut Vec<u8>) -> Result<(), Why> {
         match taken_apart(command) {
-            Asked::Read(path, read) => write_at(&self.value, &path, &read, out),
+            Asked::Read(path, read) => write_at(&self.value, self.way, &path, &read, out),
             Asked::Write(path, write) => {
                 let write = borrowed_write(alloc, write)?;
-                change_at(&mut self.value, &path, write)?.write(out)
+                change_at(&mut self.value, self.way, &path, write)?.write(out)
             }
             Asked::Bad => Ok(out.extend_from_slice(b"bad command")?),
         }

@@ -91,16 +91,18 @@ fn check_writes<D: Document>(rt: &impl Abort, alloc: Global, document: &mut D) -
 #[test]
 fn both_forms_answer(rt: HostRuntime) -> Result<(), Fail> {
     let alloc = rt.alloc();
-    let way = Way::ByText;
-    let value = owned(alloc, TEXT)?;
-    let mut document = OwnedDoc { way, value };
-    check_reads(&rt, alloc, &mut document)?;
-    check_writes(&rt, alloc, &mut document)?;
-    let mut bytes = TEXT.as_bytes().to_vec(alloc)?;
-    let value = deserialize::<BorrowedValue<'_>, CowStr<'_>>(alloc, bytes.as_mut_slice())?;
-    let mut document = BorrowedDoc { way, value };
-    check_reads(&rt, alloc, &mut document)?;
-    check_writes(&rt, alloc, &mut document)
+    for way in [Way::ByText, Way::ByKnownKey] {
+        let value = owned(alloc, TEXT)?;
+        let mut document = OwnedDoc { way, value };
+        check_reads(&rt, alloc, &mut document)?;
+        check_writes(&rt, alloc, &mut document)?;
+        let mut bytes = TEXT.as_bytes().to_vec(alloc)?;
+        let value = deserialize::<BorrowedValue<'_>, CowStr<'_>>(alloc, bytes.as_mut_slice())?;
+        let mut document = BorrowedDoc { way, value };
+        check_reads(&rt, alloc, &mut document)?;
+        check_writes(&rt, alloc, &mut document)?;
+    }
+    Ok(())
 }
 
 /// Reads leave a lazy document on its tape; a write makes it an owned one, also where it finds
