@@ -4,7 +4,8 @@
 It answers commands on plain trees, by the rules of docs/DEFINITIONS.md and RFC 8259 alone, and shares nothing with the
 program: None, a bool, a number as ('int', value, carrier), a text as str, an array as ('list', [..]), an object as
 ('obj', [(key, value), ..]). The form of the table: a line '= TEXT' begins a session with that document, a line '> LINE' is a
-command line of it, and the lines up to the next '>' or '=' are the reply.
+command line of it, and the lines up to the next '>' or '=' are the reply. Where a lazy document replies otherwise, a line '~'
+stands behind the reply, and its own behind that.
 """
 
 # ---- reading (RFC 8259 without fractions and exponents)
@@ -330,13 +331,13 @@ def read_reply(tree, name, rest):
 
 
 def answer(tree, line):
-    """The tree after a line, and the printed reply."""
+    """The tree after a line, and the printed reply. A write goes to the first member of each key alone, also where it is refused."""
     command = command_of(line)
     if command is None:
         return tree, 'bad command'
     name, path, rest = command
     if name in WRITES:
-        return edit(tree, path, name, rest)
+        return edit(keep(tree), path, name, rest)
     at = tree
     for step in path:
         place = find(at, step)
@@ -392,6 +393,9 @@ def sessions():
         for takes in TAKES[name]:
             for path in SMALL_PATHS:
                 yield SMALL, [f'["{name}",{path}{takes}]', '["encode",[]]']
+    # repeats, which a lazy document shows until its first write
+    for write in ('["pop",[]]', '["remove",[],"a"]', '["put",["a","a"],1]', '["nonsense"]', '["push",["b",1],3]', '["insert",["b"],"c",0]'):
+        yield '{"a":1,"b":[{"c":1,"c":2},2],"a":{"a":3}}', ['["len",[]]', '["keys",["b",0]]', write, '["len",[]]', '["encode",["b"]]', '["encode",[]]']
     # writes one after another
     yield '{"a":{"b":[1,2]},"c":null}', [
         '["insert",["a"],"b",5]', '["insert",["a"],"d",[]]', '["push",["a","d"],{"x":1}]', '["insert",["a","d",0],"x",2]',
@@ -410,11 +414,16 @@ def sessions():
 def main():
     for document, lines in sessions():
         print('= ' + document)
-        tree = keep(read(document))
+        lazy = read(document)
+        tree = keep(lazy)
         for line in lines:
             tree, reply = answer(tree, line)
+            lazy, lazy_reply = answer(lazy, line)
             print('> ' + line)
             print(reply)
+            if lazy_reply != reply:
+                print('~')
+                print(lazy_reply)
 
 
 main()

@@ -32,15 +32,19 @@ session() {
   expect "$1" "$4" "$5" "$6"
 }
 
-# table WORDS: the sessions of tools/commands.txt, each a line '= DOCUMENT' with lines '> COMMAND' and their replies
+# table WORDS: the sessions of tools/commands.txt, each a line '= DOCUMENT' with lines '> COMMAND' and their replies, where a lazy document
+# replies otherwise behind a line '~'
 table() {
   local at=0 from
   rm -rf sessions
   mkdir sessions
-  awk '/^= / { n++; print substr($0, 3) "\n---" > ("sessions/" n ".in"); printf "" > ("sessions/" n ".want"); next }
-       /^> / { print substr($0, 3) > ("sessions/" n ".in"); next }
-       { print > ("sessions/" n ".want") }
-       { close("sessions/" (n - 1) ".in"); close("sessions/" (n - 1) ".want") }' "$tools/commands.txt"
+  awk -v form="$1" 'function tell() { printf "%s", reply > ("sessions/" n ".want"); reply = "" }
+       /^= / { if (n) { tell(); close("sessions/" n ".in"); close("sessions/" n ".want") }
+               n++; print substr($0, 3) "\n---" > ("sessions/" n ".in"); lazy = 0; next }
+       /^> / { tell(); print substr($0, 3) > ("sessions/" n ".in"); lazy = 0; next }
+       /^~$/ { lazy = 1; if (form == "lazy") reply = ""; next }
+       !lazy || form == "lazy" { reply = reply $0 "\n" }
+       END { tell() }' "$tools/commands.txt"
   for from in sessions/*.in; do
     # shellcheck disable=SC2086
     "$program" $1 < "$from" > out 2> err
@@ -62,6 +66,9 @@ session 'an insert and two encodes' owned '{"a":1}\n---\n["insert",[],"b",[true]
 session 'no commands' owned '[1]' 0 '' ''
 session 'CR LF' owned '[1]\r\n---\r\n["encode",[]]\r\n' 0 '[1]\n' ''
 session 'borrowed' borrowed '{"a":1,"a":2}\n---\n["len",[]]\n["pop",[]]\n["encode",[]]\n' 0 '1\nnot an array\n{"a":1}\n' ''
+session 'lazy, read and written' lazy '{"key": "value", "snot": 42}\n---\n["str",["key"]]\n["insert",[],"new",42]\n["keys",[]]\n["fits",["snot"],"i8"]\n["remove",[],"snot"]\n["encode",[]]\n' 0 '"value"\nnone\n["key","snot","new"]\ntrue\n42\n{"key":"value","new":42}\n' ''
+session 'lazy, repeats until a write' lazy '{"a":1,"a":2}\n---\n["len",[]]\n["pop",[]]\n["encode",[]]\n' 0 '2\nnot an array\n{"a":1}\n' ''
+session 'a text refused as lazy' lazy '[1,]' 3 '' 'text refused: Syntax\n'
 session 'a pretty print' borrowed '{"a":[1,{}]}\n---\n["encode_pp",[]]\n' 0 '{\n  "a": [\n    1,\n    {}\n  ]\n}\n' ''
 session 'escapes' borrowed '{"q\\"k":"a\\/b\\u0041"}\n---\n["encode",[]]\n' 0 '{"q\\"k":"a/bA"}\n' ''
 session 'a text refused as borrowed' borrowed '[1,]' 3 '' 'text refused: Syntax\n'
@@ -141,6 +148,12 @@ for words in owned 'owned known' borrowed 'borrowed known'; do
   session "a text refused, $words" "$words last" '[1,]' 3 '' 'text refused: Syntax\n'
   table "$words"
 done
+
+session 'keys of one hash, lazy' lazy "$collide" 0 '0\n32\ntrue\n1\nnone\n33\n' ''
+session 'kinds, lazy' lazy "$kinds" 0 'Array\n2\nok\n1\nmissing\n[2,3,{"a":1}]\nfalse\nno length\nnot an object\nbad command\n[null]\n' ''
+session 'first values, lazy' lazy "$repeats" 0 '1\n4\n3\n["a","b","a"]\nnot an array\n{"a":1,"b":{"c":4}}\nnone\n{"q":1}\n' ''
+session 'last values, lazy' 'lazy last' "$repeats" 0 '[6]\n5\n3\n["a","b","a"]\nnot an array\n{"a":[6],"b":{"c":5}}\nnone\n{"q":1}\n' ''
+table lazy
 
 echo "$passed passed, $failed failed"
 [ "$failed" = 0 ]

@@ -227,13 +227,29 @@ free 'lazy owned pop' $'call: done, owned ["key","value"]\n'
 free 'tape new' $'call: made, and refused\n'
 free 'tape reads' $'call: found\n'
 
-replies='> {"some":["key","value",2]}
+# answers INPUT FORM REPLIES: a session by text
+answers() {
+  each "session $2 $1" "call: OutOfMemory, out as before, then answered"$'\n'"> $3" $'call: answered\n> '"$3"
+}
+
+for form in owned borrowed lazy; do
+  answers example $form '{"some":["key","value",2]}
 none
 0
 {"some":["key","value",2],"n":true}
 '
-each session "call: OutOfMemory, out as before, then answered"$'\n'"$replies" \
-  $'call: answered\n'"$replies"
+  many=1
+  [ $form = lazy ] && many=2
+  answers repeat $form "$many"$'\nnot an array\n{"a":1}\n'
+  answers reads $form $'3\n'
+  eval "reads_$form=$requests"
+done
+
+# A lazy document that is only read stays a tape.
+requests="$reads_lazy, $reads_borrowed, $reads_owned"
+good=no
+[ "$reads_lazy" -lt "$reads_borrowed" ] && [ "$reads_borrowed" -lt "$reads_owned" ] && good=yes
+count $good 'fewer requests where less is built'
 
 # The keys and texts of a borrowed document lie in the input.
 requests="$borrowed, $owned"

@@ -4,8 +4,8 @@
 //!
 //!     refusals read CALL TEXT | buffers | insert CALL MEMBERS | present CALL MEMBERS | capacity
 //!     refusals room | map reads | member CALL MEMBERS | member_present CALL MEMBERS
-//!     refusals write CALL GENERATOR | tape new | tape reads | session
-//!     refusals document FORM CALL | make SOURCE | convert CALL | lazy FORM CALL
+//!     refusals write CALL GENERATOR | tape new | tape reads | document FORM CALL
+//!     refusals make SOURCE | convert CALL | lazy FORM CALL | session FORM INPUT
 //!
 //! `refusals nodes LIST ..` makes a tape of each list of nodes.
 //!
@@ -60,7 +60,7 @@ fn run(rt: &(impl Env + Print + AllocGlobal)) -> Result<(), Fault> {
         "convert" => makes::convert(rt, second),
         "lazy" => lazy::run_call(rt, second, third),
         "nodes" => nodes::tell(rt, words.get(1..).unwrap_or(&[])),
-        "session" => sessions::answer(rt),
+        "session" => sessions::answer(rt, second, third),
         _ => Err(Fault::Usage),
     }
 }

@@ -4,7 +4,8 @@ use Rattle.sj_text_core.specs.Tree.{Tree, IsWithin}
 use Rattle.sj_text_core.specs.Grammar.{Spells, IsReadable}
 use Rattle.sj_text_core.specs.Keep.{keep}
 use Rattle.sj_run.specs.Answered.{Answers, AnswersLine, PassesOne, PassesLine}
-use Rattle.sj_run.specs.Answers.{answer}
+use Rattle.sj_text_core.specs.declared.repeats.Repeats.{Repeats}
+use Rattle.sj_run.specs.Repeats.{answer_by}
 use Rattle.sj_run.specs.Shown.{reply_text}
 use Rattle.sj_run.specs.CommandLines.{IsCommandOf, command_in}
 use Rattle.sj_run.specs.Commands.{PlainCommand, bad}
@@ -27,15 +28,15 @@ reads_bad_only line c d h e (inl r) = absurd (h (r.0, r.1, r.2))
 reads_bad_only line c d h e (inr r) = r.1 ∙ sym e
 
 -- a line's command that was answered, and its line feed
-pub line_answered : (t u : Tree) (line old mid new : List ℕ) (c : PlainCommand) → IsCommandOf line c → ((d : PlainCommand) → IsCommandOf line d → d ≡ c) → Answers t c u old mid → new ≡ mid ++ 10 ∷ [] → AnswersLine t line u old new
+pub line_answered : (t u : Repeats × Tree) (line old mid new : List ℕ) (c : PlainCommand) → IsCommandOf line c → ((d : PlainCommand) → IsCommandOf line d → d ≡ c) → Answers t c u old mid → new ≡ mid ++ 10 ∷ [] → AnswersLine t line u old new
 line_answered t u line old mid new c is only a e = record {
   command = c;
   is = is;
   only = only;
   after = a.after;
-  shows = e ∙ ap (λ l. l ++ 10 ∷ []) a.shows ∙ append_assoc old (reply_text (answer t c).1) (10 ∷ []);
+  shows = e ∙ ap (λ l. l ++ 10 ∷ []) a.shows ∙ append_assoc old (reply_text (answer_by t c).1) (10 ∷ []);
 }
 
 -- a line whose only command's reply passes
-pub line_passes : (t : Tree) (line : List ℕ) (n : ℕ) (c : PlainCommand) → ((d : PlainCommand) → IsCommandOf line d → d ≡ c) → PassesOne t c n → PassesLine t line n
+pub line_passes : (t : Repeats × Tree) (line : List ℕ) (n : ℕ) (c : PlainCommand) → ((d : PlainCommand) → IsCommandOf line d → d ≡ c) → PassesOne t c n → PassesLine t line n
 line_passes t line n c only h d is = subst (λ (x : PlainCommand). PassesOne t x n) (sym (only d is)) h

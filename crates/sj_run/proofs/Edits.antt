@@ -7,9 +7,7 @@ use Rattle.sj_text_core.specs.Paths.{Step, by_key, by_place, step_into, tree_at,
 use Rattle.sj_run.specs.Commands.{Write}
 use Rattle.sj_run.specs.Replies.{PlainReply, missing}
 use Rattle.sj_run.specs.Answers.{edit, edit_found, changed}
-use Rattle.sj_run.specs.Meant.{step_meant}
-use Rattle.sj_run.specs.declared.command.Step as meant
-use Rattle.std.proofs.Common.{drop, drop-cons, add-one, ◌+◌, Result, Ok, Err, ◌<◌, ◌≤◌, length, get_or, set, arith}
+use Rattle.std.proofs.Common.{Result, Ok, Err, ◌<◌, ◌≤◌, length, get_or, set, arith}
 use Rattle.sj_text_core.specs.Tree.{items_from}
 use Rattle.sj_document.specs.Document.{tree}
 use Rattle.sj_document.specs.declared.value.Document.{Document}
@@ -90,10 +88,3 @@ module _ {T : Type 0} (t : T → List ℕ) where
   item_set [] i x = refl
   item_set (v ∷ vs) zero x = refl
   item_set (v ∷ vs) (suc i) x = ap (item (tree t v)) (item_set vs i x)
-
--- where the next step of a path leads
-pub step_at : (p : List meant.Step) (i : ℕ) (x : meant.Step) (u : Tree) (o : Option Tree) → i < length p → x ≡ get_or p i x → step_into (step_meant x) u ≡ o
-    → tree_at (map step_meant (drop i p)) u ≡ option_and_then (tree_at (map step_meant (drop (i + 1) p))) o
-step_at p i x u o h e f =
-    ap (λ q. tree_at (map step_meant q) u) (drop-cons p i x h) ∙ (λ j. tree_at (map step_meant (sym e j ∷ drop (sym (add-one i) j) p)) u)
-    ∙ ap (option_and_then (tree_at (map step_meant (drop (i + 1) p)))) f

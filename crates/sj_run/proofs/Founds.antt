@@ -1,7 +1,11 @@
--- Lengths and keys of documents.
-use Rattle.std.proofs.Common.{◌≡◌, ℕ, suc, List, [], ◌∷◌, ◌++◌, length, map, string_bytes, String, Global, refl, sym, ap, ◌∙◌, append_assoc, append-nil}
+-- What a read finds: the place at a path, lengths, and keys one by one.
+use Rattle.std.proofs.Common.{Option, option_and_then, ◌<◌, ◌+◌, drop, drop-cons, add-one, get_or, ◌≡◌, ℕ, suc, List, [], ◌∷◌, ◌++◌, length, map, string_bytes, String, Global, refl, sym, ap, ◌∙◌, append_assoc, append-nil}
 use Rattle.std.proofs.lemmas.List.{map-append}
-use Rattle.sj_text_core.specs.Tree.{items_len, members_len, items_from}
+use Rattle.sj_text_core.specs.Tree.{Tree, items_len, members_len, items_from, members_from, keys_of}
+use Rattle.sj_text_core.specs.declared.repeats.Repeats.{Repeats}
+use Rattle.sj_run.specs.Meant.{step_meant}
+use Rattle.sj_run.specs.Repeats.{step_into_by, tree_at_by}
+use Rattle.sj_run.specs.declared.command.Step as meant
 use Rattle.sj_text_core.specs.Print.{quoted}
 use Rattle.sj_object.specs.Entries.{Entry}
 use Rattle.sj_object.specs.Members.{entry_members}
@@ -18,6 +22,17 @@ module _ {T : Type 0} (t : T → List ℕ) where
   pub members_count : (es : List (Entry T (Document T))) → members_len (entry_members (tree t) es) ≡ length es
   members_count [] = refl
   members_count (e ∷ es) = ap (λ n. suc n) (members_count es)
+
+-- where the next step of a path leads
+pub step_at : (c : Repeats) (p : List meant.Step) (i : ℕ) (x : meant.Step) (u : Tree) (o : Option Tree) → i < length p → x ≡ get_or p i x → step_into_by c (step_meant x) u ≡ o
+    → tree_at_by c (map step_meant (drop i p)) u ≡ option_and_then (tree_at_by c (map step_meant (drop (i + 1) p))) o
+step_at c p i x u o h e f =
+    ap (λ q. tree_at_by c (map step_meant q) u) (drop-cons p i x h) ∙ (λ j. tree_at_by c (map step_meant (sym e j ∷ drop (sym (add-one i) j) p)) u)
+    ∙ ap (option_and_then (tree_at_by c (map step_meant (drop (i + 1) p)))) f
+
+-- the first of members, and its key
+pub key_first : (l r : List (List ℕ × Tree)) (k : List ℕ) (t : Tree) → l ≡ (k, t) ∷ r → keys_of (members_from l) ≡ k ∷ keys_of (members_from r)
+key_first l r k t e = ap (λ x. keys_of (members_from x)) e
 
 -- one more key is copied
 pub copied_more : (copies new : List (String Global)) (s : String Global) (k : List ℕ) (left rest all : List (List ℕ)) → map string_bytes copies ++ left ≡ all → left ≡ k ∷ rest → string_bytes s ≡ k → new ≡ copies ++ s ∷ []

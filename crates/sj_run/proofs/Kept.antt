@@ -11,6 +11,8 @@ use Rattle.sj_document.proofs.Kept.{tree_kept}
 use Rattle.sj_run.specs.Answers.{answer, edit, edit_found, changed, old_or_nothing, IsLong}
 use Rattle.sj_run.specs.Changed.{changed_meant, Edits}
 use Rattle.sj_run.specs.Commands.{PlainCommand, Write, write, insert, remove, push, pop, put}
+use Rattle.sj_text_core.specs.declared.repeats.Repeats.{Repeats}
+use Rattle.sj_run.specs.Repeats.{answer_by}
 use Rattle.sj_run.specs.Run.{Leaves}
 use Rattle.sj_run.specs.declared.change.Changed.{Changed}
 
@@ -66,9 +68,12 @@ short_found : (o : Option Tree) (p : List Step) (w : Write) (t : Tree) → IsLon
 short_found None p w t h = h
 short_found (Some u) p w t h = short_changed w u h
 
+pub short_edit : (p : List Step) (w : Write) (t : Tree) → IsLong (edit p w t).1 → ⊥
+short_edit p w t h = short_found _ p w t h
+
 pub short_write : (p : List Step) (w : Write) (t : Tree) → IsLong (answer t (write p w)).1 → ⊥
-short_write p w t h = short_found _ p w _ h
+short_write p w t h = short_edit p w _ h
 
 -- what a write that was made leaves, where its reply was refused
-pub leaves_after : (t u : Tree) (c : PlainCommand) (p : List Step) (w : Write) → write p w ≡ c → u ≡ (answer t (write p w)).0 → Leaves t c u
-leaves_after t u c p w e h = subst (λ (x : PlainCommand). Leaves t x u) e (inr (inr h))
+pub leaves_after : (d u : Repeats × Tree) (c : PlainCommand) (p : List Step) (w : Write) → write p w ≡ c → u ≡ (answer_by d (write p w)).0 → Leaves d c u
+leaves_after d u c p w e h = subst (λ (x : PlainCommand). Leaves d x u) e (inr (inr h))

@@ -9,3 +9,4 @@ pub mod Founds
 pub mod Ways
 pub mod Unread
 mod Kept
+mod Lazies

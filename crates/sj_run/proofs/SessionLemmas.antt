@@ -9,33 +9,31 @@ use borrow.Rule.Slice.PartMut.{put_mid}
 use Rattle.std.proofs.lemmas.List.{take_all, take-take, length-drop, length-take-le, drop-drop}
 use Rattle.sj_text_core.specs.Tree.{Tree, IsWithin}
 use Rattle.sj_text_core.specs.Grammar.{Spells}
-use Rattle.sj_text_core.specs.Repeats.{keep_by}
-use Rattle.sj_text_core.specs.declared.repeats.Repeats.{Repeats}
 use Rattle.sj_run.specs.Commands.{PlainCommand}
 use Rattle.sj_run.specs.CommandLines.{AreCommandsOf}
-use Rattle.sj_run.specs.Answers.{answer, replies_of, tree_after}
-use Rattle.sj_run.specs.Repeats.{replies_by, start_by}
+use Rattle.sj_text_core.specs.declared.repeats.Repeats.{Repeats}
+use Rattle.sj_run.specs.Repeats.{answer_by, replies_by, part_after, start_by}
 use Rattle.sj_run.specs.Answered.{AnswersLine, AnswersLines, IsBegunBy, PassesLine, PassesLines}
 use Rattle.sj_run.specs.Replies.{PlainReply}
 use Rattle.sj_run.specs.Shown.{reply_text, shown, shown_all}
-use Rattle.sj_run.specs.Session.{IsServed, IsAnsweredBy, PassesAllBy}
+use Rattle.sj_run.specs.Session.{IsAnsweredBy, PassesAllBy, fault_of}
 use Rattle.sj_run.specs.declared.sessions.Form.{Form}
-use Rattle.sj_run.specs.declared.sessions.Form.TheVariants.{Owned, Borrowed, Lazy}
-use Rattle.sj_run.specs.declared.document.Way.{Way}
 use Rattle.sj_run.specs.declared.sessions.SessionFault.{SessionFault}
 use Rattle.sj_run.specs.declared.sessions.SessionFault.TheVariants.{Refused, OutOfMemory as NoMemory}
+use Rattle.sj_run.specs.declared.sessions.SessionFault.TheVariants as fault
+use Rattle.sj_run.specs.declared.runs.Why.{Why}
+use Rattle.sj_run.specs.declared.runs.Why.TheVariants as why
 use Rattle.sj_text_core.specs.declared.error.ErrorKind.{ErrorKind}
 use Rattle.sj_text_core.specs.declared.error.ErrorKind.TheVariants.{InvalidUtf8, Syntax, LoneSurrogate, Float, NumberTooLarge, TooDeep, OutOfMemory}
 use Rattle.std.proofs.Math.Seq.{take-append_seam}
 use Rattle.sj_run.specs.Lines.{document, lines, after_mark, full_lines, line_text, line_texts, is_empty}
 use Rattle.sj_run.proofs.LineLemmas.{LineAt}
-use Rattle.sj_run.proofs.Firsts.{replies-first}
 
 -- lines answered in turn
-pub answers-none : (t : Tree) (old : List ℕ) → AnswersLines t [] t old old
+pub answers-none : (t : Repeats × Tree) (old : List ℕ) → AnswersLines t [] t old old
 answers-none t old = record { commands = []; are = tt; after = refl; shows = sym (append-nil old) }
 
-pub answers-more : (t u v : Tree) (line : List ℕ) (lines : List (List ℕ)) (old mid new : List ℕ)
+pub answers-more : (t u v : Repeats × Tree) (line : List ℕ) (lines : List (List ℕ)) (old mid new : List ℕ)
     → AnswersLine t line u old mid → AnswersLines u lines v mid new → AnswersLines t (line ∷ lines) v old new
 answers-more t u v line lines old mid new a b =
     let c = a.command in
@@ -43,32 +41,32 @@ answers-more t u v line lines old mid new a b =
     record {
       commands = c ∷ cs;
       are = (a.is, b.are);
-      after = b.after ∙ ap (λ x. tree_after x cs) a.after;
+      after = b.after ∙ ap (λ x. part_after x cs) a.after;
       shows =
-          b.shows ∙ ap (λ x. x ++ shown_all (replies_of u cs)) a.shows ∙ append_assoc old (shown (answer t c).1) (shown_all (replies_of u cs))
-          ∙ ap (λ x. old ++ (shown (answer t c).1 ++ shown_all (replies_of x cs))) a.after
-          ∙ ap (λ x. old ++ x) (sym (flat_map-cons shown (answer t c).1 (replies_of (answer t c).0 cs)));
+          b.shows ∙ ap (λ x. x ++ shown_all (replies_by u cs)) a.shows ∙ append_assoc old (shown (answer_by t c).1) (shown_all (replies_by u cs))
+          ∙ ap (λ x. old ++ (shown (answer_by t c).1 ++ shown_all (replies_by x cs))) a.after
+          ∙ ap (λ x. old ++ x) (sym (flat_map-cons shown (answer_by t c).1 (replies_by (answer_by t c).0 cs)));
     }
 
 shown_length : (r : PlainReply) (rs : List PlainReply) → length (shown_all (r ∷ rs)) ≡ (length (reply_text r) + 1) + length (shown_all rs)
 shown_length r rs = ap length (flat_map-cons shown r rs) ∙ length-append (shown r) (shown_all rs) ∙ ap (λ n. n + length (shown_all rs)) (length-append (reply_text r) (10 ∷ []))
 
 -- where the first reply passes, all do
-pub passes_first : (t : Tree) (line : List ℕ) (lines : List (List ℕ)) (n : ℕ) → PassesLine t line n → PassesLines t (line ∷ lines) n
+pub passes_first : (t : Repeats × Tree) (line : List ℕ) (lines : List (List ℕ)) (n : ℕ) → PassesLine t line n → PassesLines t (line ∷ lines) n
 passes_first t line lines n h [] a = absurd a
-passes_first t line lines n h (c ∷ cs) a = omega (arith, h c a.0, shown_length (answer t c).1 (replies_of (answer t c).0 cs))
+passes_first t line lines n h (c ∷ cs) a = omega (arith, h c a.0, shown_length (answer_by t c).1 (replies_by (answer_by t c).0 cs))
 
-passes_by : (t u : Tree) (c : PlainCommand) (cs : List PlainCommand) (old mid : List ℕ) → u ≡ (answer t c).0 → mid ≡ old ++ shown (answer t c).1
-    → 2 ^ 64 ≤ length mid + length (shown_all (replies_of u cs)) → 2 ^ 64 ≤ length old + length (shown_all (replies_of t (c ∷ cs)))
+passes_by : (t u : Repeats × Tree) (c : PlainCommand) (cs : List PlainCommand) (old mid : List ℕ) → u ≡ (answer_by t c).0 → mid ≡ old ++ shown (answer_by t c).1
+    → 2 ^ 64 ≤ length mid + length (shown_all (replies_by u cs)) → 2 ^ 64 ≤ length old + length (shown_all (replies_by t (c ∷ cs)))
 passes_by t u c cs old mid after shows h =
-    let r = (answer t c).1 in
-    omega (arith, h, ap length shows ∙ length-append old (shown r) ∙ ap (λ n. length old + n) (length-append (reply_text r) (10 ∷ [])), ap (λ x. length (shown_all (replies_of x cs))) after, shown_length r (replies_of (answer t c).0 cs))
+    let r = (answer_by t c).1 in
+    omega (arith, h, ap length shows ∙ length-append old (shown r) ∙ ap (λ n. length old + n) (length-append (reply_text r) (10 ∷ [])), ap (λ x. length (shown_all (replies_by x cs))) after, shown_length r (replies_by (answer_by t c).0 cs))
 
 -- where those behind an answered line pass, all do
-pub passes_more : (t u : Tree) (line : List ℕ) (lines : List (List ℕ)) (old mid : List ℕ) → AnswersLine t line u old mid → PassesLines u lines (length mid) → PassesLines t (line ∷ lines) (length old)
+pub passes_more : (t u : Repeats × Tree) (line : List ℕ) (lines : List (List ℕ)) (old mid : List ℕ) → AnswersLine t line u old mid → PassesLines u lines (length mid) → PassesLines t (line ∷ lines) (length old)
 passes_more t u line lines old mid a h [] e = absurd e
 passes_more t u line lines old mid a h (c ∷ cs) e =
-    subst (λ (x : PlainCommand). 2 ^ 64 ≤ length old + length (shown_all (replies_of t (x ∷ cs)))) (sym (a.only c e.0)) (passes_by t u a.command cs old mid a.after a.shows (h cs e.1))
+    subst (λ (x : PlainCommand). 2 ^ 64 ≤ length old + length (shown_all (replies_by t (x ∷ cs)))) (sym (a.only c e.0)) (passes_by t u a.command cs old mid a.after a.shows (h cs e.1))
 
 -- the texts of lines, by whether the first has one
 texts-first : (l : List ℕ) (ls : List (List ℕ)) (m : List ℕ) → line_text l ≡ m → line_texts (l ∷ ls) ≡ (if not (is_empty m) then m ∷ line_texts ls else line_texts ls)
@@ -130,14 +128,14 @@ text_ahead a b at len n e h =
     }
 
 -- what is answered behind a place is answered in all
-abbrev pub Told : Tree → List (List ℕ) → List ℕ → Tree → List (List ℕ) → List ℕ → Type 0
-Told s all old t ahead out = (u : Tree) (new : List ℕ) → AnswersLines t ahead u out new → AnswersLines s all u old new
+abbrev pub Told : Repeats × Tree → List (List ℕ) → List ℕ → Repeats × Tree → List (List ℕ) → List ℕ → Type 0
+Told s all old t ahead out = (u : Repeats × Tree) (new : List ℕ) → AnswersLines t ahead u out new → AnswersLines s all u old new
 
-pub told-more : (s t v : Tree) (all lines ahead : List (List ℕ)) (line old out mid : List ℕ) → Told s all old t ahead out → ahead ≡ line ∷ lines → AnswersLine t line v out mid → Told s all old v lines mid
+pub told-more : (s t v : Repeats × Tree) (all lines ahead : List (List ℕ)) (line old out mid : List ℕ) → Told s all old t ahead out → ahead ≡ line ∷ lines → AnswersLine t line v out mid → Told s all old v lines mid
 told-more s t v all lines ahead line old out mid told e a =
     λ u new h. told u new (subst (λ (ls : List (List ℕ)). AnswersLines t ls u out new) (sym e) (answers-more t v u line lines out mid new a h))
 
-pub told-passed : (s t : Tree) (all lines ahead : List (List ℕ)) (old out : List ℕ) → Told s all old t ahead out → ahead ≡ lines → Told s all old t lines out
+pub told-passed : (s t : Repeats × Tree) (all lines ahead : List (List ℕ)) (old out : List ℕ) → Told s all old t ahead out → ahead ≡ lines → Told s all old t lines out
 told-passed s t all lines ahead old out told e = λ u new h. told u new (subst (λ (ls : List (List ℕ)). AnswersLines t ls u out new) (sym e) h)
 
 pub line_taken : (a b : List ℕ) (at n : ℕ) → drop at a ≡ drop at b → slice_range a at (at + n) ≡ take n (drop at b)
@@ -158,12 +156,6 @@ written_length a at n line h e =
     let same : length line ≡ k = e ∙ part_length a at n h in
     omega (arith, same, length-append (take at a) (line ++ post), length-append line post, length-take-le at a (omega (arith, h)), length-drop k (drop at a), length-drop at a)
 
--- a served session answers on the tree with the member of each key that counts
-started : (r : Repeats) (f : Form) (w : Way) (t : Tree) (cs : List PlainCommand) → IsServed f w → replies_of (keep_by r t) cs ≡ replies_by (start_by r f t) cs
-started r Owned w t cs h = sym (replies-first (keep_by r t) cs)
-started r Borrowed w t cs h = sym (replies-first (keep_by r t) cs)
-started r Lazy w t cs h = absurd h
-
 -- what is left of bytes that went on, cut to their old length
 pub begun_cut : (old new : List ℕ) → IsBegunBy old new → take (length old) new ≡ old
 begun_cut old new h = ap (λ x. take (length old) x) h.goes_on ∙ take-append_seam old h.rest
@@ -179,19 +171,19 @@ refused_kind NumberTooLarge k r m n e = let f : r ≡ Refused NumberTooLarge = n
 refused_kind TooDeep k r m n e = let f : r ≡ Refused TooDeep = n (λ x. cc) in (λ x. cc, λ x. cc)
 
 -- a session that was answered
-pub session_answered : (r : Repeats) (f : Form) (w : Way) (input part behind : List ℕ) (t u : Tree) (old new : List ℕ)
-    → IsServed f w → part ≡ document input → line_texts (full_lines behind) ≡ lines input → Spells part t → IsWithin t
-    → AnswersLines (keep_by r t) (line_texts (full_lines behind)) u old new → (written : List ℕ) × (new ≡ old ++ written) × IsAnsweredBy r f input written
-session_answered r f w input part behind t u old new served e lines_are s within a = (
-  shown_all (replies_of (keep_by r t) a.commands),
+pub session_answered : (r : Repeats) (f : Form) (input part behind : List ℕ) (t : Tree) (s u : Repeats × Tree) (old new : List ℕ)
+    → s ≡ start_by r f t → part ≡ document input → line_texts (full_lines behind) ≡ lines input → Spells part t → IsWithin t
+    → AnswersLines s (line_texts (full_lines behind)) u old new → (written : List ℕ) × (new ≡ old ++ written) × IsAnsweredBy r f input written
+session_answered r f input part behind t s u old new starts e lines_are spelled within a = (
+  shown_all (replies_by s a.commands),
   a.shows,
   record {
     tree = t;
-    spelled = subst (λ (b : List ℕ). Spells b t) e s;
+    spelled = subst (λ (b : List ℕ). Spells b t) e spelled;
     within = within;
     commands = a.commands;
     lines_are = subst (λ (ls : List (List ℕ)). AreCommandsOf ls a.commands) lines_are a.are;
-    replies = ap (λ rs. shown_all rs) (started r f w t a.commands served);
+    replies = ap (λ x. shown_all (replies_by x a.commands)) starts;
   },
 )
 
@@ -213,11 +205,16 @@ lines_behind input behind at next h within e f =
     ap (λ r. line_texts (full_lines r)) (whole ∙ there) ∙ ap (λ ls. line_texts ls) f
 
 -- a session whose replies pass
-pub session_passes : (r : Repeats) (f : Form) (w : Way) (input part behind : List ℕ) (t : Tree) (n : ℕ)
-    → IsServed f w → part ≡ document input → line_texts (full_lines behind) ≡ lines input → Spells part t → IsWithin t → PassesLines (keep_by r t) (line_texts (full_lines behind)) n → PassesAllBy r f input n
-session_passes r f w input part behind t n served e lines_are s within h = record {
+pub session_passes : (r : Repeats) (f : Form) (input part behind : List ℕ) (t : Tree) (s : Repeats × Tree) (n : ℕ)
+    → s ≡ start_by r f t → part ≡ document input → line_texts (full_lines behind) ≡ lines input → Spells part t → IsWithin t → PassesLines s (line_texts (full_lines behind)) n → PassesAllBy r f input n
+session_passes r f input part behind t s n starts e lines_are spelled within h = record {
   tree = t;
-  spelled = subst (λ (b : List ℕ). Spells b t) e s;
+  spelled = subst (λ (b : List ℕ). Spells b t) e spelled;
   within = within;
-  passes = λ cs are. subst (λ (rs : List PlainReply). 2 ^ 64 ≤ n + length (shown_all rs)) (started r f w t cs served) (h cs (subst (λ (ls : List (List ℕ)). AreCommandsOf ls cs) (sym lines_are) are));
+  passes = λ cs are. subst (λ (rs : List PlainReply). 2 ^ 64 ≤ n + length (shown_all rs)) (ap (λ x. replies_by x cs) starts) (h cs (subst (λ (ls : List (List ℕ)). AreCommandsOf ls cs) (sym lines_are) are));
 }
+
+-- a session is too long where its answers are
+pub why_too_long : (w : Why) → fault_of w ≡ fault.TooLong → w ≡ why.TooLong
+why_too_long why.OutOfMemory e = cc
+why_too_long why.TooLong e = refl

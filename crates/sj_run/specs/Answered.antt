@@ -6,7 +6,7 @@ use Rattle.sj_text_core.specs.Repeats.{keep_by}
 use Rattle.sj_text_core.specs.declared.repeats.Repeats.{Repeats}
 use Rattle.sj_run.specs.Commands.{PlainCommand}
 use Rattle.sj_run.specs.CommandLines.{IsCommandOf, AreCommandsOf}
-use Rattle.sj_run.specs.Answers.{answer, replies_of, tree_after}
+use Rattle.sj_run.specs.Repeats.{answer_by, replies_by, part_after}
 use Rattle.sj_run.specs.Shown.{reply_text, shown, shown_all}
 
 -- a document was read: the bytes spell a tree within the limit, and u is that tree with the member of each key that counts
@@ -21,34 +21,34 @@ pub record IsBegunBy (old new : List ℕ) : Type 0 where
   pub rest : List ℕ
   pub goes_on : new ≡ old ++ rest
 
--- a command was answered: the tree t became u, and the output grew by the text of the reply
-pub record Answers (t : Tree) (c : PlainCommand) (u : Tree) (old new : List ℕ) : Type 0 where
-  pub after : u ≡ (answer t c).0
-  pub shows : new ≡ old ++ reply_text (answer t c).1
+-- a command was answered: the choice and the tree d became u, and the output grew by the text of the reply
+pub record Answers (d : Repeats × Tree) (c : PlainCommand) (u : Repeats × Tree) (old new : List ℕ) : Type 0 where
+  pub after : u ≡ (answer_by d c).0
+  pub shows : new ≡ old ++ reply_text (answer_by d c).1
 
 -- the command of a line was answered, which is its only one
-pub record AnswersLine (t : Tree) (line : List ℕ) (u : Tree) (old new : List ℕ) : Type 0 where
+pub record AnswersLine (d : Repeats × Tree) (line : List ℕ) (u : Repeats × Tree) (old new : List ℕ) : Type 0 where
   pub command : PlainCommand
   pub is : IsCommandOf line command
   pub only : (c : PlainCommand) → IsCommandOf line c → c ≡ command
-  pub after : u ≡ (answer t command).0
-  pub shows : new ≡ old ++ shown (answer t command).1
+  pub after : u ≡ (answer_by d command).0
+  pub shows : new ≡ old ++ shown (answer_by d command).1
 
 -- the commands of lines were answered in turn
-pub record AnswersLines (t : Tree) (texts : List (List ℕ)) (u : Tree) (old new : List ℕ) : Type 0 where
+pub record AnswersLines (d : Repeats × Tree) (texts : List (List ℕ)) (u : Repeats × Tree) (old new : List ℕ) : Type 0 where
   pub commands : List PlainCommand
   pub are : AreCommandsOf texts commands
-  pub after : u ≡ tree_after t commands
-  pub shows : new ≡ old ++ shown_all (replies_of t commands)
+  pub after : u ≡ part_after d commands
+  pub shows : new ≡ old ++ shown_all (replies_by d commands)
 
 -- so many bytes and the reply pass 2^64-1
-abbrev pub PassesOne : Tree → PlainCommand → ℕ → Type 0
-PassesOne t c n = 2 ^ 64 ≤ n + length (reply_text (answer t c).1)
+abbrev pub PassesOne : Repeats × Tree → PlainCommand → ℕ → Type 0
+PassesOne d c n = 2 ^ 64 ≤ n + length (reply_text (answer_by d c).1)
 
 -- the same of the line's command
-abbrev pub PassesLine : Tree → List ℕ → ℕ → Type 0
-PassesLine t line n = (c : PlainCommand) → IsCommandOf line c → PassesOne t c n
+abbrev pub PassesLine : Repeats × Tree → List ℕ → ℕ → Type 0
+PassesLine d line n = (c : PlainCommand) → IsCommandOf line c → PassesOne d c n
 
 -- so many bytes and all replies pass 2^64-1
-abbrev pub PassesLines : Tree → List (List ℕ) → ℕ → Type 0
-PassesLines t texts n = (cs : List PlainCommand) → AreCommandsOf texts cs → 2 ^ 64 ≤ n + length (shown_all (replies_of t cs))
+abbrev pub PassesLines : Repeats × Tree → List (List ℕ) → ℕ → Type 0
+PassesLines d texts n = (cs : List PlainCommand) → AreCommandsOf texts cs → 2 ^ 64 ≤ n + length (shown_all (replies_by d cs))

@@ -45,6 +45,11 @@ abbrev pub replies_by : Repeats × Tree → List PlainCommand → List PlainRepl
 replies_by d [] = []
 replies_by d (c ∷ cs) = (answer_by d c).1 ∷ replies_by (answer_by d c).0 cs
 
+-- the last choice and tree
+abbrev pub part_after : Repeats × Tree → List PlainCommand → Repeats × Tree
+part_after d [] = d
+part_after d (c ∷ cs) = part_after (answer_by d c).0 cs
+
 -- the choice and the tree of a document of the form, as it is read by a choice
 abbrev pub start_by : Repeats → Form → Tree → Repeats × Tree
 start_by c form.Owned t = (First, keep_by c t)

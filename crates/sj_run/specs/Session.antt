@@ -10,6 +10,7 @@ use Rattle.sj_run.specs.Repeats.{replies_by, start_by}
 use Rattle.sj_run.specs.Lines.{document, lines}
 use Rattle.sj_run.specs.Shown.{shown_all}
 use Rattle.sj_run.specs.declared.document.Way.{Way}
+use Rattle.sj_run.specs.declared.document.Way.TheVariants.{ByText, ByKnownKey}
 use Rattle.sj_run.specs.declared.runs.Why.{Why}
 use Rattle.sj_run.specs.declared.runs.Why.TheVariants as why
 use Rattle.sj_run.specs.declared.sessions.Form.{Form}
@@ -21,7 +22,8 @@ use Rattle.sj_run.specs.declared.sessions.SessionFault.TheVariants as fault
 abbrev pub IsServed : Form → Way → Type 0
 IsServed Owned w = ⊤
 IsServed Borrowed w = ⊤
-IsServed Lazy w = ⊥
+IsServed Lazy ByText = ⊤
+IsServed Lazy ByKnownKey = ⊥
 
 -- The document spells a tree within the limit, and written are the replies to the lines' commands on that tree as the form reads it.
 pub record IsAnswered (form : Form) (input written : List ℕ) : Type 0 where

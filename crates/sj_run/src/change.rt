@@ -10,12 +10,14 @@ ghost use Rattle.sj_run.specs.Meant.{step_meant};
 
 mod edit;
 mod insert;
+mod lazy;
 mod told;
 
 use crate::command::Step;
 use crate::document::Way;
 use edit::edit_at;
 pub(crate) use insert::Inserts;
+pub(crate) use lazy::change_lazy;
 use sj_document::Document;
 use sj_object::KeyText;
 use sj_text_core::AccessError;

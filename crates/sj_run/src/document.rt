@@ -3,13 +3,18 @@
 ghost use Rattle.std.specs.Prelude.{◌≡◌, ◌↔◌, IfOk, OnOk, OnErr, IsErrOf, string_bytes};
 ghost use Rattle.std.specs.Cow.{cow_str_bytes};
 ghost use Rattle.sj_text_core.specs.Tree.{Tree};
-ghost use Rattle.sj_run.specs.Answers.{answer, IsLong};
+ghost use Rattle.sj_text_core.specs.declared.repeats.Repeats.{Repeats};
+ghost use Rattle.sj_run.specs.Answers.{IsLong};
 ghost use Rattle.sj_run.specs.Meant.{command_meant, reply_meant};
+ghost use Rattle.sj_run.specs.Repeats.{answer_by};
 ghost use Rattle.sj_run.specs.Run.{Leaves};
+
+mod lazy;
 
 use crate::change::{change_at, owned_changed, reply_of};
 use crate::command::{Asked, Command, taken_apart};
-use crate::find::find;
+pub use crate::document::lazy::LazyDoc;
+use crate::find::reply_at;
 use crate::reply::Reply;
 use crate::runs::Why;
 use crate::texts::borrowed_write;
@@ -28,17 +33,17 @@ pub enum Way {
 
 /// A document that answers commands.
 pub trait Document {
-    /// The tree that it means.
-    ghost tree: { Self → Tree };
+    /// Which member of several with one key counts, and the tree that it means.
+    ghost part: { Self → Repeats × Tree };
 
     /// Answers a command as its tree does. `TooLong` is answered exactly where the reply is a print
     /// past `usize::MAX` bytes. Refused, a read leaves the tree as it was; a write leaves it so, or
-    /// with the first member of each key alone, or as the command makes it.
+    /// with the member of each key that counts alone, or as the command makes it.
     fn apply(&mut self, alloc: Global, command: Command) -> Result<Reply, Why>
-        ensures reply { IfOk result (λ reply. reply_meant reply ≡ (answer (tree self.old) (command_meant command)).1) }
-        ensures after { OnOk result (tree self.new ≡ (answer (tree self.old) (command_meant command)).0) }
-        ensures refused { OnErr result (Leaves (tree self.old) (command_meant command) (tree self.new)) }
-        ensures too_long { IsErrOf result Why.TooLong ↔ IsLong (answer (tree self.old) (command_meant command)).1 };
+        ensures reply { IfOk result (λ reply. reply_meant reply ≡ (answer_by (part self.old) (command_meant command)).1) }
+        ensures after { OnOk result (part self.new ≡ (answer_by (part self.old) (command_meant command)).0) }
+        ensures refused { OnErr result (Leaves (part self.old) (command_meant command) (part self.new)) }
+        ensures too_long { IsErrOf result Why.TooLong ↔ IsLong (answer_by (part self.old) (command_meant command)).1 };
 }
 
 /// A document that owns its texts.
@@ -53,12 +58,13 @@ pub struct OwnedDoc {
 impl Document for OwnedDoc {
     ghost use Rattle.std.specs.Prelude.{string_bytes};
     ghost use Rattle.sj_document.specs.Document.{tree as tree_of};
+    ghost use Rattle.sj_text_core.specs.declared.repeats.Repeats.TheVariants.{First};
 
-    ghost tree = { λ d. tree_of string_bytes d.value };
+    ghost part = { λ d. (First, tree_of string_bytes d.value) };
 
     fn apply(&mut self, alloc: Global, command: Command) -> Result<Reply, Why> {
         match taken_apart(command) {
-            Asked::Read(path, read) => find(&self.value, self.way, &path, &read).into_reply(alloc),
+            Asked::Read(path, read) => reply_at(alloc, &self.value, self.way, &path, &read),
             Asked::Write(path, write) => {
                 Ok(reply_of(change_at(&mut self.value, self.way, &path, write)?))
             }
@@ -79,12 +85,13 @@ pub struct BorrowedDoc<'v> {
 impl<'v> Document for BorrowedDoc<'v> {
     ghost use Rattle.std.specs.Cow.{cow_str_bytes};
     ghost use Rattle.sj_document.specs.Document.{tree as tree_of};
+    ghost use Rattle.sj_text_core.specs.declared.repeats.Repeats.TheVariants.{First};
 
-    ghost tree = { λ d. tree_of cow_str_bytes d.value };
+    ghost part = { λ d. (First, tree_of cow_str_bytes d.value) };
 
     fn apply(&mut self, alloc: Global, command: Command) -> Result<Reply, Why> {
         match taken_apart(command) {
-            Asked::Read(path, read) => find(&self.value, self.way, &path, &read).into_reply(alloc),
+            Asked::Read(path, read) => reply_at(alloc, &self.value, self.way, &path, &read),
             Asked::Write(path, write) => {
                 let write = borrowed_write(alloc, write)?;
                 let changed = change_at(&mut self.value, self.way, &path, write)?;

@@ -1,51 +1,52 @@
 //! Reads at a path.
 
-ghost use Rattle.std.specs.Prelude.{◌≡◌, map, option_map};
-ghost use Rattle.sj_text_core.specs.Paths.{step_into, tree_at};
-ghost use Rattle.sj_document.specs.Document.{tree};
-ghost use Rattle.sj_run.specs.Answers.{is_in, len_reply, reply_to, read_found};
+ghost use Rattle.std.specs.Prelude.{◌≡◌, ◌↔◌, ◌+◌, ◌^◌, ◌≤◌, map, option_map, length, IfOk, IfSome, OnOk, OnErr, IsErrOf};
+ghost use Rattle.sj_run.specs.Answers.{is_in, IsLong};
+ghost use Rattle.sj_run.specs.Answered.{Answers, IsBegunBy, PassesOne};
 ghost use Rattle.sj_run.specs.Asked.{read_meant};
+ghost use Rattle.sj_run.specs.Commands as command;
 ghost use Rattle.sj_run.specs.Found.{found_meant};
-ghost use Rattle.sj_run.specs.Meant.{step_meant, width_meant};
+ghost use Rattle.sj_run.specs.Meant.{reply_meant, step_meant, width_meant};
+ghost use Rattle.sj_run.specs.Repeats.{answer_by, reply_to_by, step_into_by, tree_at_by};
 
 mod found;
+mod place;
 
 use crate::command::{Read, Step, Width};
 use crate::document::Way;
-use crate::keys::member;
-pub(crate) use found::Found;
-use sj_document::Document;
-use sj_object::KeyText;
+use crate::reply::Reply;
+use crate::runs::Why;
+use found::Found;
+pub(crate) use place::Place;
 use sj_text_core::{TypedValue, ValueAsScalar};
+use std::alloc::Global;
 
 /// What one step finds.
-fn follow<'v, T: KeyText>(value: &'v Document<T>, way: Way, step: &Step) -> Option<&'v Document<T>>
-    ensures { option_map (λ v. tree T.text_of v.now) result ≡ step_into (step_meant step.now) (tree T.text_of value.now) }
+fn follow<P: Place>(place: &P, way: Way, step: &Step) -> Option<P>
+    ensures value { option_map P.tree_of result ≡ step_into_by (P.choice place.now) (step_meant step.now) (P.tree_of place.now) }
+    ensures choice { IfSome result (λ p. P.choice p ≡ P.choice place.now) }
 {
     match step {
-        Step::Key(key) => member(value, way, key.as_str()),
-        Step::Idx(place) => value.get_idx(*place),
+        Step::Key(key) => place.member(way, key.as_str()),
+        Step::Idx(index) => place.item(*index),
     }
 }
 
 /// What stands at the path; None where a step finds nothing.
-fn read_at<'v, T: KeyText>(
-    value: &'v Document<T>,
-    way: Way,
-    path: &[Step],
-) -> Option<&'v Document<T>>
-    ensures { option_map (λ v. tree T.text_of v.now) result ≡ tree_at (map step_meant path.now) (tree T.text_of value.now) }
+fn place_at<P: Place>(place: P, way: Way, path: &[Step]) -> Option<P>
+    ensures value { option_map P.tree_of result ≡ tree_at_by (P.choice place) (map step_meant path.now) (P.tree_of place) }
+    ensures choice { IfSome result (λ p. P.choice p ≡ P.choice place) }
 {
-    let mut at = value;
+    let mut at = place;
     for step in path {
-        at = follow(at, way, step)?;
+        at = follow(&at, way, step)?;
     }
     Some(at)
 }
 
 /// Whether the value is a whole number in the type's range.
-fn fits<T: KeyText>(value: &Document<T>, width: Width) -> bool
-    ensures { result ≡ is_in (width_meant width) (tree T.text_of value.now) }
+fn fits<V: ValueAsScalar>(value: &V, width: Width) -> bool
+    ensures { result ≡ is_in (width_meant width) (V.tree value.now) }
 {
     match width {
         Width::I8 => value.is_i8(),
@@ -62,49 +63,59 @@ fn fits<T: KeyText>(value: &Document<T>, width: Width) -> bool
     }
 }
 
-fn length<T: KeyText>(value: &Document<T>) -> Found<'_, T>
-    ensures { found_meant T.text_of result ≡ len_reply (tree T.text_of value.now) }
-{
-    match value {
-        Document::Array(items) => Found::Count(items.len()),
-        Document::Object(members) => Found::Count(members.len()),
-        _ => Found::NoLength,
-    }
-}
-
 /// What is read of a value.
-fn read_value<'v, T: KeyText>(value: &'v Document<T>, way: Way, read: &Read) -> Found<'v, T>
-    ensures { found_meant T.text_of result ≡ reply_to (read_meant read.now) (tree T.text_of value.now) }
+fn read_value<'v, P: Place>(place: &'v P, way: Way, read: &Read) -> Found<'v, P>
+    ensures { found_meant P.tree_of result ≡ reply_to_by (P.choice place.now) (read_meant read.now) (P.tree_of place.now) }
 {
     match read {
-        Read::Kind => Found::Kind(value.value_type()),
-        Read::Fits(width) => Found::Truth(fits(value, *width)),
-        Read::Str => match value.as_str() {
+        Read::Kind => Found::Kind(place.value().value_type()),
+        Read::Fits(width) => Found::Truth(fits(place.value(), *width)),
+        Read::Str => match place.value().as_str() {
             Some(text) => Found::Text(text),
             None => Found::NotAString,
         },
-        Read::Len => length(value),
-        Read::Keys => match value.as_object() {
-            Some(members) => Found::Keys(members),
-            None => Found::NotAnObject,
+        Read::Len => match place.len() {
+            Some(count) => Found::Count(count),
+            None => Found::NoLength,
         },
-        Read::Has(key) => Found::Truth(member(value, way, key.as_str()).is_some()),
-        Read::Encode => Found::Print(value),
-        Read::EncodePp => Found::Pretty(value),
+        Read::Keys => Found::Keys(place),
+        Read::Has(key) => Found::Truth(place.member(way, key.as_str()).is_some()),
+        Read::Encode => Found::Print(place),
+        Read::EncodePp => Found::Pretty(place),
     }
 }
 
-/// What is read of the value at a path.
-pub(crate) fn find<'v, T: KeyText>(
-    value: &'v Document<T>,
+/// The reply to a read at a path.
+pub(crate) fn reply_at<P: Place>(
+    alloc: Global,
+    place: P,
     way: Way,
     path: &[Step],
     read: &Read,
-) -> Found<'v, T>
-    ensures { found_meant T.text_of result ≡ read_found (tree_at (map step_meant path.now) (tree T.text_of value.now)) (read_meant read.now) }
+) -> Result<Reply, Why>
+    ensures ok { IfOk result (λ reply. reply_meant reply ≡ (answer_by (P.choice place, P.tree_of place) (command.read (map step_meant path.now) (read_meant read.now))).1) }
+    ensures too_long { IsErrOf result Why.TooLong ↔ IsLong (answer_by (P.choice place, P.tree_of place) (command.read (map step_meant path.now) (read_meant read.now))).1 }
 {
-    match read_at(value, way, path) {
-        Some(at) => read_value(at, way, read),
-        None => Found::Missing,
+    match place_at(place, way, path) {
+        Some(at) => read_value(&at, way, read).into_reply(alloc),
+        None => Ok(Reply::Missing),
+    }
+}
+
+/// Appends the text of the reply to a read at a path. Nothing is copied first.
+pub(crate) fn write_at<P: Place>(
+    place: P,
+    way: Way,
+    path: &[Step],
+    read: &Read,
+    out: &mut Vec<u8>,
+) -> Result<(), Why>
+    ensures ok { OnOk result (Answers (P.choice place, P.tree_of place) (command.read (map step_meant path.now) (read_meant read.now)) (P.choice place, P.tree_of place) out.old.items out.new.items) }
+    ensures err { OnErr result (IsBegunBy out.old.items out.new.items) }
+    ensures too_long { IsErrOf result Why.TooLong → PassesOne (P.choice place, P.tree_of place) (command.read (map step_meant path.now) (read_meant read.now)) (length out.old.items) }
+{
+    match place_at(place, way, path) {
+        Some(at) => read_value(&at, way, read).write(out),
+        None => Ok(out.extend_from_slice(b"missing")?),
     }
 }

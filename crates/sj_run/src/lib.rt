@@ -17,7 +17,7 @@ mod tests;
 mod texts;
 
 pub use command::{Command, Step, Width};
-pub use document::{BorrowedDoc, Document, OwnedDoc, Way};
+pub use document::{BorrowedDoc, Document, LazyDoc, OwnedDoc, Way};
 pub use reply::Reply;
 pub use runs::{RunFault, Why, run};
 pub use sessions::{Form, SessionFault, session, session_repeats};

@@ -1,7 +1,7 @@
 //! Runs of commands.
 
 ghost use Rattle.std.specs.Prelude.{◌≡◌, IfOk, IfErr, OnOk, map};
-ghost use Rattle.sj_run.specs.Answers.{replies_of, tree_after};
+ghost use Rattle.sj_run.specs.Repeats.{replies_by, part_after};
 ghost use Rattle.sj_run.specs.Meant.{command_meant, reply_meant};
 ghost use Rattle.sj_run.specs.Run.{Faults};
 
@@ -76,9 +76,9 @@ pub fn run<D: Document>(
     document: &mut D,
     commands: Vec<Command>,
 ) -> Result<Vec<Reply>, RunFault>
-    ensures replies { IfOk result (λ replies. map reply_meant replies.items ≡ replies_of (D.tree document.old) (map command_meant commands.items)) }
-    ensures after { OnOk result (D.tree document.new ≡ tree_after (D.tree document.old) (map command_meant commands.items)) }
-    ensures fault { IfErr result (λ fault. Faults (D.tree document.old) (map command_meant commands.items) (map reply_meant fault.done.items) fault.why (D.tree document.new)) }
+    ensures replies { IfOk result (λ replies. map reply_meant replies.items ≡ replies_by (D.part document.old) (map command_meant commands.items)) }
+    ensures after { OnOk result (D.part document.new ≡ part_after (D.part document.old) (map command_meant commands.items)) }
+    ensures fault { IfErr result (λ fault. Faults (D.part document.old) (map command_meant commands.items) (map reply_meant fault.done.items) fault.why (D.part document.new)) }
 {
     let mut done = Vec::new(alloc);
     for command in commands {

@@ -1,19 +1,22 @@
 //! Sessions over bytes.
 
 ghost use Rattle.std.specs.Prelude.{◌≡◌, ◌≢◌, ◌↔◌, List, ℕ, ◌++◌, IfOk, OnOk, OnErr, IsErrOf, IsUtf8, Ok, Err, length};
-ghost use Rattle.sj_text_core.specs.Grammar.{IsReadable};
+ghost use Rattle.sj_text_core.specs.Grammar.{IsReadable, Spells};
+ghost use Rattle.sj_text_core.specs.Tree.{IsWithin};
 ghost use Rattle.sj_run.specs.Lines.{document as document_of};
 ghost use Rattle.sj_run.specs.Answered.{ReadsTree};
 ghost use Rattle.sj_run.specs.Session.{IsServed, IsAnswered, IsAnsweredBy, PassesAll, PassesAllBy};
 
 mod answer;
 
-use crate::document::{BorrowedDoc, OwnedDoc, Way};
+use crate::document::{BorrowedDoc, LazyDoc, OwnedDoc, Way};
 use crate::lines::cut_at_mark;
 use crate::runs::Why;
 use crate::sessions::answer::answer_all;
 use sj_document::{BorrowedValue, OwnedValue};
+use sj_lazy::Value;
 use sj_object::{Builder, KeyOf, deserialize_repeats};
+use sj_tape::{Tape, to_tape};
 use sj_text_core::{ErrorKind, Repeats};
 use std::alloc::{AllocError, Global};
 use std::borrow::CowStr;
@@ -34,13 +37,13 @@ impl Form {
     ghost use Rattle.std.specs.Prelude.{◌↔◌, IsTrue};
     ghost use Rattle.sj_run.specs.Session.{IsServed};
 
-    /// Whether a session serves the form in this way: today owned and borrowed documents, in both.
+    /// Whether a session serves the form in this way: each by text, and all but lazy ones by known key.
     pub fn is_served(self, way: Way) -> bool
         ensures { IsTrue result ↔ IsServed self way }
     {
         match (self, way) {
-            (Form::Lazy, Way::ByText | Way::ByKnownKey) => false,
-            (Form::Owned | Form::Borrowed, _) => true,
+            (Form::Lazy, Way::ByKnownKey) => false,
+            (Form::Owned | Form::Borrowed, _) | (Form::Lazy, Way::ByText) => true,
         }
     }
 }
@@ -117,12 +120,28 @@ fn read_document<'v, V: Builder<'v, Key>, Key: KeyOf<'v>>(
     }
 }
 
+/// Reads a session's document to a tape.
+fn read_tape<'i>(alloc: Global, text: &'i mut [u8]) -> Result<Tape<'i>, SessionFault>
+    ensures spelled { IfOk result (λ t. Spells text.old t) }
+    ensures within { IfOk result (λ t. IsWithin t) }
+    ensures refused { (k : ErrorKind) → result ≡ Err (SessionFault.Refused k) → (k ≢ ErrorKind.OutOfMemory) × (¬ (IsReadable text.old)) }
+    ensures utf8 { IsErrOf result (SessionFault.Refused ErrorKind.InvalidUtf8) ↔ ¬ (IsUtf8 text.old) }
+    ensures usage { result ≢ Err SessionFault.Usage }
+    ensures too_long { result ≢ Err SessionFault.TooLong }
+{
+    match to_tape(alloc, text) {
+        Ok(tape) => Ok(tape),
+        Err(why) => Err(refused(why)),
+    }
+}
+
 /// Reads the document of the input, answers the command lines behind its first line `---` in turn,
 /// and appends each printed reply with a line feed to `out`.
 ///
-/// Today owned and borrowed documents are served, in both ways. Refused as `Usage` for lazy ones, as `Refused` where the document can't be read, as `OutOfMemory` where memory was
-/// refused, and as `TooLong` only where `out` with all replies would pass `usize::MAX` bytes. On a
-/// fault `out` is as it was, and of the input's bytes nothing is said.
+/// A lazy document is built at the first write, so a session that only reads builds none. Refused
+/// as `Usage` for lazy documents by known key, as `Refused` where the document can't be read, as
+/// `OutOfMemory` where memory was refused, and as `TooLong` only where `out` with all replies would
+/// pass `usize::MAX` bytes. On a fault `out` is as it was, and of the input's bytes nothing is said.
 pub fn session(
     alloc: Global,
     form: Form,
@@ -172,7 +191,11 @@ pub fn session_repeats(
             let value = read_document::<BorrowedValue<'_>, CowStr<'_>>(alloc, text, repeats)?;
             answer_all(alloc, &mut BorrowedDoc { way, value }, lines, out)?;
         }
-        Form::Lazy => return Err(SessionFault::Usage),
+        Form::Lazy => {
+            let tape = read_tape(alloc, text)?;
+            let value = Value::from_tape(tape.as_value_repeats(repeats));
+            answer_all(alloc, &mut LazyDoc { value }, lines, out)?;
+        }
     }
     Ok(())
 }

@@ -9,12 +9,21 @@ use std::alloc::Global;
 use std::process::Abort;
 use std::test::Fail;
 
-/// The forms and ways that are served.
-const SERVED: [(Form, Way); 4] = [
+/// The forms and ways that keep one member of each key as read.
+const KEPT: [(Form, Way); 4] = [
     (Form::Owned, Way::ByText),
     (Form::Owned, Way::ByKnownKey),
     (Form::Borrowed, Way::ByText),
     (Form::Borrowed, Way::ByKnownKey),
+];
+
+/// Those that are served.
+const SERVED: [(Form, Way); 5] = [
+    (Form::Owned, Way::ByText),
+    (Form::Owned, Way::ByKnownKey),
+    (Form::Borrowed, Way::ByText),
+    (Form::Borrowed, Way::ByKnownKey),
+    (Form::Lazy, Way::ByText),
 ];
 
 /// What a session answers, and what `out` has then, which held `> ` before.
@@ -30,14 +39,25 @@ fn answered(
     Ok((answer, String::from_utf8(out)?))
 }
 
-/// Every form answers so in each way.
-fn check(rt: &impl Abort, alloc: Global, input: &str, want: &str) -> Result<(), Fail> {
-    for (form, way) in SERVED {
-        let (answer, out) = answered(alloc, form, way, input.as_bytes())?;
+/// These forms and ways answer so.
+fn check_in(
+    rt: &impl Abort,
+    alloc: Global,
+    served: &[(Form, Way)],
+    input: &str,
+    want: &str,
+) -> Result<(), Fail> {
+    for (form, way) in served {
+        let (answer, out) = answered(alloc, *form, *way, input.as_bytes())?;
         assert_eq!(rt; answer, Ok(()), "{form:?} {way:?} on {input:?}");
         assert_eq!(rt; out.as_str(), want, "{form:?} {way:?} on {input:?}");
     }
     Ok(())
+}
+
+/// Every form answers so in each way.
+fn check(rt: &impl Abort, alloc: Global, input: &str, want: &str) -> Result<(), Fail> {
+    check_in(rt, alloc, &SERVED, input, want)
 }
 
 /// The text is refused, alone and with a command behind it, and `out` stays.
@@ -99,10 +119,10 @@ fn answers(rt: HostRuntime) -> Result<(), Fail> {
         ("[1]\r\n---\r\n[\"encode\",[]]\r\n", "> [1]\n"),
         ("[1]\n---\n\n\r\n[\"encode\",[]]\n\n", "> [1]\n"),
         ("[1]\n---\n---\n", "> bad command\n"),
-        // a text with repeats, and a write of the wrong kind
+        // reads and writes of members
         (
-            "{\"a\":1,\"a\":2}\n---\n[\"len\",[]]\n[\"pop\",[]]\n[\"encode\",[]]",
-            "> 1\nnot an array\n{\"a\":1}\n",
+            "{\"key\": \"value\", \"snot\": 42}\n---\n[\"str\",[\"key\"]]\n[\"insert\",[],\"new\",42]\n[\"keys\",[]]\n[\"fits\",[\"snot\"],\"i8\"]\n[\"remove\",[],\"snot\"]\n[\"encode\",[]]",
+            "> \"value\"\nnone\n[\"key\",\"snot\",\"new\"]\ntrue\n42\n{\"key\":\"value\",\"new\":42}\n",
         ),
         // a pretty print
         (
@@ -137,8 +157,52 @@ fn keeps_the_first_of_many(rt: HostRuntime) -> Result<(), Fail> {
     let input = format!(in rt.alloc(); "{{{members},\"k00\":99}}\n---\n[\"encode\",[]]\n")?;
     let want = format!(in rt.alloc(); "> {{{members}}}\n")?;
     // the same text twice in one process
-    check(&rt, rt.alloc(), input.as_str(), want.as_str())?;
-    check(&rt, rt.alloc(), input.as_str(), want.as_str())?;
+    check_in(&rt, rt.alloc(), &KEPT, input.as_str(), want.as_str())?;
+    check_in(&rt, rt.alloc(), &KEPT, input.as_str(), want.as_str())
+}
+
+/// A lazy document shows repeats until its first write, also where that is refused or finds nothing.
+#[test]
+fn repeats_are_shown_until_a_write(rt: HostRuntime) -> Result<(), Fail> {
+    let (object, array) = ("{\"a\":1,\"a\":2}", "[{\"a\":{\"b\":0,\"b\":1},\"a\":2}]");
+    let table = [
+        (
+            object,
+            "[\"len\",[]]\n[\"pop\",[]]\n[\"encode\",[]]",
+            "> 2\nnot an array\n{\"a\":1}\n",
+            "> 1\nnot an array\n{\"a\":1}\n",
+        ),
+        (
+            object,
+            "[\"keys\",[]]\n[\"pop\",[3]]\n[\"keys\",[]]",
+            "> [\"a\",\"a\"]\nmissing\n[\"a\"]\n",
+            "> [\"a\"]\nmissing\n[\"a\"]\n",
+        ),
+        (
+            object,
+            "[\"keys\",[\"b\"]]\n[\"keys\",[\"a\"]]\n[\"encode\",[]]",
+            "> missing\nnot an object\n{\"a\":1,\"a\":2}\n",
+            "> missing\nnot an object\n{\"a\":1}\n",
+        ),
+        (
+            object,
+            "[\"remove\",[],\"a\"]\n[\"has\",[],\"a\"]\n[\"len\",[]]",
+            "> 1\nfalse\n0\n",
+            "> 1\nfalse\n0\n",
+        ),
+        (
+            array,
+            "[\"encode\",[0,\"a\"]]\n[\"len\",[0]]\n[\"put\",[0,\"a\",\"b\"],7]\n[\"encode\",[]]",
+            "> {\"b\":0,\"b\":1}\n2\n0\n[{\"a\":{\"b\":7}}]\n",
+            "> {\"b\":0}\n1\n0\n[{\"a\":{\"b\":7}}]\n",
+        ),
+    ];
+    for (text, lines, lazy, kept) in table {
+        let input = format!(in rt.alloc(); "{text}\n---\n{lines}")?;
+        let lazy_form = [(Form::Lazy, Way::ByText)];
+        check_in(&rt, rt.alloc(), &lazy_form, input.as_str(), lazy)?;
+        check_in(&rt, rt.alloc(), &KEPT, input.as_str(), kept)?;
+    }
     Ok(())
 }
 

@@ -1,37 +1,34 @@
 //! What a read finds, lent by the document until it is copied into a reply or written out.
 
-ghost use Rattle.std.specs.Prelude.{◌≡◌, ◌↔◌, ◌+◌, ◌^◌, ◌≤◌, ◌++◌, pos, map, length, IfOk, OnOk, OnErr, IsErrOf, string_bytes};
+ghost use Rattle.std.specs.Prelude.{◌≡◌, ◌↔◌, ◌+◌, ◌^◌, ◌≤◌, ◌++◌, pos, map, option_map, length, IfOk, OnOk, OnErr, IsErrOf, string_bytes};
 ghost use Rattle.std.specs.Fmt.{signed_decimal};
 ghost use Rattle.sj_text_core.specs.Print.{quoted};
-ghost use Rattle.sj_document.specs.Document.{tree};
-ghost use Rattle.sj_object.specs.Members.{entry_members};
+ghost use Rattle.sj_text_core.specs.Reads.{as_members};
+ghost use Rattle.sj_text_core.specs.Tree.{keys_of, members_from};
 ghost use Rattle.sj_run.specs.Answered.{IsBegunBy};
-ghost use Rattle.sj_text_core.specs.Tree.{keys_of};
-ghost use Rattle.sj_run.specs.Answers.{IsLong};
+ghost use Rattle.sj_run.specs.Answers.{IsLong, keys_reply};
 ghost use Rattle.sj_run.specs.Found.{found_meant};
 ghost use Rattle.sj_run.specs.Meant.{reply_meant};
 ghost use Rattle.sj_run.specs.Shown.{kind_name, truth_name, text_array, reply_text};
 
+use super::Place;
 use crate::reply::Reply;
 use crate::runs::Why;
-use sj_document::{Document, Object};
-use sj_object::KeyText;
-use sj_print::{BaseGenerator, WriterGenerator};
+use sj_print::{BaseGenerator, Level, WriterGenerator};
 use sj_text_core::{StaticNode, ValueType, Writable};
 use std::alloc::{AllocError, Global};
 
 /// What a read finds.
 #[derive(Drop)]
-pub(crate) enum Found<'v, T: KeyText> {
+pub(crate) enum Found<'v, P> {
     Kind(ValueType),
     Truth(bool),
     Text(&'v str),
     Count(usize),
-    Keys(&'v Object<T>),
-    Print(&'v Document<T>),
-    Pretty(&'v Document<T>),
-    Missing,
-    NotAnObject,
+    /// The keys, where it is an object.
+    Keys(&'v P),
+    Print(&'v P),
+    Pretty(&'v P),
     NotAString,
     NoLength,
 }
@@ -60,44 +57,75 @@ fn truth_text(truth: bool) -> &'static str
     if truth { "true" } else { "false" }
 }
 
-/// The keys of an object, copied.
-fn keys_copied<T: KeyText>(alloc: Global, members: &Object<T>) -> Result<Vec<String>, AllocError>
-    ensures { IfOk result (λ keys. map string_bytes keys.items ≡ keys_of (entry_members (tree T.text_of) members.now.entries)) }
+/// Keys, copied, with room at once for so many.
+fn keys_copied<P: Place>(
+    alloc: Global,
+    mut members: P::Members,
+    count: usize,
+) -> Result<Vec<String>, AllocError>
+    ensures { IfOk result (λ keys. map string_bytes keys.items ≡ keys_of (members_from (P.members_left members))) }
 {
-    let mut copies = Vec::with_capacity(alloc, members.len())?;
-    for (key, _) in members.iter() {
-        copies.push(String::from_str(alloc, key.text())?)?;
+    let mut copies = Vec::with_capacity(alloc, count)?;
+    while let Some((key, _)) = P::next_member(&mut members) {
+        copies.push(String::from_str(alloc, P::key_text(&key))?)?;
     }
     Ok(copies)
 }
 
-fn put_keys<G: BaseGenerator, T: KeyText>(
-    members: &Object<T>,
+fn put_keys<P: Place, G: BaseGenerator>(
+    mut members: P::Members,
     generator: &mut G,
 ) -> Result<(), AllocError>
-    ensures ok { OnOk result (G.written generator.new ≡ G.written generator.old ++ text_array (keys_of (entry_members (tree T.text_of) members.now.entries))) }
+    ensures ok { OnOk result (G.written generator.new ≡ G.written generator.old ++ text_array (keys_of (members_from (P.members_left members)))) }
     ensures begun { IsBegunBy (G.written generator.old) (G.written generator.new) }
     ensures sink { G.sink generator.new ≡ G.sink generator.old }
 {
-    let mut rest = members.iter();
-    let Some((first, _)) = rest.next() else {
+    let Some((first, _)) = P::next_member(&mut members) else {
         return generator.write("[]");
     };
     generator.write("[")?;
-    generator.write_string(first.text())?;
-    for (key, _) in rest {
+    generator.write_string(P::key_text(&first))?;
+    while let Some((key, _)) = P::next_member(&mut members) {
         generator.write(",")?;
-        generator.write_string(key.text())?;
+        generator.write_string(P::key_text(&key))?;
     }
     generator.write("]")
 }
 
+/// The members, where it is an object.
+fn members_of<P: Place>(place: &P) -> Option<P::Members>
+    ensures { option_map (λ members. members_from (P.members_left members)) result ≡ as_members (P.tree_of place.now) }
+{
+    match place.level() {
+        Level::Object(members) => Some(members),
+        _ => None,
+    }
+}
+
+/// The reply that has the keys of an object.
+fn reply_of_keys<P: Place>(alloc: Global, place: &P) -> Result<Reply, AllocError>
+    ensures { IfOk result (λ reply. reply_meant reply ≡ keys_reply (as_members (P.tree_of place.now))) }
+{
+    match members_of(place) {
+        Some(members) => {
+            let count = place.len().unwrap_or(0);
+            Ok(Reply::Keys(keys_copied::<P>(alloc, members, count)?))
+        }
+        None => Ok(Reply::NotAnObject),
+    }
+}
+
 /// Appends the keys of an object as a compact array of texts.
-fn write_keys<T: KeyText>(members: &Object<T>, out: &mut Vec<u8>) -> Result<(), AllocError>
-    ensures ok { OnOk result (out.new.items ≡ out.old.items ++ text_array (keys_of (entry_members (tree T.text_of) members.now.entries))) }
+fn write_keys<P: Place>(place: &P, out: &mut Vec<u8>) -> Result<(), AllocError>
+    ensures ok { OnOk result (out.new.items ≡ out.old.items ++ reply_text (keys_reply (as_members (P.tree_of place.now)))) }
     ensures err { OnErr result (IsBegunBy out.old.items out.new.items) }
 {
-    put_keys(members, &mut WriterGenerator::new(out))
+    match members_of(place) {
+        Some(members) => {
+            put_keys::<P, WriterGenerator<'_>>(members, &mut WriterGenerator::new(out))
+        }
+        None => out.extend_from_slice(b"not an object"),
+    }
 }
 
 /// Appends a text between quotes, with escapes.
@@ -116,22 +144,20 @@ fn write_count(count: usize, out: &mut Vec<u8>) -> Result<(), AllocError>
     WriterGenerator::new(out).write_static(StaticNode::U64(count as u64))
 }
 
-impl<'v, T: KeyText> Found<'v, T> {
+impl<'v, P: Place> Found<'v, P> {
     /// The reply, with copies of what it holds.
     pub(crate) fn into_reply(self, alloc: Global) -> Result<Reply, Why>
-        ensures ok { IfOk result (λ reply. reply_meant reply ≡ found_meant T.text_of self.entry) }
-        ensures too_long { IsErrOf result Why.TooLong ↔ IsLong (found_meant T.text_of self.entry) }
+        ensures ok { IfOk result (λ reply. reply_meant reply ≡ found_meant P.tree_of self.entry) }
+        ensures too_long { IsErrOf result Why.TooLong ↔ IsLong (found_meant P.tree_of self.entry) }
     {
         match self {
             Found::Kind(kind) => Ok(Reply::Kind(kind)),
             Found::Truth(truth) => Ok(Reply::Truth(truth)),
             Found::Text(text) => Ok(Reply::Text(String::from_str(alloc, text)?)),
             Found::Count(count) => Ok(Reply::Count(count)),
-            Found::Keys(members) => Ok(Reply::Keys(keys_copied(alloc, members)?)),
-            Found::Print(value) => Ok(Reply::Printed(value.encode(alloc)?)),
-            Found::Pretty(value) => Ok(Reply::Printed(value.encode_pp(alloc)?)),
-            Found::Missing => Ok(Reply::Missing),
-            Found::NotAnObject => Ok(Reply::NotAnObject),
+            Found::Keys(place) => Ok(reply_of_keys(alloc, place)?),
+            Found::Print(place) => Ok(Reply::Printed(place.value().encode(alloc)?)),
+            Found::Pretty(place) => Ok(Reply::Printed(place.value().encode_pp(alloc)?)),
             Found::NotAString => Ok(Reply::NotAString),
             Found::NoLength => Ok(Reply::NoLength),
         }
@@ -139,20 +165,18 @@ impl<'v, T: KeyText> Found<'v, T> {
 
     /// Appends the text of the reply.
     pub(crate) fn write(self, out: &mut Vec<u8>) -> Result<(), Why>
-        ensures ok { OnOk result (out.new.items ≡ out.old.items ++ reply_text (found_meant T.text_of self.entry)) }
+        ensures ok { OnOk result (out.new.items ≡ out.old.items ++ reply_text (found_meant P.tree_of self.entry)) }
         ensures err { OnErr result (IsBegunBy out.old.items out.new.items) }
-        ensures too_long { IsErrOf result Why.TooLong → 2 ^ 64 ≤ length out.old.items + length (reply_text (found_meant T.text_of self.entry)) }
+        ensures too_long { IsErrOf result Why.TooLong → 2 ^ 64 ≤ length out.old.items + length (reply_text (found_meant P.tree_of self.entry)) }
     {
         match self {
             Found::Kind(kind) => out.extend_from_slice(kind_text(kind).as_bytes())?,
             Found::Truth(truth) => out.extend_from_slice(truth_text(truth).as_bytes())?,
             Found::Text(text) => write_quoted(text, out)?,
             Found::Count(count) => write_count(count, out)?,
-            Found::Keys(members) => write_keys(members, out)?,
-            Found::Print(value) => value.write(out)?,
-            Found::Pretty(value) => value.write_pp(out)?,
-            Found::Missing => out.extend_from_slice(b"missing")?,
-            Found::NotAnObject => out.extend_from_slice(b"not an object")?,
+            Found::Keys(place) => write_keys(place, out)?,
+            Found::Print(place) => place.value().write(out)?,
+            Found::Pretty(place) => place.value().write_pp(out)?,
             Found::NotAString => out.extend_from_slice(b"not a string")?,
             Found::NoLength => out.extend_from_slice(b"no length")?,
         }

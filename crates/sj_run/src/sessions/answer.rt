@@ -8,8 +8,8 @@ ghost use Rattle.sj_run.specs.Meant.{command_meant};
 
 use crate::change::change_at;
 use crate::command::{Asked, Command, command_of, taken_apart};
-use crate::document::{BorrowedDoc, Document, OwnedDoc};
-use crate::find::find;
+use crate::document::{BorrowedDoc, Document, LazyDoc, OwnedDoc};
+use crate::find::write_at;
 use crate::lines::{line_len, text_len};
 use crate::runs::Why;
 use crate::texts::borrowed_write;
@@ -19,15 +19,15 @@ use std::alloc::Global;
 pub(super) trait Tells: Document {
     /// Answers a command, and appends the text of the reply.
     fn tell(&mut self, alloc: Global, command: Command, out: &mut Vec<u8>) -> Result<(), Why>
-        ensures ok { OnOk result (Answers (Self.tree self.old) (command_meant command) (Self.tree self.new) out.old.items out.new.items) }
+        ensures ok { OnOk result (Answers (Self.part self.old) (command_meant command) (Self.part self.new) out.old.items out.new.items) }
         ensures err { OnErr result (IsBegunBy out.old.items out.new.items) }
-        ensures too_long { IsErrOf result Why.TooLong → PassesOne (Self.tree self.old) (command_meant command) (length out.old.items) };
+        ensures too_long { IsErrOf result Why.TooLong → PassesOne (Self.part self.old) (command_meant command) (length out.old.items) };
 }
 
 impl Tells for OwnedDoc {
     fn tell(&mut self, alloc: Global, command: Command, out: &mut Vec<u8>) -> Result<(), Why> {
         match taken_apart(command) {
-            Asked::Read(path, read) => find(&self.value, self.way, &path, &read).write(out),
+            Asked::Read(path, read) => write_at(&self.value, self.way, &path, &read, out),
             Asked::Write(path, write) => {
                 change_at(&mut self.value, self.way, &path, write)?.write(out)
             }
@@ -39,10 +39,23 @@ impl Tells for OwnedDoc {
 impl<'v> Tells for BorrowedDoc<'v> {
     fn tell(&mut self, alloc: Global, command: Command, out: &mut Vec<u8>) -> Result<(), Why> {
         match taken_apart(command) {
-            Asked::Read(path, read) => find(&self.value, self.way, &path, &read).write(out),
+            Asked::Read(path, read) => write_at(&self.value, self.way, &path, &read, out),
             Asked::Write(path, write) => {
                 let write = borrowed_write(alloc, write)?;
                 change_at(&mut self.value, self.way, &path, write)?.write(out)
+            }
+            Asked::Bad => Ok(out.extend_from_slice(b"bad command")?),
+        }
+    }
+}
+
+impl<'b, 't, 'i> Tells for LazyDoc<'b, 't, 'i> {
+    fn tell(&mut self, alloc: Global, command: Command, out: &mut Vec<u8>) -> Result<(), Why> {
+        match taken_apart(command) {
+            Asked::Read(path, read) => self.write(&path, &read, out),
+            Asked::Write(path, write) => {
+                let write = borrowed_write(alloc, write)?;
+                self.change(alloc, &path, write)?.write(out)
             }
             Asked::Bad => Ok(out.extend_from_slice(b"bad command")?),
         }
@@ -56,9 +69,9 @@ fn answer_line<D: Tells>(
     line: &mut [u8],
     out: &mut Vec<u8>,
 ) -> Result<(), Why>
-    ensures ok { OnOk result (AnswersLine (D.tree document.old) line.old (D.tree document.new) out.old.items out.new.items) }
+    ensures ok { OnOk result (AnswersLine (D.part document.old) line.old (D.part document.new) out.old.items out.new.items) }
     ensures err { OnErr result (IsBegunBy out.old.items out.new.items) }
-    ensures too_long { IsErrOf result Why.TooLong → PassesLine (D.tree document.old) line.old (length out.old.items) }
+    ensures too_long { IsErrOf result Why.TooLong → PassesLine (D.part document.old) line.old (length out.old.items) }
 {
     let command = command_of(alloc, line)?;
     document.tell(alloc, command, out)?;
@@ -73,9 +86,9 @@ fn answer_lines<D: Tells>(
     lines: &mut [u8],
     out: &mut Vec<u8>,
 ) -> Result<(), Why>
-    ensures ok { OnOk result (AnswersLines (D.tree document.old) (line_texts (full_lines lines.old)) (D.tree document.new) out.old.items out.new.items) }
+    ensures ok { OnOk result (AnswersLines (D.part document.old) (line_texts (full_lines lines.old)) (D.part document.new) out.old.items out.new.items) }
     ensures err { OnErr result (IsBegunBy out.old.items out.new.items) }
-    ensures too_long { IsErrOf result Why.TooLong → PassesLines (D.tree document.old) (line_texts (full_lines lines.old)) (length out.old.items) }
+    ensures too_long { IsErrOf result Why.TooLong → PassesLines (D.part document.old) (line_texts (full_lines lines.old)) (length out.old.items) }
 {
     let mut at = 0;
     while at < lines.len() {
@@ -96,9 +109,9 @@ pub(super) fn answer_all<D: Tells>(
     lines: &mut [u8],
     out: &mut Vec<u8>,
 ) -> Result<(), Why>
-    ensures ok { OnOk result (AnswersLines (D.tree document.old) (line_texts (full_lines lines.old)) (D.tree document.new) out.old.items out.new.items) }
+    ensures ok { OnOk result (AnswersLines (D.part document.old) (line_texts (full_lines lines.old)) (D.part document.new) out.old.items out.new.items) }
     ensures err { OnErr result (out.new.items ≡ out.old.items) }
-    ensures too_long { IsErrOf result Why.TooLong → PassesLines (D.tree document.old) (line_texts (full_lines lines.old)) (length out.old.items) }
+    ensures too_long { IsErrOf result Why.TooLong → PassesLines (D.part document.old) (line_texts (full_lines lines.old)) (length out.old.items) }
 {
     let start = out.len();
     let done = answer_lines(alloc, document, lines, out);

@@ -1,13 +1,13 @@
 //! Sessions whose document keeps the first or the last value of each key.
 
-use super::SERVED;
+use super::KEPT;
 use crate::{Form, SessionFault, Way, session_repeats};
 use sj_text_core::Repeats;
 use std::alloc::Global;
 use std::process::Abort;
 use std::test::Fail;
 
-/// Every form answers so in each way.
+/// The forms that keep one value of each key as read answer so, each in both ways.
 fn check(
     rt: &impl Abort,
     alloc: Global,
@@ -15,7 +15,7 @@ fn check(
     input: &str,
     want: &str,
 ) -> Result<(), Fail> {
-    for (form, way) in SERVED {
+    for (form, way) in KEPT {
         let mut bytes = input.as_bytes().to_vec(alloc)?;
         let mut out = b"> ".to_vec(alloc)?;
         let answer = session_repeats(alloc, form, way, repeats, bytes.as_mut_slice(), &mut out);
@@ -70,24 +70,45 @@ fn keeps_the_last_of_many(rt: HostRuntime) -> Result<(), Fail> {
     )
 }
 
-/// Lazy documents are not served yet.
+/// A lazy document finds the last value of a key, and shows all of them until its first write.
 #[test]
-fn refuses_lazy_documents(rt: HostRuntime) -> Result<(), Fail> {
+fn lazy_documents_find_the_last(rt: HostRuntime) -> Result<(), Fail> {
+    let mut bytes =
+        b"{\"a\":1,\"b\":{\"c\":4,\"c\":5},\"a\":[6]}\n---\n[\"encode\",[\"a\"]]\n[\"encode\",[\"b\",\"c\"]]\n[\"len\",[]]\n[\"keys\",[]]\n[\"pop\",[\"b\"]]\n[\"encode\",[]]\n[\"insert\",[],\"z\",{\"q\":1,\"q\":2}]\n[\"encode\",[\"z\"]]".to_vec(
+            rt.alloc(),
+        )?;
+    let mut out = Vec::new(rt.alloc());
+    let answer = session_repeats(
+        rt.alloc(),
+        Form::Lazy,
+        Way::ByText,
+        Repeats::Last,
+        bytes.as_mut_slice(),
+        &mut out,
+    );
+    assert_eq!(rt; answer, Ok(()));
+    assert_eq!(rt;
+        String::from_utf8(out)?.as_str(),
+        "[6]\n5\n3\n[\"a\",\"b\",\"a\"]\nnot an array\n{\"a\":[6],\"b\":{\"c\":5}}\nnone\n{\"q\":1}\n"
+    );
+    Ok(())
+}
+
+#[test]
+fn refuses_lazy_documents_by_known_key(rt: HostRuntime) -> Result<(), Fail> {
     let mut out = b"> ".to_vec(rt.alloc())?;
-    for way in [Way::ByText, Way::ByKnownKey] {
-        for repeats in [Repeats::First, Repeats::Last] {
-            let mut bytes = *b"[1]\n---\n[\"encode\",[]]";
-            let answer = session_repeats(
-                rt.alloc(),
-                Form::Lazy,
-                way,
-                repeats,
-                &mut bytes,
-                &mut out,
-            );
-            assert_eq!(rt; answer, Err(SessionFault::Usage), "{way:?} {repeats:?}");
-            assert_eq!(rt; out.as_slice(), b"> ".as_slice());
-        }
+    for repeats in [Repeats::First, Repeats::Last] {
+        let mut bytes = *b"[1]\n---\n[\"encode\",[]]";
+        let answer = session_repeats(
+            rt.alloc(),
+            Form::Lazy,
+            Way::ByKnownKey,
+            repeats,
+            &mut bytes,
+            &mut out,
+        );
+        assert_eq!(rt; answer, Err(SessionFault::Usage), "{repeats:?}");
+        assert_eq!(rt; out.as_slice(), b"> ".as_slice());
     }
     Ok(())
 }

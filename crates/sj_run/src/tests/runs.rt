@@ -1,9 +1,11 @@
 //! Commands at documents, one by one and in a run.
 
-use crate::{BorrowedDoc, Command, Document, OwnedDoc, Reply, Step, Way, Width, run};
+use crate::{BorrowedDoc, Command, Document, LazyDoc, OwnedDoc, Reply, Step, Way, Width, run};
 use sj_document::{BorrowedValue, OwnedValue};
+use sj_lazy::Value;
 use sj_object::deserialize;
-use sj_text_core::ValueType;
+use sj_tape::to_tape;
+use sj_text_core::{Repeats, ValueType};
 use std::alloc::Global;
 use std::borrow::CowStr;
 use std::process::Abort;
@@ -101,6 +103,50 @@ fn both_forms_answer(rt: HostRuntime) -> Result<(), Fail> {
         check_writes(&rt, alloc, &mut document)?;
     }
     Ok(())
+}
+
+/// Reads leave a lazy document on its tape; a write makes it an owned one, also where it finds
+/// nothing.
+#[test]
+fn lazy_documents_answer(rt: HostRuntime) -> Result<(), Fail> {
+    let alloc = rt.alloc();
+    let mut bytes = TEXT.as_bytes().to_vec(alloc)?;
+    let tape = to_tape(alloc, bytes.as_mut_slice())?;
+    let value: Value<'_, '_, '_> = Value::from_tape(tape.as_value());
+    let mut document = LazyDoc { value };
+    check_reads(&rt, alloc, &mut document)?;
+    assert!(rt; document.value.is_tape());
+    let pop = Command::Pop(key(alloc, "zz")?);
+    check(&rt, alloc, &mut document, pop, &Reply::Missing)?;
+    assert!(rt; document.value.is_value());
+    check_reads(&rt, alloc, &mut document)?;
+    check_writes(&rt, alloc, &mut document)
+}
+
+/// Where the last member of a key counts, reads find it, and a write keeps it.
+#[test]
+fn lazy_documents_answer_by_their_choice(rt: HostRuntime) -> Result<(), Fail> {
+    let alloc = rt.alloc();
+    let mut bytes = b"{\"a\":1,\"b\":2,\"a\":3}".to_vec(alloc)?;
+    let tape = to_tape(alloc, bytes.as_mut_slice())?;
+    let value: Value<'_, '_, '_> = Value::from_tape(tape.as_value_repeats(Repeats::Last));
+    let mut document = LazyDoc { value };
+    let mut path = Vec::new(alloc);
+    path.push(Step::Key(text(alloc, "a")?))?;
+    let three = Reply::Printed(text(alloc, "3")?);
+    check(&rt, alloc, &mut document, Command::Encode(path), &three)?;
+    let all = Command::Len(Vec::new(alloc));
+    check(&rt, alloc, &mut document, all, &Reply::Count(3))?;
+    let pop = Command::Pop(Vec::new(alloc));
+    check(&rt, alloc, &mut document, pop, &Reply::NotAnArray)?;
+    let kept = Reply::Printed(text(alloc, "{\"a\":3,\"b\":2}")?);
+    check(
+        &rt,
+        alloc,
+        &mut document,
+        Command::Encode(Vec::new(alloc)),
+        &kept,
+    )
 }
 
 /// A run answers its commands in order.

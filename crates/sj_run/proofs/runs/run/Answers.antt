@@ -18,7 +18,7 @@ returns-then-is_err-clause-fault g c = record {
 
 pub loop-command-preserved : goal.loop-command-preserved
 loop-command-preserved g c =
-    let t = g.D.Document.tree c.args.document.now in
+    let t = g.D.Document.part c.args.document.now in
     record {
       told = told_last t _ (map reply_meant c.loop-command.done.items) c.loop-command.yielded c.in-Some.command (reply_meant c.in-Ok.reply)
           (rw (c.push.ensures.items, c.unwrap.ensures, c.reserve.ensures.items) (map-append reply_meant c.loop-command.done.items (c.in-Ok.reply ∷ []))) c.loop-command.invariant.told

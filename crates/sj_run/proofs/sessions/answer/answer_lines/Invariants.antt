@@ -1,12 +1,13 @@
 use Rattle.std.proofs.Common.{length, ◌-◌, ◌≡◌, ◌≤◌, ℕ, List, drop}
 use Rattle.sj_text_core.specs.Tree.{Tree}
+use Rattle.sj_text_core.specs.declared.repeats.Repeats.{Repeats}
 use Rattle.sj_run.specs.Answered.{AnswersLines, PassesLines, IsBegunBy}
 use Rattle.sj_run.specs.Lines.{full_lines, line_texts}
 use Rattle.sj_run.proofs.sessions.answer.answer_lines.Given as goal
 
 abbrev pub invariant-loop-at : goal.invariant-loop-at
 invariant-loop-at g l =
-    let tree = g.D.Document.tree in
+    let part = g.D.Document.part in
     let all = line_texts (full_lines l.initial.lines) in
     let left = line_texts (full_lines (drop l.at l.initial.lines)) in
     record {
@@ -14,8 +15,8 @@ invariant-loop-at g l =
       same_length : length l.lines ≡ length l.initial.lines;
       ahead : drop l.at l.lines ≡ drop l.at l.initial.lines;
       begun : IsBegunBy l.fn.out.items l.out.items;
-      told : (u : Tree) (new : List ℕ) → AnswersLines (tree l.document) left u l.out.items new → AnswersLines (tree l.fn.document) all u l.fn.out.items new;
-      passes : PassesLines (tree l.document) left (length l.out.items) → PassesLines (tree l.fn.document) all (length l.fn.out.items);
+      told : (u : Repeats × Tree) (new : List ℕ) → AnswersLines (part l.document) left u l.out.items new → AnswersLines (part l.fn.document) all u l.fn.out.items new;
+      passes : PassesLines (part l.document) left (length l.out.items) → PassesLines (part l.fn.document) all (length l.fn.out.items);
     }
 
 abbrev pub decreases-loop-at : goal.decreases-loop-at

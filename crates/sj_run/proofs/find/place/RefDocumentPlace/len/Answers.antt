@@ -6,7 +6,7 @@ use Rattle.sj_document.proofs.Trees.{tree-Object, tree-Array}
 use Rattle.sj_run.specs.Answers.{len_reply}
 use Rattle.sj_run.specs.Replies.{count}
 use Rattle.sj_run.proofs.Founds.{items_count, members_count}
-use Rattle.sj_run.proofs.find.length.Goals as goal
+use Rattle.sj_run.proofs.find.place.RefDocumentPlace.len.Goals as goal
 
 pub returns-in-Array : goal.returns-in-Array
 returns-in-Array g c =

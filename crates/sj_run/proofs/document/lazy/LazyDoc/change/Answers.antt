@@ -1,0 +1,21 @@
+use Rattle.std.proofs.Common.{map}
+use Rattle.std.specs.Cow.{cow_str_bytes}
+use Rattle.sj_run.specs.Asked.{write_meant}
+use Rattle.sj_run.specs.Meant.{step_meant}
+use Rattle.sj_run.proofs.Kept.{short_edit}
+use Rattle.sj_run.proofs.Lazies.{lazy_reply, lazy_after, lazy_refused}
+use Rattle.sj_run.proofs.document.lazy.LazyDoc.change.Goals as goal
+
+pub returns : goal.returns
+returns c =
+    let v = c.args.self.now.value in
+    let n = c.change_lazy.new.value in
+    let p = map step_meant c.args.path.now in
+    let w = write_meant cow_str_bytes c.args.write in
+    let told = c.change_lazy.ensures in
+    record {
+      reply = lazy_reply v n p w c.change_lazy.result told.reply;
+      after = lazy_after v n p w c.change_lazy.result told.after;
+      refused = lazy_refused v n p w c.change_lazy.result told.refused;
+      short = short_edit p w _;
+    }
