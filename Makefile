@@ -1,4 +1,4 @@
-.PHONY: demo test check-program check-refusals
+.PHONY: demo test check-program check-refusals check-broken
 
 # Proves and builds the program and what it stands on, and runs it on the first example.
 demo:
@@ -18,3 +18,8 @@ check-program:
 check-refusals:
 	cd crates/refusals && rt run -- insert insert 32 > /dev/null
 	tools/refusals.sh crates/refusals/out/refusals
+
+# Gives the built programs broken documents, lines and nodes. Needs python3, and both programs built.
+check-broken:
+	tools/broken.py crates/sjval/out/sjval --seconds 10
+	tools/broken_nodes.py crates/refusals/out/refusals --seconds 5

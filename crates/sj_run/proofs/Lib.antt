@@ -7,6 +7,5 @@ mod CommandLemmas
 pub mod Edits
 pub mod Founds
 pub mod Ways
-pub mod Unread
 mod Kept
 mod Lazies

@@ -1,5 +1,5 @@
 use Rattle.sj_run.proofs.SessionLemmas.{refused_kind}
-use Rattle.sj_run.proofs.Unread.{unreadable}
+use Rattle.sj_text_core.proofs.Unread.{unreadable}
 use Rattle.sj_run.proofs.sessions.read_document.Goals as goal
 
 pub returns-in-Err-clause-refused : goal.returns-in-Err-clause-refused

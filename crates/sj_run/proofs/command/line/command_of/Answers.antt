@@ -6,7 +6,7 @@ use Rattle.sj_run.specs.CommandLines.{IsCommandOf, command_in}
 use Rattle.sj_run.specs.Meant.{command_meant}
 use Rattle.sj_run.specs.declared.command.Command.{Command}
 use Rattle.sj_run.proofs.CommandLemmas.{reads_one, reads_bad, reads_bad_only}
-use Rattle.sj_run.proofs.Unread.{unreadable}
+use Rattle.sj_text_core.proofs.Unread.{unreadable}
 use Rattle.sj_run.proofs.command.line.command_of.Goals as goal
 
 pub returns-in-Ok-clause-only : goal.returns-in-Ok-clause-only
