@@ -97,7 +97,8 @@ pub fn make(rt: &(impl Print + AllocGlobal), source: &str) -> Result<(), Fault> 
     let (first, second) = (Given::new(alloc)?, Given::new(alloc)?);
     say_call(rt)?;
     let is_made = made(alloc, source, first).is_ok();
-    tell(rt, is_made, &made(alloc, source, second)?)
+    say_again(rt, is_made)?;
+    say_document(rt, &made(alloc, source, second)?)
 }
 
 /// Makes a document of another one twice, the first time between the first two writes.
@@ -111,35 +112,35 @@ pub fn convert(rt: &(impl Print + AllocGlobal), call: &str) -> Result<(), Fault>
         "clone_static" => {
             say_call(rt)?;
             let is_made = first.clone_static(alloc).is_ok();
-            tell(rt, is_made, &first.clone_static(alloc)?)
+            say_again(rt, is_made)?;
+            say_document(rt, &first.clone_static(alloc)?)
         }
         "into_static" => {
             say_call(rt)?;
             let is_made = first.into_static(alloc).is_ok();
-            tell(rt, is_made, &second.into_static(alloc)?)
+            say_again(rt, is_made)?;
+            say_document(rt, &second.into_static(alloc)?)
         }
         "owned_from_borrowed" => {
             say_call(rt)?;
             let is_made = OwnedValue::try_make(alloc, first).is_ok();
-            tell(rt, is_made, &OwnedValue::try_make(alloc, second)?)
+            say_again(rt, is_made)?;
+            say_document(rt, &OwnedValue::try_make(alloc, second)?)
         }
         "borrowed_from_owned" => {
             let first = OwnedValue::try_make(alloc, first)?;
             let second = OwnedValue::try_make(alloc, second)?;
             say_call(rt)?;
             let is_made = BorrowedValue::try_make(alloc, first).is_ok();
-            tell(rt, is_made, &BorrowedValue::try_make(alloc, second)?)
+            say_again(rt, is_made)?;
+            say_document(rt, &BorrowedValue::try_make(alloc, second)?)
         }
         _ => Err(Fault::Usage),
     }
 }
 
-/// Tells whether the call made a document, and the one that it made again.
-fn tell<T: KeyText + Drop>(
-    rt: &(impl Print + AllocGlobal),
-    is_made: bool,
-    again: &Document<T>,
-) -> Result<(), Fault> {
+/// Tells whether the call made a document.
+fn say_again(rt: &impl Print, is_made: bool) -> Result<(), Fault> {
     say(
         rt,
         if is_made {
@@ -147,7 +148,13 @@ fn tell<T: KeyText + Drop>(
         } else {
             "AllocError, then "
         },
-    )?;
-    say(rt, again.encode(rt.alloc())?.as_str())?;
+    )
+}
+
+fn say_document<T: KeyText + Drop>(
+    rt: &(impl Print + AllocGlobal),
+    document: &Document<T>,
+) -> Result<(), Fault> {
+    say(rt, document.encode(rt.alloc())?.as_str())?;
     say(rt, "\n")
 }
