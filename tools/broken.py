@@ -3,7 +3,7 @@
 
 Usage: tools/broken.py PROGRAM [--seconds N] [--cases N] [--seed N] [WORDS ..], each of WORDS the words of one form and way, as
 'owned known' or 'lazy last'; none: all that the program knows. It stops after N seconds or N cases, whichever comes first; a
-case is a document that is refused, or a command line. The same seed gives the same cases. The last line is 'N passed, M failed'.
+case is a document that is refused, or a command line, in one form and way. The same seed gives the same cases. The last line is 'N passed, M failed'.
 """
 
 import argparse
@@ -209,7 +209,7 @@ def main():
     parser.add_argument('program')
     parser.add_argument('ways', nargs='*', default=WAYS)
     parser.add_argument('--seconds', type=float, default=60)
-    parser.add_argument('--cases', type=int, default=100_000)
+    parser.add_argument('--cases', type=int, default=1_000_000)
     parser.add_argument('--seed', type=int, default=1)
     options = parser.parse_args()
     workers = multiprocessing.cpu_count()

@@ -18,7 +18,7 @@ use Rattle.sj_run.specs.declared.sessions.Form.TheVariants.{Owned, Borrowed, Laz
 use Rattle.sj_run.specs.declared.sessions.SessionFault.{SessionFault}
 use Rattle.sj_run.specs.declared.sessions.SessionFault.TheVariants as fault
 
--- the forms and ways that are served today
+-- the forms and ways that are served
 abbrev pub IsServed : Form → Way → Type 0
 IsServed Owned w = ⊤
 IsServed Borrowed w = ⊤
