@@ -227,6 +227,10 @@ free 'lazy owned pop' $'call: done, owned ["key","value"]\n'
 free 'tape new' $'call: made, and refused\n'
 free 'tape reads' $'call: found\n'
 
+for words in 'owned text' 'owned known' 'borrowed text' 'borrowed known' 'lazy text'; do
+  each "run $words" $'call: refused, replies as before, answered\n' $'call: answered\n'
+done
+
 # answers INPUT FORM REPLIES: a session by text
 answers() {
   each "session $2 $1" "call: OutOfMemory, out as before, then answered"$'\n'"> $3" $'call: answered\n> '"$3"

@@ -5,7 +5,7 @@
 //!     refusals read CALL TEXT | buffers | insert CALL MEMBERS | present CALL MEMBERS | capacity
 //!     refusals room | map reads | member CALL MEMBERS | member_present CALL MEMBERS
 //!     refusals write CALL GENERATOR | tape new | tape reads | document FORM CALL
-//!     refusals make SOURCE | convert CALL | lazy FORM CALL | session FORM INPUT
+//!     refusals make SOURCE | convert CALL | lazy FORM CALL | run FORM WAY | session FORM INPUT
 //!
 //! `refusals nodes LIST ..` makes a tape of each list of nodes.
 //!
@@ -22,6 +22,7 @@ mod members;
 mod nodes;
 mod prints;
 mod readings;
+mod runs;
 mod say;
 mod sessions;
 mod tapes;
@@ -60,6 +61,7 @@ fn run(rt: &(impl Env + Print + AllocGlobal)) -> Result<(), Fault> {
         "convert" => makes::convert(rt, second),
         "lazy" => lazy::run_call(rt, second, third),
         "nodes" => nodes::tell(rt, words.get(1..).unwrap_or(&[])),
+        "run" => runs::run_form(rt, second, third),
         "session" => sessions::answer(rt, second, third),
         _ => Err(Fault::Usage),
     }
