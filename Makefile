@@ -14,7 +14,7 @@ check-program:
 	cd crates/sjval && rt run -- owned < stdin > /dev/null
 	tools/program.sh crates/sjval/out/sjval
 
-# Refuses each request for memory of each call in turn. Needs gcc.
+# Refuses each request for memory of each call in turn. Needs gcc and python3.
 check-refusals:
 	cd crates/refusals && rt run -- insert insert 32 > /dev/null
 	tools/refusals.sh crates/refusals/out/refusals

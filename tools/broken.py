@@ -30,6 +30,7 @@ BITS = [b'"', b'\\', b'\\u', b'\\ud83d', b'\\ude00', b'\\u12g4', b'\\x', b'[', b
 
 IN_STRINGS = [b'\\ud83d', b'\\ude00', b'\\ud83d\\ude00', b'\\ud83dx', b'\\ud83d\\n', b'\\ud83d\\u0041', b'\\ud83d\\u12g4', b'\\u', b'\\u00e',
               b'\\q', b'\\', b'\t', b'\x00', b'\xff', b'\xed\xa0\xbd']
+IN_POINTERS = ['~', '~0', '~1', '~2', '~01', '~~', '/', '//', '0', '1', '-', '+', ' ', '\u0663', '\\']
 IN_NUMBERS = [b'.', b'.0', b'e1', b'E', b'-', b'+', b'0' * 40, b'9' * 20, b'x', b' 1', b'\xd9\xa3']
 
 
@@ -142,6 +143,15 @@ class Writer:
             steps.append(self.random.choice((self.text(), ('int', self.random.randrange(4), None), ('int', 2**64, None), None)))
         return ('list', steps)
 
+    def pointer(self, steps):
+        """The steps as a pointer, which may be broken."""
+        tokens = [str(step[1]) if model.is_int(step) else step or '' for step in steps]
+        text = ''.join('/' + token.replace('~', '~0').replace('/', '~1') for token in tokens)
+        for _ in range(self.random.choice((0, 0, 1, 2))):
+            at = self.random.randrange(len(text) + 1)
+            text = text[:at] + self.random.choice(IN_POINTERS) + text[at + self.random.randrange(2):]
+        return text
+
     def line(self, tree):
         name = self.random.choice([*model.READS, *model.WRITES, 'nonsense'])
         rest = {'has': lambda: [self.text()], 'remove': lambda: [self.text()], 'push': lambda: [self.tree(2)],
@@ -152,6 +162,7 @@ class Writer:
         path = self.path(tree)
         if name == 'put' and not path[1] and not self.one_in(8):
             name, rest = 'encode', []
+        path = self.pointer(path[1]) if self.one_in(3) else path
         self.spaced = self.one_in(4)
         given = self.spelled(('list', [name, path, *rest])).replace('\n', ' ').encode()
         given = self.broken(given) if self.one_in(3) else given

@@ -27,13 +27,26 @@ TAKES = {
 SMALL = '{"a":[1,{"b":2,"b":3},[]],"":{"x":null},"a":0}'
 
 SMALL_PATHS = ['[]', '["a"]', '["a",1]', '["a",1,"b"]', '["a",2]', '[""]', '["","x"]', '["zz"]', '["a",3]', '[0]', '["","x","k"]',
-               '["a",-1]', '[null]', '"a"']
+               '["a",-1]', '[null]', '"a"', '""', '"/a"', '"/a/1"', '"/a/1/b"', '"/a/3"', '"/a/01"', '"//x"', '"/zz"', '"/~"']
 
 PATHS = ['[]', '["a"]', '["a",1]', '["a",1,"b"]', '["a",5]', '["q\\"k"]', '[""]', '["","x"]', '["u"]',
          # what finds nothing: no such key, past the end, a key on an array, a place on an object, below a scalar
          '["zz"]', '["a",6]', '["a","0"]', '[0]', '["u",0]', '["u","k"]', '["a",-0,"k"]', '["",""," "]',
          # what is no path
-         '["a",-1]', '["a",18446744073709551616]', '[["a"]]', '[null]', '{}', '"a"', '0', '["a",true]']
+         '["a",-1]', '["a",18446744073709551616]', '[["a"]]', '[null]', '{}', '"a"', '0', '["a",true]',
+         # pointers, which find something and nothing, and texts that are none
+         '""', '"/a"', '"/a/1/b"', '"/a/5"', '"/q\\"k"', '"/"', '"//x"', '"/u"', '"/zz"', '"/a/6"', '"/a/-"', '"/a/00"', '"/u/0"',
+         '"a/1"', '"/a~"']
+
+# a document and pointers into it: those of RFC 6901, section 5, and more
+POINTED = '{"foo":["bar","baz"],"":0,"a/b":1,"c%d":2,"e^f":3,"g|h":4,"i\\\\j":5,"k\\"l":6," ":7,"m~n":8,"0":{"-":[9]},"~1":"x"}'
+
+POINTERS = ['', '/foo', '/foo/0', '/', '/a~1b', '/c%d', '/e^f', '/g|h', '/i\\\\j', '/k\\"l', '/ ', '/m~0n', '/0/-/0', '/~01', '/foo/1',
+            # nothing
+            '/foo/2', '/foo/-', '/foo/00', '/foo/01', '/foo/+1', '/foo/1 ', '/foo/', '/foo/18446744073709551615', '/foo/18446744073709551616',
+            '/foo/0/x', '/m~01n', '/m~1n', '/0/-/-', '/a/b', '//', '/~0', '/\\u0660',
+            # no pointers
+            'foo', '#/foo', ' /foo', 'a~2', '/a~2', '/a~', '/~~1', '/foo~/0', '~1foo']
 
 OTHER_LINES = ['["nonsense",[]]', '["ENCODE",[]]', '[]', '["encode"]', '[0,[]]', '{"encode":[]}', '"encode"', 'null',
                '["encode",[]', '["encode",[]]]', "['encode',[]]", ' ["encode" , [ ] ] ', '["enc\\u006fde",[]]',
@@ -52,6 +65,9 @@ def sessions():
         for takes in TAKES[name]:
             for path in SMALL_PATHS:
                 yield SMALL, [f'["{name}",{path}{takes}]', '["encode",[]]']
+    yield POINTED, [f'["encode","{pointer}"]' for pointer in POINTERS]
+    for pointer in POINTERS:
+        yield POINTED, [f'["put","{pointer}",[]]', f'["push","{pointer}",0]', f'["encode","{pointer}"]', '["encode",[]]']
     # repeats, which a lazy document shows until its first write
     for write in ('["pop",[]]', '["remove",[],"a"]', '["put",["a","a"],1]', '["nonsense"]', '["push",["b",1],3]', '["insert",["b"],"c",0]'):
         yield '{"a":1,"b":[{"c":1,"c":2},2],"a":{"a":3}}', ['["len",[]]', '["keys",["b",0]]', write, '["len",[]]', '["encode",["b"]]', '["encode",[]]']

@@ -1,8 +1,10 @@
-"""Documents, command lines and their replies on plain trees, by RFC 8259 and the rules of docs/DEFINITIONS.md alone.
+"""Documents, command lines and their replies on plain trees, by RFC 8259, RFC 6901 and the rules of docs/DEFINITIONS.md alone.
 
 It shares nothing with the program. A tree is None, a bool, a number as ('int', value, carrier), a text as str, an array as
-('list', [..]), an object as ('obj', [(key, value), ..]).
+('list', [..]), an object as ('obj', [(key, value), ..]). A step is a key as str, a place as int, or a pointer's token as ('token', text).
 """
+
+import re
 
 FIRST, LAST = 'first', 'last'
 DEPTH_LIMIT = 1024
@@ -256,6 +258,30 @@ def is_step(tree):
     return isinstance(tree, str) or (is_int(tree) and 0 <= tree[1] < 2**64)
 
 
+def tokens(text):
+    """The tokens of a pointer (RFC 6901, sections 3 and 4); None where the text is none."""
+    if text == '':
+        return []
+    if text[0] != '/' or re.search('~(?![01])', text):
+        return None
+    return [token.replace('~1', '/').replace('~0', '~') for token in text[1:].split('/')]
+
+
+def position(token):
+    """The position that a token names on an array (RFC 6901, section 4); None where it names none."""
+    return int(token) if re.fullmatch('0|[1-9][0-9]*', token) and int(token) < 2**64 else None
+
+
+def path_of(tree):
+    """The steps of a path: an array of texts and places, or a pointer as a text; None where it is neither."""
+    if isinstance(tree, str):
+        found = tokens(tree)
+        return None if found is None else [('token', token) for token in found]
+    if not is_list(tree) or not all(map(is_step, tree[1])):
+        return None
+    return [step if isinstance(step, str) else step[1] for step in tree[1]]
+
+
 def command_of(line):
     """The command that a line is, as (name, path, what it takes); None for a bad one."""
     try:
@@ -265,7 +291,8 @@ def command_of(line):
     if not is_list(tree) or len(tree[1]) < 2:
         return None
     name, path, *rest = tree[1]
-    if not isinstance(name, str) or not is_list(path) or not all(map(is_step, path[1])):
+    steps = path_of(path)
+    if not isinstance(name, str) or steps is None:
         return None
     if {**READS, **WRITES}.get(name) != len(rest):
         return None
@@ -273,15 +300,17 @@ def command_of(line):
         return None
     if name == 'fits' and not (isinstance(rest[0], str) and rest[0] in WIDTHS):
         return None
-    return name, [step if isinstance(step, str) else step[1] for step in path[1]], rest
+    return name, steps, rest
 
 
 def find(tree, step, choice=FIRST):
     """The place of what the step finds among the parts of the tree; None where it finds nothing."""
+    if isinstance(step, tuple):
+        step = position(step[1]) if is_list(tree) else step[1]
     if isinstance(step, str) and is_obj(tree):
         places = [at for at, (key, _) in enumerate(tree[1]) if key == step]
         return places[0 if choice == FIRST else -1] if places else None
-    if not isinstance(step, str) and is_list(tree) and step < len(tree[1]):
+    if isinstance(step, int) and is_list(tree) and step < len(tree[1]):
         return step
     return None
 

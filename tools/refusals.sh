@@ -1,8 +1,9 @@
 #!/usr/bin/env bash
 # Refuses each request for memory of each call in turn, and looks at what the call answers and at
 # what stands: the Nth request is refused, N counting up until a run meets none.
-# Usage: tools/refusals.sh PROGRAM, which is the program of crates/refusals. Needs gcc. A line for
-# each call has its number of requests; the last line is 'N passed, M failed'.
+# Usage: tools/refusals.sh PROGRAM, which is the program of crates/refusals. Needs gcc and python3. A
+# line for each call has its number of requests; the last line is 'N passed, M failed'. What was run
+# is compared with the public functions of the sources, by tools/calls.py.
 set -u
 program=$(realpath "$1")
 tools=$(dirname "$(realpath "${BASH_SOURCE[0]}")")
@@ -10,72 +11,18 @@ work=$(mktemp -d)
 trap 'rm -rf "$work"' EXIT
 gcc -O2 -shared -fPIC -o "$work/refuse.so" "$tools/refuse.c" || exit 1
 cd "$work" || exit 1
-passed=0
-failed=0
-
-# run N WORDS: one run with the Nth request refused; sets status and requests
-run() {
-  rm -f count
-  # shellcheck disable=SC2086
-  REFUSE=$1 REFUSE_COUNT=count LD_PRELOAD=./refuse.so "$program" $2 > out 2> err
-  status=$?
-  requests=none
-  [ -e count ] && read -r requests < count
-}
-
-# told TEXT: whether the run told that, and nothing else
-told() {
-  printf '%s' "$1" > want
-  [ "$status" = 0 ] && cmp -s out want && [ ! -s err ]
-}
-
-# count PASSED WHAT: counts one call
-count() {
-  if [ "$1" = yes ]; then
-    passed=$((passed + 1))
-    printf '%s: requests %s\n' "$2" "$requests"
-  else
-    failed=$((failed + 1))
-    printf 'failed: %s (status %s, requests %s)\n' "$2" "$status" "$requests"
-    head -c 600 out
-    head -c 300 err
-  fi
-}
-
-# free WORDS TEXT: a call that meets no request
-free() {
-  run 1 "$1"
-  good=no
-  told "$2" && [ "$requests" = 0 ] && good=yes
-  count $good "$1"
-}
-
-# each WORDS REFUSED DONE: a call that is refused at each of its requests, asks for nothing more
-# then, and is done where none is refused
-each() {
-  local n=1
-  good=no
-  while run $n "$1"; [ "$requests" = $n ] && told "$2"; do
-    n=$((n + 1))
-  done
-  told "$3" && [ $n -gt 1 ] && [ "$requests" = $((n - 1)) ] && good=yes
-  count $good "$1"
-}
-
-# goes_on WORDS REFUSED DONE: as each, where the call asks for more once it was refused
-goes_on() {
-  local n=1
-  good=no
-  while run $n "$1"; [ "$requests" -ge $n ] && told "$2"; do
-    n=$((n + 1))
-  done
-  told "$3" && [ $n -gt 1 ] && [ "$requests" = $((n - 1)) ] && good=yes
-  count $good "$1"
-}
+# shellcheck source=tools/refuse.sh
+. "$tools/refuse.sh"
 
 # reads CALL TEXT SEEN: a reading, of which the run tells what it has seen
 reads() {
   each "read $1 $2" $'call: OutOfMemory\nagain read, '"$3"$'\n' \
+    "call: read, $3"$'\nagain read, '"$3"$'\n'
+}
+
+# reads_value FORM CALL SEEN: the same, by a call of the form
+reads_value() {
+  each "read_value $1 $2" $'call: OutOfMemory\nagain read, '"$3"$'\n' \
     "call: read, $3"$'\nagain read, '"$3"$'\n'
 }
 
@@ -97,6 +44,16 @@ for call in owned owned_with_buffers borrowed borrowed_with_buffers; do
   [ $call = owned ] && owned=$requests
   [ $call = borrowed ] && borrowed=$requests
   reads $call escapes '{"q\"k":"a/bA"}'
+done
+
+print_of_last=${print_of_repeat/'"k00":0'/'"k00":99'}
+for form in owned borrowed; do
+  for call in to_value to_value_with_buffers to_named_value to_named_value_with_buffers; do
+    reads_value $form $call "$print_of_repeat"
+  done
+  for call in to_value_repeats deserialize_repeats; do
+    reads_value $form $call "$print_of_last"
+  done
 done
 free buffers $'call: made\nagain made\n'
 
@@ -129,6 +86,9 @@ done
 each capacity $'call: AllocError\nagain made\n' $'call: made\nagain made\n'
 free room $'call: filled, 32 members\n'
 free 'map reads' $'call: found, 32 members\n'
+free 'reads map' $'call: found\n'
+free 'reads document' $'call: found\n'
+each copy_key $'call: AllocError\nagain copied\n' $'call: copied\nagain copied\n'
 
 # writes CALL GENERATOR WRITTEN; a text between quotes is put to its end, and cut back then
 writes() {
@@ -202,14 +162,73 @@ for call in clone_static into_static owned_from_borrowed borrowed_from_owned; do
   makes "convert $call" '{"q\"k":"a/bA"}'
 done
 
+for source in owned borrowed lazy texts; do
+  free "from $source" $'call: made\n'
+done
+
+# makes_lazy SOURCE PRINT
+makes_lazy() {
+  makes "make_lazy $1" "owned $2"
+}
+
+for call in array array_with_capacity; do
+  makes_lazy $call '[]'
+done
+for call in object object_with_capacity; do
+  makes_lazy $call '{}'
+done
+for source in items from_items; do
+  makes_lazy $source '[false,true]'
+done
+for source in members from_pairs; do
+  makes_lazy $source '{"b":null,"a":null}'
+done
+
+# copy FORM CALL DONE
+copy() {
+  each "copy $1 $2" "call: refused, value as before, out as before, done, $3"$'\n' "call: done, $3"$'\n'
+}
+
+# copy_free FORM CALL DONE
+copy_free() {
+  free "copy $1 $2" "call: done, $3"$'\n'
+}
+
+for form in tape lent owned; do
+  copy $form encode "$example > "
+  copy $form encode_pp "$pretty > "
+  copy $form write "written > $example"
+  copy $form write_pp "written > $pretty"
+  copy_free $form into_string 'key > '
+done
+copy text into_string 'key > '
+copy_free tape clone "tape $example > "
+copy_free lent clone "lent $example > "
+copy owned clone "owned $example > "
+copy tape into_value "owned $example > "
+copy lent into_value "owned $example > "
+copy_free owned into_value "owned $example > "
+copy_free tape into_owned "tape $example > "
+copy lent into_owned "owned $example > "
+copy_free owned into_owned "owned $example > "
+for call in upgrade borrowed_from_tape build_from_tape; do
+  copy tape $call "owned $example > "
+done
+copy tape owned_from_tape "$example > "
+copy lent copied "owned $example > "
+
 # lazy FORM CALL DONE
 lazy() {
   each "lazy $1 $2" "call: refused, tree as before, form as before, done, owned $3"$'\n' "call: done, owned $3"$'\n'
 }
 
 for form in tape lent; do
-  for call in as_mut as_array_mut as_object_mut get_mut get_idx_mut; do
+  for call in as_mut as_array_mut as_object_mut object_mut get_mut get_idx_mut; do
     lazy $form $call "$example"
+  done
+  lazy $form array_mut '["key","value",2]'
+  for call in set try_set; do
+    lazy $form $call '{"some":null}'
   done
   for call in insert try_insert; do
     lazy $form $call '{"some":["key","value",2],"n":null}'
@@ -218,8 +237,12 @@ for form in tape lent; do
   lazy $form push '["key","value",2,null]'
   lazy $form pop '["key","value"]'
 done
-for call in as_mut as_array_mut as_object_mut get_mut get_idx_mut; do
+for call in as_mut as_array_mut as_object_mut object_mut get_mut get_idx_mut; do
   free "lazy owned $call" "call: done, owned $example"$'\n'
+done
+free 'lazy owned array_mut' $'call: done, owned ["key","value",2]\n'
+for call in set try_set; do
+  free "lazy owned $call" $'call: done, owned {"some":null}\n'
 done
 free 'lazy owned remove' $'call: done, owned {}\n'
 free 'lazy owned pop' $'call: done, owned ["key","value"]\n'
@@ -227,24 +250,74 @@ free 'lazy owned pop' $'call: done, owned ["key","value"]\n'
 free 'tape new' $'call: made, and refused\n'
 free 'tape reads' $'call: found\n'
 
+for form in static tape owned borrowed lazy lent same same_std same_lazy; do
+  free "kinds $form" $'call: found\n'
+done
+for form in tape lazy lent document replaced; do
+  free "parts $form" $'call: found\n'
+done
+free 'display static' $'call: -7\n'
+for form in tape owned borrowed lent; do
+  free "display $form" $'call: {"q\\"k":"a/bA"}\n'
+done
+free 'display map' $'call: {"k00": 0}\n'
+
+for law in prints_alike tape_reads_back owned_reads_back borrowed_reads_back; do
+  each "law $law" $'call: OutOfMemory, again holds\n' $'call: holds, again holds\n'
+done
+free 'law spelled' $'call: gone over\n'
+
+tokens='<a/b> <0> <m~n> '
+each pointer "call: OutOfMemory again $tokens"$'\n' "call: ${tokens}again $tokens"$'\n'
+free no_pointer $'call: found\n'
+for form in owned borrowed; do
+  free "pointer_in $form" $'call: found, {"some":["key",null,2]}\n'
+done
+
+# points FORM CALL PRINT: where a pointer finds nothing and where it finds an item
+points() {
+  local done="missing, tree as before, found, owned $3"$'\n'
+  each "pointer_lazy $1 $2" "call: refused, tree as before, form as before, $done" "call: $done"
+}
+
+for form in tape lent; do
+  points $form find_mut "$example"
+  points $form replace '{"some":["key",null,2]}'
+done
+for form in tape lent owned; do
+  free "pointer_lazy $form find" "call: missing, tree as before, found, $form $example"$'\n'
+done
+free 'pointer_lazy owned find_mut' "call: missing, tree as before, found, owned $example"$'\n'
+free 'pointer_lazy owned replace' $'call: missing, tree as before, found, owned {"some":["key",null,2]}\n'
+
+for words in 'owned text' 'owned known' 'borrowed text' 'borrowed known' 'lazy text'; do
+  each "apply $words" $'call: refused, as it was or done, then applied, {"k":null}\n' \
+    $'call: inserted, {"k":null}\n'
+  eval "insert_${words/ /_}=$requests"
+done
 for words in 'owned text' 'owned known' 'borrowed text' 'borrowed known' 'lazy text'; do
   each "run $words" $'call: refused, replies as before, answered\n' $'call: answered\n'
 done
 
-# answers INPUT FORM REPLIES: a session by text
+# answers INPUT FORM REPLIES [CALL]: a session by text, or that call
 answers() {
-  each "session $2 $1" "call: OutOfMemory, out as before, then answered"$'\n'"> $3" $'call: answered\n> '"$3"
+  each "${4:-session} $2 $1" "call: OutOfMemory, out as before, then answered"$'\n'"> $3" $'call: answered\n> '"$3"
 }
 
-for form in owned borrowed lazy; do
-  answers example $form '{"some":["key","value",2]}
+replies='{"some":["key","value",2]}
 none
 0
 {"some":["key","value",2],"n":true}
 '
+for form in owned borrowed; do
+  answers example $form "$replies" session_known
+done
+for form in owned borrowed lazy; do
+  answers example $form "$replies"
   many=1
   [ $form = lazy ] && many=2
   answers repeat $form "$many"$'\nnot an array\n{"a":1}\n'
+  answers repeat $form "$many"$'\nnot an array\n{"a":2}\n' session_last
   answers reads $form $'3\n'
   eval "reads_$form=$requests"
 done
@@ -260,6 +333,22 @@ requests="$borrowed, $owned"
 good=no
 [ "$borrowed" -lt "$owned" ] && good=yes
 count $good 'fewer where a document borrows its keys'
+
+# A known key is copied where it is absent, and a text is moved.
+requests="$insert_borrowed_text, $insert_borrowed_known"
+good=no
+[ $((insert_borrowed_text + 1)) = "$insert_borrowed_known" ] && good=yes
+count $good 'one more request where an absent key is copied'
+
+# Every public function was run so.
+if "$tools/calls.py" made > out 2> err; then
+  passed=$((passed + 1))
+  cat out
+else
+  failed=$((failed + 1))
+  echo 'failed: the list of calls'
+  cat out err
+fi
 
 echo "$passed passed, $failed failed"
 [ "$failed" = 0 ]

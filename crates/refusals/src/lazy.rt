@@ -18,10 +18,14 @@ enum Call {
     AsMut,
     AsArrayMut,
     AsObjectMut,
+    ArrayMut,
+    ObjectMut,
     GetMut,
     GetIdxMut,
     Insert,
     TryInsert,
+    Set,
+    TrySet,
     Remove,
     Push,
     Pop,
@@ -33,10 +37,14 @@ impl Call {
             "as_mut" => Ok(Call::AsMut),
             "as_array_mut" => Ok(Call::AsArrayMut),
             "as_object_mut" => Ok(Call::AsObjectMut),
+            "array_mut" => Ok(Call::ArrayMut),
+            "object_mut" => Ok(Call::ObjectMut),
             "get_mut" => Ok(Call::GetMut),
             "get_idx_mut" => Ok(Call::GetIdxMut),
             "insert" => Ok(Call::Insert),
             "try_insert" => Ok(Call::TryInsert),
+            "set" => Ok(Call::Set),
+            "try_set" => Ok(Call::TrySet),
             "remove" => Ok(Call::Remove),
             "push" => Ok(Call::Push),
             "pop" => Ok(Call::Pop),
@@ -46,7 +54,7 @@ impl Call {
 
     /// Whether it is made on the array `some` of the document.
     fn is_on_array(self) -> bool {
-        matches!(self, Call::Push | Call::Pop)
+        matches!(self, Call::ArrayMut | Call::Push | Call::Pop)
     }
 
     /// Whether it may be refused for the write, once the value is a document.
@@ -108,14 +116,19 @@ fn done(is_done: bool) -> Answer {
 
 fn answer_of(alloc: Global, call: Call, value: &mut Value<'_, '_, '_>) -> Answer {
     let key = CowStr::Borrowed("n");
+    let there = CowStr::Borrowed("some");
     match call {
         Call::AsMut => done(value.as_mut(alloc).is_ok()),
         Call::AsArrayMut => done(value.as_array_mut(alloc).is_ok()),
         Call::AsObjectMut => done(value.as_object_mut(alloc).is_ok()),
+        Call::ArrayMut => done(value.array_mut(alloc).is_ok()),
+        Call::ObjectMut => done(value.object_mut(alloc).is_ok()),
         Call::GetMut => done(value.get_mut(alloc, "some").is_ok()),
         Call::GetIdxMut => done(value.get_idx_mut(alloc, 0).is_ok()),
         Call::Insert => inserted(value.insert(alloc, key, BorrowedValue::null())),
         Call::TryInsert => tried(value.try_insert(alloc, key, BorrowedValue::null())),
+        Call::Set => inserted(value.insert(alloc, there, BorrowedValue::null())),
+        Call::TrySet => tried(value.try_insert(alloc, there, BorrowedValue::null())),
         Call::Remove => done(value.remove(alloc, "some").is_ok()),
         Call::Push => pushed(value.push(alloc, BorrowedValue::null())),
         Call::Pop => done(value.pop(alloc).is_ok()),
@@ -123,7 +136,7 @@ fn answer_of(alloc: Global, call: Call, value: &mut Value<'_, '_, '_>) -> Answer
 }
 
 /// The texts of the forms.
-fn form_of(value: &Value<'_, '_, '_>) -> &'static str {
+pub fn form_of(value: &Value<'_, '_, '_>) -> &'static str {
     match value {
         Value::Tape(_) => "tape",
         Value::Value(Shared::Borrowed(_)) => "lent",
@@ -184,7 +197,7 @@ fn on_tape(rt: &(impl Print + AllocGlobal), call: Call, bytes: &mut [u8]) -> Res
 }
 
 /// The part of a tape, with a name for each lifetime.
-fn of_tape<'t, 'i>(part: TapeValue<'t, 'i>) -> Value<'t, 't, 'i> {
+pub fn of_tape<'t, 'i>(part: TapeValue<'t, 'i>) -> Value<'t, 't, 'i> {
     Value::from_tape(part)
 }
 
@@ -210,6 +223,11 @@ fn on_owned(rt: &(impl Print + AllocGlobal), call: Call, bytes: &mut [u8]) -> Re
 }
 
 /// The document, with a name for each lifetime.
-fn of_document<'i>(document: BorrowedValue<'i>) -> Value<'i, 'i, 'i> {
+pub fn of_document<'i>(document: BorrowedValue<'i>) -> Value<'i, 'i, 'i> {
     Value::from(document)
+}
+
+/// The lent document, with a name for each lifetime.
+pub fn of_lent<'b, 'i>(document: &'b BorrowedValue<'i>) -> Value<'b, 'i, 'i> {
+    Value::Value(Shared::Borrowed(document))
 }

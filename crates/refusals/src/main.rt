@@ -2,10 +2,14 @@
 //! stands, and where the call was refused makes it again. It is run with each request for memory of
 //! that call refused in turn, which `tools/refusals.sh` does; its words name the call:
 //!
-//!     refusals read CALL TEXT | buffers | insert CALL MEMBERS | present CALL MEMBERS | capacity
-//!     refusals room | map reads | member CALL MEMBERS | member_present CALL MEMBERS
-//!     refusals write CALL GENERATOR | tape new | tape reads | document FORM CALL
-//!     refusals make SOURCE | convert CALL | lazy FORM CALL | run FORM WAY | session FORM INPUT
+//!     refusals read CALL TEXT | read_value FORM CALL | buffers | capacity | room | map reads
+//!     refusals insert CALL MEMBERS | present CALL MEMBERS | member CALL MEMBERS
+//!     refusals member_present CALL MEMBERS | write CALL GENERATOR | tape new | tape reads
+//!     refusals document FORM CALL | make SOURCE | make_lazy SOURCE | convert CALL | copy_key
+//!     refusals lazy FORM CALL | copy FORM CALL | law LAW | run FORM WAY | apply FORM WAY
+//!     refusals session FORM INPUT | session_known FORM INPUT | session_last FORM INPUT
+//!     refusals pointer | no_pointer | pointer_in FORM | pointer_lazy FORM CALL
+//!     refusals kinds FORM | parts FORM | reads WHAT | from WHAT | display FORM
 //!
 //! `refusals nodes LIST ..` makes a tape of each list of nodes.
 //!
@@ -13,22 +17,36 @@
 //! output failed.
 #![tactic(auto)]
 
+mod applies;
+mod copies;
+mod displays;
 mod documents;
 mod fault;
+mod froms;
+mod kinds;
+mod laws;
 mod lazy;
+mod lazy_makes;
 mod makes;
+mod map_reads;
 mod maps;
 mod members;
 mod nodes;
+mod parts;
+mod pointers;
 mod prints;
 mod readings;
 mod runs;
 mod say;
+mod scalars;
 mod sessions;
 mod tapes;
 mod texts;
+mod typed;
+mod values;
 
 use crate::fault::Fault;
+use crate::sessions::Session;
 use std::env;
 use std::process::ExitCode;
 use std::rt::Env;
@@ -41,12 +59,28 @@ fn word(words: &[String], place: usize) -> &str {
     }
 }
 
-fn run(rt: &(impl Env + Print + AllocGlobal)) -> Result<(), Fault> {
-    let words: Vec<String> = env::args(rt)?.skip(1).collect(rt.alloc())?;
-    let (second, third) = (word(&words, 1), word(&words, 2));
-    match word(&words, 0) {
+/// Calls that read texts, or answer commands.
+fn run_texts(rt: &(impl Print + AllocGlobal), words: &[String]) -> Result<(), Fault> {
+    let (second, third) = (word(words, 1), word(words, 2));
+    match word(words, 0) {
         "read" => readings::read(rt, second, third),
+        "read_value" => values::read(rt, second, third),
         "buffers" => readings::buffers(rt),
+        "law" => laws::try_law(rt, second),
+        "nodes" => nodes::tell(rt, words.get(1..).unwrap_or(&[])),
+        "run" => runs::run_form(rt, second, third),
+        "apply" => applies::insert(rt, second, third),
+        "session" => sessions::answer(rt, Session::First, second, third),
+        "session_known" => sessions::answer(rt, Session::Known, second, third),
+        "session_last" => sessions::answer(rt, Session::Last, second, third),
+        _ => run_maps(rt, words),
+    }
+}
+
+/// Calls on maps and by keys.
+fn run_maps(rt: &(impl Print + AllocGlobal), words: &[String]) -> Result<(), Fault> {
+    let (second, third) = (word(words, 1), word(words, 2));
+    match word(words, 0) {
         "insert" => maps::insert(rt, second, third),
         "present" => maps::insert_present(rt, second, third),
         "member" => members::insert_member(rt, second, third),
@@ -54,17 +88,39 @@ fn run(rt: &(impl Env + Print + AllocGlobal)) -> Result<(), Fault> {
         "capacity" => maps::with_capacity(rt),
         "room" => maps::fill_room(rt),
         "map" => maps::reads(rt),
+        "reads" => map_reads::reads(rt, second),
+        "copy_key" => froms::copy_key(rt),
+        "pointer" => pointers::parse(rt),
+        "no_pointer" => pointers::refuse(rt),
+        "pointer_in" => pointers::in_document(rt, second),
+        "pointer_lazy" => pointers::in_lazy(rt, second, third),
+        _ => run_documents(rt, words),
+    }
+}
+
+/// Calls on tapes and documents in each form.
+fn run_documents(rt: &(impl Print + AllocGlobal), words: &[String]) -> Result<(), Fault> {
+    let (second, third) = (word(words, 1), word(words, 2));
+    match word(words, 0) {
         "write" => prints::write(rt, second, third),
+        "display" => displays::write(rt, second),
         "tape" => tapes::call(rt, second),
         "document" => documents::run_call(rt, second, third),
         "make" => makes::make(rt, second),
+        "make_lazy" => lazy_makes::make(rt, second),
         "convert" => makes::convert(rt, second),
+        "from" => froms::make(rt, second),
         "lazy" => lazy::run_call(rt, second, third),
-        "nodes" => nodes::tell(rt, words.get(1..).unwrap_or(&[])),
-        "run" => runs::run_form(rt, second, third),
-        "session" => sessions::answer(rt, second, third),
+        "copy" => copies::run_call(rt, second, third),
+        "kinds" => kinds::reads(rt, second),
+        "parts" => parts::reads(rt, second),
         _ => Err(Fault::Usage),
     }
+}
+
+fn run(rt: &(impl Env + Print + AllocGlobal)) -> Result<(), Fault> {
+    let words: Vec<String> = env::args(rt)?.skip(1).collect(rt.alloc())?;
+    run_texts(rt, &words)
 }
 
 fn main(rt: HostRuntime) -> ExitCode {

@@ -9,7 +9,7 @@ use sj_object::{HashMap, KeyHasher, ObjectHasher};
 use sj_text_core::Refused;
 use std::alloc::{AllocError, Global};
 
-type Numbers = HashMap<String, u64, ObjectHasher>;
+pub type Numbers = HashMap<String, u64, ObjectHasher>;
 
 pub fn key_of(alloc: Global, number: u64) -> Result<String, AllocError> {
     format!(in alloc; "k{number:02}")
@@ -23,7 +23,7 @@ fn keys_of(alloc: Global, count: u64) -> Result<Vec<String>, AllocError> {
     Ok(keys)
 }
 
-fn numbered(alloc: Global, members: u64) -> Result<Numbers, Fault> {
+pub fn numbered(alloc: Global, members: u64) -> Result<Numbers, Fault> {
     let mut map = HashMap::with_capacity_and_hasher(alloc, 0, ObjectHasher::default())?;
     for number in 0..members {
         if map.insert(key_of(alloc, number)?, number).is_err() {

@@ -89,7 +89,7 @@ fn tell_tape(
 }
 
 /// Tells the print of the document.
-fn tell_document<T: KeyText + Drop>(
+pub fn tell_document<T: KeyText + Drop>(
     rt: &(impl Print + AllocGlobal),
     read: Result<Document<T>, ErrorKind>,
 ) -> Result<(), Fault> {

@@ -9,9 +9,14 @@ pub fn text_of(alloc: Global, name: &str) -> Result<Vec<u8>, Fault> {
         "example" => Ok(b"{\"some\": [\"key\", \"value\", 2]}".to_vec(alloc)?),
         "repeat" => Ok(with_repeat(alloc)?),
         "escapes" => Ok(b"{\"q\\\"k\":\"a\\/b\\u0041\"}".to_vec(alloc)?),
+        "kinds" => Ok(KINDS.as_bytes().to_vec(alloc)?),
         _ => Err(Fault::Usage),
     }
 }
+
+/// An object with a member of each kind.
+const KINDS: &str =
+    "{\"null\":null,\"bool\":true,\"int\":7,\"str\":\"s\",\"array\":[7],\"object\":{\"int\":7}}";
 
 /// An object of 33 members: `k00` to `k31` with 0 to 31, and `k00` once more with 99.
 fn with_repeat(alloc: Global) -> Result<Vec<u8>, AllocError> {

@@ -45,6 +45,3 @@ pub type Object<'v> = sj_document::Object<CowStr<'v>>;
 
 /// The items of an array.
 pub type Array<'v> = Vec<Value<'v>>;
-
-#[cfg(test)]
-mod tests;

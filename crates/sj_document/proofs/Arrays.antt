@@ -1,11 +1,12 @@
--- The items of a document, and edits at their end.
-use Rattle.std.proofs.Common.{◌≡◌, ℕ, zero, suc, ◌+◌, ◌<◌, ◌≤◌, ◌++◌, List, [], ◌∷◌, map, length, Option, Some, None, option_map, Vec, Global, refl, sym, ap, ◌∙◌, arith}
+-- The items of a document, and edits among them and at their end.
+use Rattle.std.proofs.Common.{◌≡◌, ℕ, zero, suc, ◌+◌, ◌<◌, ◌≤◌, ◌++◌, List, [], ◌∷◌, map, length, get_or, set, Option, Some, None, option_map, Vec, Global, refl, sym, ap, ◌∙◌, arith}
 use Rattle.std.specs.Option.{option_to_list, MatchOption}
 use Rattle.std.specs.Vec.{vec_len}
 use Rattle.std.specs.List.{HoldsAt}
 use Rattle.sj_text_core.specs.Tree.{Tree, Items, item, items_from}
 use Rattle.sj_text_core.specs.Find.{nth_item}
 use Rattle.sj_text_core.specs.Edits.{push, front, last}
+use Rattle.sj_text_core.specs.Paths.{set_item}
 use Rattle.sj_document.specs.Document.{tree as tree_by}
 use Rattle.sj_document.specs.declared.value.Document.{Document}
 
@@ -49,7 +50,7 @@ module _ {T : Type 0} (t : T → List ℕ) where
   some_nth (v ∷ vs) zero x h e = ap (λ y. Some (tree y)) (e x)
   some_nth (v ∷ vs) (suc i) x h e = some_nth vs i x (omega arith) e
 
-  none_nth : (vs : List (Document T)) (i : ℕ) → length vs ≤ i → None ≡ nth_item i (items_seen vs)
+  pub none_nth : (vs : List (Document T)) (i : ℕ) → length vs ≤ i → None ≡ nth_item i (items_seen vs)
   none_nth [] i h = refl
   none_nth (v ∷ vs) zero h = absurd (omega arith)
   none_nth (v ∷ vs) (suc i) h = none_nth vs i (omega arith)
@@ -58,3 +59,13 @@ module _ {T : Type 0} (t : T → List ℕ) where
   pub get_nth : {R : Type 0} (now : R → Document T) (vs : List (Document T)) (i : ℕ) (r : Option R) → MatchOption r (length vs ≤ i) (λ x. (i < length vs) × HoldsAt (λ y. now x ≡ y) vs i) → option_map (λ v. tree (now v)) r ≡ nth_item i (items_seen vs)
   get_nth now vs i None h = none_nth vs i h
   get_nth now vs i (Some x) h = some_nth vs i (now x) h.0 h.1
+
+  pub item_at : (vs : List (Document T)) (i : ℕ) (x : Document T) → i < length vs → x ≡ get_or vs i x → nth_item i (items_seen vs) ≡ Some (tree x)
+  item_at [] i x h e = absurd (omega arith)
+  item_at (v ∷ vs) zero x h e = ap (λ y. Some (tree y)) (sym e)
+  item_at (v ∷ vs) (suc i) x h e = item_at vs i x (omega arith) e
+
+  pub item_set : (vs : List (Document T)) (i : ℕ) (x : Document T) → items_seen (set vs i x) ≡ set_item i (tree x) (items_seen vs)
+  item_set [] i x = refl
+  item_set (v ∷ vs) zero x = refl
+  item_set (v ∷ vs) (suc i) x = ap (item (tree v)) (item_set vs i x)

@@ -33,6 +33,3 @@ pub use sj_text_core::{
 };
 pub use upgrade::{Lent, Upgrade};
 pub use value::{Lazy, Shared, Value, ValueCow};
-
-#[cfg(test)]
-mod tests;

@@ -10,5 +10,6 @@ pub mod Added
 pub mod Shown
 pub mod Kept
 pub mod Walks
+pub mod PileEntries
 pub mod Piles
 pub mod rows

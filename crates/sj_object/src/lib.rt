@@ -15,6 +15,3 @@ pub use hasher::{KeyHasher, NotSoRandomState, ObjectHasher};
 pub use key::{KeyMade, KeyOf, KeyText};
 pub use map::{HashMap, IntoIter, Iter, Keys, Values};
 pub use read::{deserialize, deserialize_repeats, deserialize_with_buffers};
-
-#[cfg(test)]
-mod tests;

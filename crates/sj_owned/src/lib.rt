@@ -40,6 +40,3 @@ pub type Object = sj_document::Object<String>;
 
 /// The items of an array.
 pub type Array = Vec<Value>;
-
-#[cfg(test)]
-mod tests;

@@ -4,7 +4,7 @@ use Rattle.std.specs.Char.{is_ascii_digit}
 use Rattle.std.specs.List.{AllByRecursion, list_all}
 use Rattle.std.proofs.lemmas.Bool.Decides.{eqb_tells, nat_tests}
 use Rattle.sj_text_core.specs.Grammar.{IsDigit, IsNumeral, value_of}
-use Rattle.sj_path.specs.Places.{is_empty, is_index, place_of}
+use Rattle.sj_text_core.specs.Places.{is_empty, is_index, place_of}
 use Rattle.sj_path.proofs.Spellings.{left, right}
 
 low : (c : ℕ) → is_ascii_digit c ≡ true → 48 ≤ c

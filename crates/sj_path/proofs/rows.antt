@@ -1,4 +1,3 @@
 -- What the definitions give on small examples, by computation.
 pub mod Texts
-pub mod Places
 pub mod Found

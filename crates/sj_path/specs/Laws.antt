@@ -4,7 +4,7 @@ use Rattle.sj_text_core.specs.Grammar.{IsNumeral, value_of}
 use Rattle.sj_path.specs.Syntax.{is_begun, is_escaped}
 use Rattle.sj_path.specs.Tokens.{tokens_of}
 use Rattle.sj_path.specs.Spelled.{SpellsTokens}
-use Rattle.sj_path.specs.Places.{place_of}
+use Rattle.sj_text_core.specs.Places.{place_of}
 
 -- a text spells tokens just where it is begun and escaped, and they are the text's tokens
 abbrev pub TokensAreSpelled : Type 0

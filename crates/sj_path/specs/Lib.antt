@@ -1,7 +1,8 @@
 pub mod Syntax
 pub mod Tokens
 pub mod Spelled
-pub mod Places
 pub mod Pointed
 pub mod Replaced
 pub mod Laws
+pub use Rattle.sj_text_core.specs.Places
+pub use Rattle.sj_text_core.specs.Paths

@@ -31,6 +31,3 @@ pub use error::PointerError;
 pub use parse::pointer;
 pub use place::position;
 pub use tokens::Pointer;
-
-#[cfg(test)]
-mod tests;

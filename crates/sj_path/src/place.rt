@@ -4,7 +4,7 @@ ghost use Rattle.std.specs.Prelude.{◌≡◌, ◌^◌, ◌&&◌, nat_lt, if◌t
 ghost use Rattle.std.specs.Char.{is_ascii_digit};
 ghost use Rattle.std.specs.List.{list_all};
 ghost use Rattle.sj_text_core.specs.Grammar.{value_of};
-ghost use Rattle.sj_path.specs.Places.{place_of};
+ghost use Rattle.sj_text_core.specs.Places.{place_of};
 
 /// The number that digits write; None where one is no digit, or the number is past `usize::MAX`.
 fn number(digits: &[u8]) -> Option<usize>

@@ -27,6 +27,13 @@ impl Pointer {
         Pointer { tokens }
     }
 
+    /// The tokens in order, decoded, which the pointer gives up.
+    pub fn into_tokens(self) -> Vec<String>
+        ensures { map string_bytes result.items ≡ self }
+    {
+        self.tokens
+    }
+
     /// The tokens in order, decoded.
     pub fn tokens(&self) -> &[String]
         ensures { map string_bytes result.now ≡ self.now }

@@ -37,6 +37,3 @@ pub use layout::Layout;
 pub use output::{Count, Output};
 pub use parts::{Level, Parts};
 pub use whole::{encode, write};
-
-#[cfg(test)]
-mod tests;

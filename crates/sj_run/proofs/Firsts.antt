@@ -1,28 +1,18 @@
 -- Where the first member of a text counts, commands answer as they do on the tree.
-use Rattle.std.proofs.Common.{◌≡◌, ◌∙◌, ℕ, ◌+◌, ◌^◌, ◌≤◌, List, [], ◌∷◌, ◌++◌, Option, Some, None, option_and_then, Result, Ok, Err, length, refl, ap, subst}
+use Rattle.std.proofs.Common.{◌≡◌, ◌∙◌, ℕ, ◌+◌, ◌^◌, ◌≤◌, List, [], ◌∷◌, ◌++◌, Option, Some, None, Result, Ok, Err, length, refl, ap, subst}
 use Rattle.std.specs.Prelude.{OnOk}
 use Rattle.sj_text_core.specs.Tree.{Tree}
-use Rattle.sj_text_core.specs.Find.{find, nth}
 use Rattle.sj_text_core.specs.Keep.{keep}
-use Rattle.sj_text_core.specs.Paths.{Step, by_key, by_place, tree_at}
+use Rattle.sj_text_core.specs.Paths.{tree_at}
 use Rattle.sj_text_core.specs.declared.repeats.Repeats.TheVariants.{First}
 use Rattle.sj_run.specs.Commands.{Read, kind, fits, str, len, keys, has, encode, encode_pp, PlainCommand, read, write, bad}
 use Rattle.sj_run.specs.Replies.{PlainReply}
 use Rattle.sj_run.specs.Answers.{reply_to, read_found, answer, replies_of, start}
-use Rattle.sj_run.specs.Repeats.{tree_at_by, reply_to_by, read_found_by, answer_by, replies_by, start_by}
+use Rattle.sj_run.specs.Repeats.{reply_to_by, read_found_by, answer_by, replies_by, start_by}
 use Rattle.sj_run.specs.Session.{IsAnswered, IsAnsweredBy, PassesAll, PassesAllBy}
 use Rattle.sj_run.specs.Shown.{shown_all}
 use Rattle.sj_run.specs.declared.sessions.Form.{Form}
 use Rattle.sj_run.specs.declared.sessions.Form.TheVariants.{Owned, Borrowed, Lazy}
-
-and_then-same : (f g : Tree → Option Tree) (o : Option Tree) → ((u : Tree) → f u ≡ g u) → option_and_then f o ≡ option_and_then g o
-and_then-same f g None e = refl
-and_then-same f g (Some u) e = e u
-
-tree_at-first : (p : List Step) (t : Tree) → tree_at_by First p t ≡ tree_at p t
-tree_at-first [] t = refl
-tree_at-first (by_key k ∷ p) t = and_then-same (λ u. tree_at_by First p u) (λ u. tree_at p u) (find k t) (tree_at-first p)
-tree_at-first (by_place i ∷ p) t = and_then-same (λ u. tree_at_by First p u) (λ u. tree_at p u) (nth i t) (tree_at-first p)
 
 reply_to-first : (r : Read) (t : Tree) → reply_to_by First r t ≡ reply_to r t
 reply_to-first kind t = refl
@@ -39,7 +29,7 @@ read_found-first None r = refl
 read_found-first (Some u) r = reply_to-first r u
 
 answer-first : (t : Tree) (c : PlainCommand) → answer_by (First, t) c ≡ ((First, (answer t c).0), (answer t c).1)
-answer-first t (read p r) = ap (λ x. ((First, t), x)) (read_found-first (tree_at_by First p t) r ∙ ap (λ o. read_found o r) (tree_at-first p t))
+answer-first t (read p r) = ap (λ x. ((First, t), x)) (read_found-first (tree_at p t) r)
 answer-first t (write p w) = refl
 answer-first t bad = refl
 

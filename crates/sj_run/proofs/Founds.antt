@@ -1,10 +1,10 @@
 -- What a read finds: the place at a path, lengths, and keys one by one.
 use Rattle.std.proofs.Common.{Option, option_and_then, ◌<◌, ◌+◌, drop, drop-cons, add-one, get_or, ◌≡◌, ℕ, suc, List, [], ◌∷◌, ◌++◌, length, map, string_bytes, String, Global, refl, sym, ap, ◌∙◌, append_assoc, append-nil}
 use Rattle.std.proofs.lemmas.List.{map-append}
+use Rattle.sj_text_core.specs.Paths.{step_into_by, tree_at_by}
 use Rattle.sj_text_core.specs.Tree.{Tree, items_len, members_len, items_from, members_from, keys_of}
 use Rattle.sj_text_core.specs.declared.repeats.Repeats.{Repeats}
 use Rattle.sj_run.specs.Meant.{step_meant}
-use Rattle.sj_run.specs.Repeats.{step_into_by, tree_at_by}
 use Rattle.sj_run.specs.declared.command.Step as meant
 use Rattle.sj_text_core.specs.Print.{quoted}
 use Rattle.sj_object.specs.Entries.{Entry}

@@ -1,10 +1,13 @@
 -- Which command a line is.
-use Rattle.std.specs.Prelude.{◌≡◌, ◌⊎◌, ℕ, List, [], ◌∷◌, if◌then◌else◌, Option, Some, None, option_map, option_and_then, unwrap_or, codes, bytes_eq, ⊤}
+use Rattle.std.specs.Prelude.{◌≡◌, ◌⊎◌, ◌&&◌, ℕ, List, [], ◌∷◌, if◌then◌else◌, Option, Some, None, option_map, option_and_then, unwrap_or, codes, bytes_eq, ⊤}
 use Rattle.sj_text_core.specs.Tree.{Tree, null, boolean, int, text, list, obj, Items, no_items, item, IsWithin}
 use Rattle.sj_text_core.specs.Grammar.{Spells, IsReadable}
 use Rattle.sj_text_core.specs.Keep.{keep}
 use Rattle.sj_text_core.specs.Paths.{Step, by_key, by_place}
 use Rattle.sj_text_core.specs.Reads.{as_unsigned}
+use Rattle.sj_path.specs.Syntax.{is_begun, is_escaped}
+use Rattle.sj_path.specs.Tokens.{tokens_of}
+use Rattle.sj_path.specs.Pointed.{path_of}
 use Rattle.sj_run.specs.Commands.{Width, signed, unsigned, kind, fits, str, len, keys, has, encode, encode_pp, insert, remove, push, pop, put, PlainCommand, read, write, bad}
 
 -- the integer type of that name
@@ -32,12 +35,16 @@ abbrev pub steps_in : Items → Option (List Step)
 steps_in no_items = Some []
 steps_in (item t is) = option_and_then (λ s. option_map (λ p. s ∷ p) (steps_in is)) (step_in t)
 
--- an array of steps
+-- the steps of a pointer's tokens; none where the text is no pointer (RFC 6901, section 3)
+abbrev pub pointer_in : List ℕ → Option (List Step)
+pointer_in s = if is_begun s && is_escaped s then Some (path_of (tokens_of s)) else None
+
+-- an array of steps, or a text that is a pointer
 abbrev pub path_in : Tree → Option (List Step)
 path_in null = None
 path_in (boolean b) = None
 path_in (int n c) = None
-path_in (text s) = None
+path_in (text s) = pointer_in s
 path_in (list is) = steps_in is
 path_in (obj ms) = None
 

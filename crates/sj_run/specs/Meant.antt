@@ -1,13 +1,13 @@
 -- What steps, commands and replies of the code mean.
 use Rattle.std.specs.Prelude.{List, map, string_bytes}
-use Rattle.sj_text_core.specs.Paths.{Step as PlainStep, by_key, by_place}
+use Rattle.sj_text_core.specs.Paths.{Step as PlainStep, by_key, by_place, by_token}
 use Rattle.sj_document.specs.Document.{tree}
 use Rattle.sj_run.specs.Commands as plain
 use Rattle.sj_run.specs.Replies as said
 use Rattle.sj_run.specs.declared.command.Command.{Command}
 use Rattle.sj_run.specs.declared.command.Command.TheVariants as command
 use Rattle.sj_run.specs.declared.command.Step.{Step}
-use Rattle.sj_run.specs.declared.command.Step.TheVariants.{Key, Idx}
+use Rattle.sj_run.specs.declared.command.Step.TheVariants.{Key, Idx, Token}
 use Rattle.sj_run.specs.declared.command.Width.{Width}
 use Rattle.sj_run.specs.declared.command.Width.TheVariants as width
 use Rattle.sj_run.specs.declared.reply.Reply.{Reply}
@@ -16,6 +16,7 @@ use Rattle.sj_run.specs.declared.reply.Reply.TheVariants as reply
 abbrev pub step_meant : Step → PlainStep
 step_meant (Key k) = by_key (string_bytes k)
 step_meant (Idx i) = by_place i
+step_meant (Token k) = by_token (string_bytes k)
 
 abbrev pub path_meant : List Step → List PlainStep
 path_meant p = map step_meant p

@@ -1,9 +1,8 @@
 -- What commands answer on a tree where the first or the last member of a text counts (RFC 8259, section 4, leaves repeats open).
 -- With the choice First each word here is the one of Answers.
-use Rattle.std.specs.Prelude.{List, [], ◌∷◌, Option, Some, None, option_and_then, is_some}
+use Rattle.std.specs.Prelude.{List, [], ◌∷◌, Option, Some, None, is_some}
 use Rattle.sj_text_core.specs.Tree.{Tree}
-use Rattle.sj_text_core.specs.Find.{nth}
-use Rattle.sj_text_core.specs.Paths.{Step, by_key, by_place}
+use Rattle.sj_text_core.specs.Paths.{tree_at_by}
 use Rattle.sj_text_core.specs.Repeats.{find_by, keep_by}
 use Rattle.sj_text_core.specs.declared.repeats.Repeats.{Repeats}
 use Rattle.sj_text_core.specs.declared.repeats.Repeats.TheVariants.{First}
@@ -14,16 +13,6 @@ use Rattle.sj_run.specs.Replies as reply
 use Rattle.sj_run.specs.Answers.{reply_to, edit}
 use Rattle.sj_run.specs.declared.sessions.Form.{Form}
 use Rattle.sj_run.specs.declared.sessions.Form.TheVariants as form
-
--- what one step finds
-abbrev pub step_into_by : Repeats → Step → Tree → Option Tree
-step_into_by c (by_key k) t = find_by c k t
-step_into_by c (by_place i) t = nth i t
-
--- what stands at the path; absent where a step finds nothing
-abbrev pub tree_at_by : Repeats → List Step → Tree → Option Tree
-tree_at_by c [] t = Some t
-tree_at_by c (s ∷ p) t = option_and_then (λ u. tree_at_by c p u) (step_into_by c s t)
 
 -- what a read answers at the tree found
 abbrev pub reply_to_by : Repeats → Read → Tree → PlainReply

@@ -8,13 +8,17 @@ pub(crate) use line::command_of;
 use sj_document::OwnedValue;
 
 /// A step on the way to a value. One that finds nothing makes the reply `Missing`: a key that is
-/// not there, or on a non-object; a place past the last item, or on a non-array.
+/// not there, or on a non-object; a place past the last item, or on a non-array; a token that is no
+/// key of an object, names no item of an array, or is on neither.
 #[derive(Debug, Drop, PartialEq, Eq)]
 pub enum Step {
     /// To the value of a key.
     Key(String),
     /// To the item at a place, counted from 0.
     Idx(usize),
+    /// As a pointer's token goes (RFC 6901, section 4): on an object to the value of a key, on an
+    /// array to the item at the position that it names.
+    Token(String),
 }
 
 /// An integer type, as whose value a number may fit.

@@ -1,13 +1,14 @@
 //! Reads at a path.
 
 ghost use Rattle.std.specs.Prelude.{◌≡◌, ◌↔◌, ◌+◌, ◌^◌, ◌≤◌, map, option_map, length, IfOk, IfSome, OnOk, OnErr, IsErrOf};
+ghost use Rattle.sj_text_core.specs.Paths.{step_into_by, token_into_by, tree_at_by};
 ghost use Rattle.sj_run.specs.Answers.{is_in, IsLong};
 ghost use Rattle.sj_run.specs.Answered.{Answers, IsBegunBy, PassesOne};
 ghost use Rattle.sj_run.specs.Asked.{read_meant};
 ghost use Rattle.sj_run.specs.Commands as command;
 ghost use Rattle.sj_run.specs.Found.{found_meant};
 ghost use Rattle.sj_run.specs.Meant.{reply_meant, step_meant, width_meant};
-ghost use Rattle.sj_run.specs.Repeats.{answer_by, reply_to_by, step_into_by, tree_at_by};
+ghost use Rattle.sj_run.specs.Repeats.{answer_by, reply_to_by};
 
 mod found;
 mod place;
@@ -18,8 +19,21 @@ use crate::reply::Reply;
 use crate::runs::Why;
 use found::Found;
 pub(crate) use place::Place;
+use sj_path::position;
 use sj_text_core::{TypedValue, ValueAsScalar};
 use std::alloc::Global;
+
+/// What a token finds: on an array the item at the position that it names, else the value of a key.
+fn follow_token<P: Place>(place: &P, way: Way, token: &str) -> Option<P>
+    ensures value { option_map P.tree_of result ≡ token_into_by (P.choice place.now) token.now (P.tree_of place.now) }
+    ensures choice { IfSome result (λ p. P.choice p ≡ P.choice place.now) }
+{
+    if place.value().is_array() {
+        place.item(position(token)?)
+    } else {
+        place.member(way, token)
+    }
+}
 
 /// What one step finds.
 fn follow<P: Place>(place: &P, way: Way, step: &Step) -> Option<P>
@@ -29,6 +43,7 @@ fn follow<P: Place>(place: &P, way: Way, step: &Step) -> Option<P>
     match step {
         Step::Key(key) => place.member(way, key.as_str()),
         Step::Idx(index) => place.item(*index),
+        Step::Token(token) => follow_token(place, way, token.as_str()),
     }
 }
 

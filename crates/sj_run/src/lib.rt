@@ -12,8 +12,6 @@ mod lines;
 mod reply;
 mod runs;
 mod sessions;
-#[cfg(test)]
-mod tests;
 mod texts;
 
 pub use command::{Command, Step, Width};

@@ -19,7 +19,7 @@ fn items_width(nodes: &[Node], len: usize) -> Option<usize>
         if at >= nodes.len() {
             return None;
         }
-        at += width_of(nodes[at]);
+        at += width_of(&nodes[at]);
     }
     Some(at)
 }
@@ -44,7 +44,7 @@ fn members_width(nodes: &[Node], len: usize) -> Option<usize>
         if at + 1 >= nodes.len() || !is_text(nodes[at]) {
             return None;
         }
-        at += 1 + width_of(nodes[at + 1]);
+        at += 1 + width_of(&nodes[at + 1]);
     }
     Some(at)
 }

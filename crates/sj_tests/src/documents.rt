@@ -153,6 +153,46 @@ fn reads_a_text_with_a_repeat(rt: HostRuntime) -> Result<(), Fail> {
     Ok(())
 }
 
+/// The text of an object: the keys `k00` to `k31`, each with its number, and then each once more
+/// with 99.
+fn text_of_each_twice(alloc: Global) -> Result<String, Fail> {
+    let mut text = String::from_str(alloc, "{")?;
+    for i in 0..32 {
+        text.push_str(format!(in alloc; "\"k{i:02}\":{i},")?.as_str())?;
+    }
+    for i in 0..32 {
+        let comma = if i == 0 { "" } else { "," };
+        text.push_str(format!(in alloc; "{comma}\"k{i:02}\":99")?.as_str())?;
+    }
+    text.push_str("}")?;
+    Ok(text)
+}
+
+#[test]
+fn keeps_the_first_where_each_key_comes_twice(rt: HostRuntime) -> Result<(), Fail> {
+    let alloc = rt.alloc();
+    let text = text_of_each_twice(alloc)?;
+    let mut bytes = text.as_bytes().to_vec(alloc)?;
+    let tape = to_tape(alloc, bytes.as_mut_slice())?;
+    let whole = tape.as_value();
+    assert_eq!(rt; whole.as_object().map(|members| members.len()), Some(64));
+    assert_eq!(rt; whole.get_u8("k31"), Some(31));
+    let mut bytes = text.into_bytes();
+    let mut value = deserialize::<OwnedValue, String>(alloc, bytes.as_mut_slice())?;
+    assert_eq!(rt; value.get_u8("k31"), Some(31));
+    let Some(members) = value.as_object_mut() else {
+        return Err("no object".into());
+    };
+    assert_eq!(rt; (members.len(), members.buckets()), (32, None));
+    assert!(rt;
+        members
+            .insert(String::from_str(alloc, "k32")?, Document::null())?
+            .is_none()
+    );
+    assert_eq!(rt; (members.len(), members.buckets()), (33, Some(64)));
+    Ok(())
+}
+
 /// A tape's text, and what it is compared with.
 const ROWS: [(&str, &str, bool); 9] = [
     (

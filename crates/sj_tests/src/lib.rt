@@ -1,9 +1,13 @@
-//! Tests of tapes and of documents, by their public calls.
+//! Tests of generators, tapes, maps and documents, by their public calls.
 //!
-//! They stand in a crate of their own because a crate with tests is proved twice.
+//! Tests stand in crates of their own because a crate with tests is proved twice.
 #![tactic(auto)]
 
 #[cfg(test)]
 mod documents;
+#[cfg(test)]
+mod generators;
+#[cfg(test)]
+mod map;
 #[cfg(test)]
 mod tape;

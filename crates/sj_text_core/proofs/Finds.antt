@@ -1,11 +1,10 @@
 -- What is found in a kept tree, and in a tree whose numbers have the carriers of their prints.
-use Rattle.std.proofs.Common.{◌≡◌, ℕ, zero, suc, ◌≤◌, max, Bool, true, false, ◌||◌, List, [], ◌∷◌, Option, Some, None, option_map, option_and_then, refl, sym, ap, ◌∙◌, subst, bytes_eq}
+use Rattle.std.proofs.Common.{◌≡◌, ℕ, zero, suc, ◌≤◌, max, Bool, true, false, ◌||◌, List, [], ◌∷◌, Option, Some, None, option_map, refl, sym, ap, ◌∙◌, subst, bytes_eq}
 use Rattle.std.specs.Prelude.{MatchBool, MatchOption, if◌then◌else◌}
 use Rattle.std.proofs.lemmas.Slice.Eq.{bytes_eq-Decides}
 use Rattle.sj_text_core.specs.Tree.{Tree, null, boolean, int, text, list, obj, Items, no_items, item, Members, no_members, member, depth, items_depth, members_depth, IsWithin}
 use Rattle.sj_text_core.specs.Find.{find, find_member, nth, nth_item}
 use Rattle.sj_text_core.specs.Keep.{is_seen, keep, keep_items, keep_members}
-use Rattle.sj_text_core.specs.Paths.{Step, by_key, by_place, step_into, tree_at}
 use Rattle.sj_text_core.specs.Same.{Same, SameItems, SameAt}
 use Rattle.sj_text_core.specs.Print.{recarry, recarry_items, recarry_members}
 
@@ -58,20 +57,6 @@ nth-keep i (int n c) = refl
 nth-keep i (text s) = refl
 nth-keep i (list is) = nth_item-keep i is
 nth-keep i (obj ms) = refl
-
-step_into-keep : (s : Step) (t : Tree) → step_into s (keep t) ≡ option_map keep (step_into s t)
-step_into-keep (by_key k) t = find-keep k t
-step_into-keep (by_place i) t = nth-keep i t
-
-on_step : (p : List Step) (r : Option Tree) → ((u : Tree) → tree_at p (keep u) ≡ option_map keep (tree_at p u))
-    → option_and_then (λ u. tree_at p u) (option_map keep r) ≡ option_map keep (option_and_then (λ u. tree_at p u) r)
-on_step p None e = refl
-on_step p (Some u) e = e u
-
--- what stands at a path in a kept tree is kept of what stands there
-pub tree_at-keep : (p : List Step) (t : Tree) → tree_at p (keep t) ≡ option_map keep (tree_at p t)
-tree_at-keep [] t = refl
-tree_at-keep (s ∷ p) t = ap (option_and_then (λ u. tree_at p u)) (step_into-keep s t) ∙ on_step p (step_into s t) (λ u. tree_at-keep p u)
 
 under_by : (b : Bool) (f : Tree → Tree) (t : Tree) (P : Option Tree → Type 0) (r : Option Tree) → Same t (f t) → P (option_map f r)
     → MatchBool b (MatchOption (option_map f (if b then Some t else r)) ⊥ (λ u. Same t u)) (P (option_map f (if b then Some t else r)))

@@ -16,3 +16,4 @@ pub mod parse
 pub mod Back
 pub mod Unread
 pub mod Shapes
+pub mod Paths

@@ -9,3 +9,4 @@ pub mod Misspelled
 pub mod Structure
 pub mod Nodes
 pub mod Repeats
+pub mod Places

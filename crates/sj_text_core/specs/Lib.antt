@@ -4,6 +4,7 @@ pub mod Parse
 pub mod Find
 pub mod Keep
 pub mod Edits
+pub mod Places
 pub mod Paths
 pub mod Same
 pub mod Print

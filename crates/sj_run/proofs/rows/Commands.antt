@@ -1,7 +1,7 @@
 -- Which commands the trees of lines are.
 use Rattle.std.proofs.Common.{◌≡◌, ℕ, pos, negsuc, List, [], ◌∷◌, refl, codes}
 use Rattle.sj_text_core.specs.Tree.{u64, i64, u128, Tree, null, int, text, list, obj, no_items, no_members, member, items_from}
-use Rattle.sj_text_core.specs.Paths.{by_key, by_place}
+use Rattle.sj_text_core.specs.Paths.{by_key, by_place, by_token}
 use Rattle.sj_run.specs.Commands.{unsigned, read, write, bad, kind, fits, str, len, keys, has, encode, encode_pp, insert, remove, push, put, pop}
 use Rattle.sj_run.specs.CommandLines.{command_in}
 
@@ -112,6 +112,22 @@ command_in-put_few = refl
 -- a path that is none
 command_in-no_path : command_in (line (word (codes "kind") ∷ word (codes "a") ∷ [])) ≡ bad
 command_in-no_path = refl
+
+-- a pointer, and texts that are none
+command_in-pointer : command_in (line (word (codes "len") ∷ word (codes "/foo/0") ∷ [])) ≡ read (by_token (codes "foo") ∷ by_token (codes "0") ∷ []) len
+command_in-pointer = refl
+
+command_in-escaped : command_in (line (word (codes "put") ∷ word (codes "/m~01~1") ∷ null ∷ [])) ≡ write (by_token (codes "m~1/") ∷ []) (put null)
+command_in-escaped = refl
+
+command_in-whole : command_in (line (word (codes "encode") ∷ word [] ∷ [])) ≡ read [] encode
+command_in-whole = refl
+
+command_in-bad_tilde : command_in (line (word (codes "len") ∷ word (codes "/a~2") ∷ [])) ≡ bad
+command_in-bad_tilde = refl
+
+command_in-no_slash : command_in (line (word (codes "len") ∷ word (codes "~1") ∷ [])) ≡ bad
+command_in-no_slash = refl
 
 command_in-no_step : command_in (line (word (codes "kind") ∷ line (null ∷ []) ∷ [])) ≡ bad
 command_in-no_step = refl

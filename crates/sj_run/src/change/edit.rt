@@ -1,7 +1,7 @@
 //! Writes at a path.
 
 ghost use Rattle.std.specs.Prelude.{map, ◌∷◌};
-ghost use Rattle.sj_text_core.specs.Paths.{by_key, by_place};
+ghost use Rattle.sj_text_core.specs.Paths.{by_key, by_place, by_token};
 ghost use Rattle.sj_text_core.specs.Tree.{list, obj, items_from};
 ghost use Rattle.sj_object.specs.Members.{entry_members};
 ghost use Rattle.sj_document.specs.Document.{tree};
@@ -16,6 +16,7 @@ use crate::document::Way;
 use crate::keys::member_mut;
 use sj_document::{Document, Object};
 use sj_object::KeyText;
+use sj_path::position;
 use std::alloc::AllocError;
 
 /// Changes the value at the path in its place; where nothing stands there, it changes nothing.
@@ -58,6 +59,31 @@ where
             Document::Array(items) => edit_item(items, way, *at, rest, write),
             _ => Ok(Changed::Missing),
         },
+        Step::Token(token) => edit_token(value, way, token.as_str(), rest, write),
+    }
+}
+
+#[cycle(edit)]
+fn edit_token<T: KeyText + Drop>(
+    value: &mut Document<T>,
+    way: Way,
+    token: &str,
+    rest: &[Step],
+    write: Write<T>,
+) -> Result<Changed<T>, AllocError>
+where
+    Way: Inserts<T>,
+    ensures { Edits T.text_of (by_token token.now ∷ map step_meant rest.now) (write_meant T.text_of write) (tree T.text_of value.old) (tree T.text_of value.new) result }
+{
+    match value {
+        Document::Object(members) => edit_member(members, way, token, rest, write),
+        Document::Array(items) => {
+            let Some(at) = position(token) else {
+                return Ok(Changed::Missing);
+            };
+            edit_item(items, way, at, rest, write)
+        }
+        _ => Ok(Changed::Missing),
     }
 }
 

@@ -4,13 +4,15 @@ ghost use Rattle.std.specs.Prelude.{◌≡◌, IfOk, option_map, unwrap_or, map,
 ghost use Rattle.std.specs.Vec.Iter.{into_iter_items};
 ghost use Rattle.sj_text_core.specs.Tree.{list, items_from};
 ghost use Rattle.sj_document.specs.Document.{tree};
+ghost use Rattle.sj_path.specs.Pointed.{path_of};
 ghost use Rattle.sj_run.specs.Commands.{PlainCommand, bad};
-ghost use Rattle.sj_run.specs.CommandLines.{IsCommandOf, command_in as command_in_tree, command_with, command_with_path, command_with_text, command_with_value, command_with_member, path_in as path_in_tree, step_in as step_in_tree, steps_in as steps_in_items, width_named as width_of_name};
+ghost use Rattle.sj_run.specs.CommandLines.{IsCommandOf, command_in as command_in_tree, command_with, command_with_path, command_with_text, command_with_value, command_with_member, path_in as path_in_tree, pointer_in as pointer_in_text, step_in as step_in_tree, steps_in as steps_in_items, width_named as width_of_name};
 ghost use Rattle.sj_run.specs.Meant.{command_meant, step_meant, path_meant, width_meant};
 
 use super::{Command, Step, Width};
 use sj_document::{Document, OwnedValue};
 use sj_object::deserialize;
+use sj_path::{PointerError, pointer};
 use sj_text_core::{ErrorKind, ValueAsScalar};
 use std::alloc::{AllocError, Global};
 use std::vec::IntoIter;
@@ -61,11 +63,34 @@ fn steps_in(alloc: Global, items: Vec<OwnedValue>) -> Result<Option<Vec<Step>>, 
     Ok(Some(steps))
 }
 
+/// The steps of tokens, which move into them.
+fn token_steps(alloc: Global, tokens: Vec<String>) -> Result<Vec<Step>, AllocError>
+    ensures { IfOk result (λ steps. path_meant steps.items ≡ path_of (map string_bytes tokens.items)) }
+{
+    let mut steps = Vec::with_capacity(alloc, tokens.len())?;
+    for token in tokens {
+        steps.push(Step::Token(token))?;
+    }
+    Ok(steps)
+}
+
+/// The path of a text, where it is a pointer.
+fn pointer_in(alloc: Global, text: &str) -> Result<Option<Vec<Step>>, AllocError>
+    ensures { IfOk result (λ p. option_map (λ steps. path_meant steps.items) p ≡ pointer_in_text text.now) }
+{
+    match pointer(alloc, text) {
+        Ok(pointer) => Ok(Some(token_steps(alloc, pointer.into_tokens())?)),
+        Err(PointerError::OutOfMemory) => Err(AllocError),
+        Err(PointerError::NoSlash | PointerError::BadTilde) => Ok(None),
+    }
+}
+
 fn path_in(alloc: Global, value: OwnedValue) -> Result<Option<Vec<Step>>, AllocError>
     ensures { IfOk result (λ p. option_map (λ steps. path_meant steps.items) p ≡ path_in_tree (tree string_bytes value)) }
 {
     match value {
         Document::Array(items) => steps_in(alloc, Box::into_inner(items)),
+        Document::String(text) => pointer_in(alloc, text.as_str()),
         _ => Ok(None),
     }
 }

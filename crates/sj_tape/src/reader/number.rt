@@ -1,6 +1,6 @@
 //! Whole numbers.
 
-ghost use Rattle.std.specs.Prelude.{◌≡◌, ◌≢◌, ◌+◌, ◌-◌, ◌<◌, ◌≤◌, ◌%◌, ◌^◌, ℕ, Some, None, length, get_or, drop, IfOk, IfErr, OnErr, MatchOption, option_map, EachIndex, slice_index, slice_range};
+ghost use Rattle.std.specs.Prelude.{◌≡◌, ◌≢◌, ◌+◌, ◌-◌, ◌<◌, ◌≤◌, ◌%◌, ◌^◌, ℕ, Some, None, true, length, get_or, drop, IfOk, IfErr, IfSome, OnErr, MatchOption, option_map, EachIndex, slice_index, slice_range};
 ghost use Rattle.sj_text_core.specs.Parse as parse;
 ghost use Rattle.sj_text_core.specs.Grammar.{value_of, number_of};
 ghost use Rattle.sj_text_core.specs.Scalars.{static_tree};
@@ -90,10 +90,10 @@ fn goes_on(bytes: &[u8], at: usize) -> bool
     byte == b'.' || byte == b'e' || byte == b'E'
 }
 
-/// The number of at most 18 digits.
+/// A number of at most 64 bits, of at most 18 digits where it is negative.
 #[inline(always)]
 fn few(is_negative: bool, n: u64) -> StaticNode
-    requires { n < 10 ^ 18 }
+    requires { is_negative ≡ true → n < 10 ^ 18 }
     ensures { number_of is_negative n ≡ Some (static_tree result) }
 {
     if is_negative {
@@ -122,6 +122,39 @@ fn many(digits: &[u8], is_negative: bool, low: u64) -> Option<StaticNode>
         None => None,
         Some(n) => carried(is_negative, n),
     }
+}
+
+/// The number at the front and the place behind it, where it is as short as most are: a node is made
+/// of it without a call. None says nothing of the bytes.
+#[inline(always)]
+pub(crate) fn short(bytes: &[u8]) -> Option<(StaticNode, usize)>
+    requires { 0 < length bytes.now }
+    ensures within { IfSome result (λ p. (0 < p.1) × (p.1 ≤ length bytes.now)) }
+    ensures some { IfSome result (λ p. parse.number_at bytes.now ≡ Some (static_tree p.0, drop p.1 bytes.now)) }
+{
+    let is_negative = bytes[0] == b'-';
+    short_numeral(bytes, usize::from(is_negative), is_negative)
+}
+
+/// The same of the digits that stand at `at`.
+#[inline(always)]
+fn short_numeral(bytes: &[u8], at: usize, is_negative: bool) -> Option<(StaticNode, usize)>
+    requires { at ≤ length bytes.now }
+    ensures within { IfSome result (λ p. (at < p.1) × (p.1 ≤ length bytes.now)) }
+    ensures some { IfSome result (λ p. parse.numeral_at is_negative (parse.digits_len (drop at bytes.now)) (drop at bytes.now) ≡ Some (static_tree p.0, drop p.1 bytes.now)) }
+{
+    let (end, low) = digits(bytes, at);
+    let most = if is_negative { 18 } else { 19 };
+    if end == at || end - at > most {
+        return None;
+    }
+    if end - at > 1 && bytes[at] == b'0' {
+        return None;
+    }
+    if goes_on(bytes, end) {
+        return None;
+    }
+    Some((few(is_negative, low), end))
 }
 
 /// The whole number at the front, and the place behind it.

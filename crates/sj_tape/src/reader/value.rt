@@ -10,7 +10,7 @@ ghost use Rattle.sj_text_core.specs.Parse as parse;
 use crate::node::Node;
 use crate::reader::blank::{byte_at, skip};
 use crate::reader::nodes::{count, push_node, set_node};
-use crate::reader::number::number;
+use crate::reader::number::{number, short};
 use crate::reader::structure::{Behind, separator, word_end};
 use crate::reader::text::text;
 use sj_text_core::{ErrorKind, StaticNode};
@@ -34,6 +34,28 @@ fn text_or_number<'i>(
         let (_, inside) = rest.split_at_mut(1);
         return text(inside, nodes);
     }
+    let Some((number, end)) = short(rest) else {
+        let rest = any_number(rest, nodes)?;
+        return Ok(rest);
+    };
+    push_node(nodes, Node::Static(number))?;
+    let (_, rest) = rest.split_at_mut(end);
+    Ok(rest)
+}
+
+/// Reads the number at the front, of whatever length.
+#[inline(never)]
+fn any_number<'i>(rest: &'i mut [u8], nodes: &mut Vec<Node<'i>>) -> Result<&'i mut [u8], ErrorKind>
+    requires some { 0 < length rest.old }
+    requires first { get_or rest.old 0 0 ≤ 57 }
+    requires no_text { get_or rest.old 0 0 ≢ 34 }
+    requires ends { EndsUtf8 rest.old }
+    ensures ok { IfOk result (λ r. Gives (parse.value_by parse.nothing_at parse.nothing_at rest.old) r.now (marks nodes.old.items) (marks nodes.new.items)) }
+    ensures shorter { IfOk result (λ r. length r.now < length rest.old) }
+    ensures ends { IfOk result (λ r. EndsUtf8 r.now) }
+    ensures err { IfErr result (λ e. e ≢ ErrorKind.OutOfMemory → parse.value_by parse.nothing_at parse.nothing_at rest.old ≡ None) }
+    ensures kind { IfErr result (λ e. e ≢ ErrorKind.InvalidUtf8) }
+{
     let (number, end) = number(rest)?;
     push_node(nodes, Node::Static(number))?;
     let (_, rest) = rest.split_at_mut(end);
@@ -41,7 +63,7 @@ fn text_or_number<'i>(
 }
 
 /// The word at the front, and the place behind it.
-#[inline(never)]
+#[inline(always)]
 fn word(bytes: &[u8]) -> Result<(StaticNode, usize), ErrorKind>
     requires some { 0 < length bytes.now }
     requires first { 57 < get_or bytes.now 0 0 }
@@ -60,7 +82,28 @@ fn word(bytes: &[u8]) -> Result<(StaticNode, usize), ErrorKind>
     }
 }
 
-/// Reads the value at the front.
+/// Reads the word at the front.
+#[inline(never)]
+fn any_word<'i>(rest: &'i mut [u8], nodes: &mut Vec<Node<'i>>) -> Result<&'i mut [u8], ErrorKind>
+    requires some { 0 < length rest.old }
+    requires first { 57 < get_or rest.old 0 0 }
+    requires no_list { get_or rest.old 0 0 ≢ 91 }
+    requires no_object { get_or rest.old 0 0 ≢ 123 }
+    requires ends { EndsUtf8 rest.old }
+    ensures ok { IfOk result (λ r. Gives (parse.value_by parse.nothing_at parse.nothing_at rest.old) r.now (marks nodes.old.items) (marks nodes.new.items)) }
+    ensures shorter { IfOk result (λ r. length r.now < length rest.old) }
+    ensures ends { IfOk result (λ r. EndsUtf8 r.now) }
+    ensures err { IfErr result (λ e. e ≢ ErrorKind.OutOfMemory → parse.value_by parse.nothing_at parse.nothing_at rest.old ≡ None) }
+    ensures kind { IfErr result (λ e. e ≢ ErrorKind.InvalidUtf8) }
+{
+    let (word, end) = word(rest)?;
+    push_node(nodes, Node::Static(word))?;
+    let (_, rest) = rest.split_at_mut(end);
+    Ok(rest)
+}
+
+/// Reads the value at the front. What each way answers is taken apart and put together, so that it
+/// stays in registers where the way is inlined.
 #[cycle(read)]
 #[inline(always)]
 fn value<'i>(
@@ -80,26 +123,27 @@ fn value<'i>(
     }
     let byte = rest[0];
     if byte <= b'9' {
-        return text_or_number(rest, nodes);
+        let left = text_or_number(rest, nodes)?;
+        return Ok(left);
     }
     if byte == b'[' {
         if depth == 0 {
             return Err(ErrorKind::TooDeep);
         }
         let (_, inside) = rest.split_at_mut(1);
-        return array(inside, depth - 1, nodes);
+        let left = array(inside, depth - 1, nodes)?;
+        return Ok(left);
     }
     if byte == b'{' {
         if depth == 0 {
             return Err(ErrorKind::TooDeep);
         }
         let (_, inside) = rest.split_at_mut(1);
-        return object(inside, depth - 1, nodes);
+        let left = object(inside, depth - 1, nodes)?;
+        return Ok(left);
     }
-    let (word, end) = word(rest)?;
-    push_node(nodes, Node::Static(word))?;
-    let (_, rest) = rest.split_at_mut(end);
-    Ok(rest)
+    let left = any_word(rest, nodes)?;
+    Ok(left)
 }
 
 /// Reads an array behind its first bracket.

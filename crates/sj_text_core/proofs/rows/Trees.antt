@@ -6,7 +6,7 @@ use Rattle.sj_text_core.specs.Nodes.{nothing, truth, number, string, array, obje
 use Rattle.sj_text_core.specs.Find.{find, nth}
 use Rattle.sj_text_core.specs.Keep.{keep, IsSingle}
 use Rattle.sj_text_core.specs.Edits.{put, cut, push, front, last}
-use Rattle.sj_text_core.specs.Paths.{by_key, by_place, tree_at, set_at}
+use Rattle.sj_text_core.specs.Paths.{by_key, by_place, by_token, tree_at, set_at}
 use Rattle.sj_text_core.specs.Print.{compact, pretty, recarry}
 
 abbrev one : Tree
@@ -97,6 +97,20 @@ set_at-branched = refl
 
 set_at-absent : set_at (by_place 2 ∷ []) null branched ≡ branched
 set_at-absent = refl
+
+-- tokens: a position on an array, a key on an object
+tree_at-tokens : tree_at (by_token (codes "1") ∷ by_token (codes "k") ∷ by_token (codes "0") ∷ []) branched ≡ Some two
+tree_at-tokens = refl
+
+tree_at-no_position : tree_at (by_token (codes "01") ∷ []) branched ≡ None
+tree_at-no_position = refl
+
+-- a key step on an array finds nothing, also one of digits
+tree_at-digits : tree_at (by_key (codes "1") ∷ []) branched ≡ None
+tree_at-digits = refl
+
+set_at-tokens : set_at (by_token (codes "1") ∷ by_token (codes "k") ∷ []) null branched ≡ set_at (by_place 1 ∷ by_key (codes "k") ∷ []) null branched
+set_at-tokens = refl
 
 -- {"a":[1,{}]}
 abbrev indented : Tree

@@ -2,7 +2,7 @@ use Rattle.std.proofs.Common.{◌≡◌, false, sym, ◌∙◌}
 use Rattle.std.proofs.lemmas.Result.{on_ok_weaker}
 use Rattle.sj_text_core.specs.Keep.{is_seen}
 use Rattle.sj_object.specs.Entries.{texts}
-use Rattle.sj_object.proofs.Piles.{add_none, add_one}
+use Rattle.sj_object.proofs.PileEntries.{add_none, add_one}
 use Rattle.sj_object.specs.Piles.{tree_seen, part_seen}
 use Rattle.sj_object.proofs.build.add_member.Goals as goal
 

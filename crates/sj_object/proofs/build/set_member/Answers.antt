@@ -1,7 +1,7 @@
 use Rattle.std.proofs.lemmas.Result.{on_ok_weaker}
 use Rattle.sj_object.specs.Builder.{AreMade}
 use Rattle.sj_object.specs.Piles.{tree_seen, part_seen}
-use Rattle.sj_object.proofs.Piles.{set_one, made_put}
+use Rattle.sj_object.proofs.PileEntries.{set_one, made_put}
 use Rattle.sj_object.proofs.build.set_member.Goals as goal
 use Rattle.std.proofs.Common.{sym, subst}
 

@@ -1,6 +1,7 @@
 use Rattle.std.proofs.Common.{◌≡◌, ◌+◌, ◌-◌, suc, List, ◌∷◌, length, arith, refl, sym, ap, ◌∙◌}
 use Rattle.sj_object.specs.Piles.{Seen, word, part_seen, pile, pairs_seen, tree_seen, kept_by, shown}
-use Rattle.sj_object.proofs.Piles.{word_of, member_off, popped, built_popped, pile_len, kept_more}
+use Rattle.sj_object.proofs.PileEntries.{kept_more}
+use Rattle.sj_object.proofs.Piles.{word_of, member_off, popped, built_popped, pile_len}
 use Rattle.sj_object.proofs.build.take_members.Goals as goal
 
 pub take_text-text-requires : goal.take_text-text-requires

@@ -1,14 +1,14 @@
-use Rattle.std.proofs.Common.{◌≡◌, rules, Box, Vec, Global, map, option_map, string_bytes, sym, ap, ◌∙◌, arith}
+use Rattle.std.proofs.Common.{◌≡◌, rules, Box, Vec, Global, map, option_map, option_and_then, string_bytes, sym, ap, ◌∙◌, arith}
 use Rattle.sj_text_core.specs.Tree.{list, obj, items_from}
-use Rattle.sj_text_core.specs.Paths.{set_found}
-use Rattle.sj_text_core.specs.declared.repeats.Repeats.TheVariants.{First}
+use Rattle.sj_text_core.specs.Find.{nth}
+use Rattle.sj_text_core.specs.Paths.{set_placed}
 use Rattle.sj_object.specs.Members.{entry_members}
 use Rattle.sj_object.proofs.Shown.{lookup-entry_members, entry_members-set_value}
 use Rattle.sj_document.specs.Document.{tree}
 use Rattle.sj_document.specs.declared.value.Document.{Document, Object, Array, the_lemmas}
 use Rattle.sj_document.proofs.Trees.{Map, tree-Object, tree-Array}
-use Rattle.sj_path.specs.Pointed.{place_or_key, step_by}
-use Rattle.sj_path.proofs.Replacing.{replaced_below, replaced_missing, replaced_as, item_at, item_set, no_item}
+use Rattle.sj_document.proofs.Arrays.{item_at, item_set, none_nth}
+use Rattle.sj_path.proofs.Replacing.{replaced_below, replaced_missing, replaced_as}
 use Rattle.sj_path.proofs.write.+replace.Goals as goal
 
 pub replace_member-returns-in-Some : goal.replace_member-returns-in-Some
@@ -34,8 +34,8 @@ replace_item-returns-then-at-len g r c =
     let k = c.args.token.now in
     let is = items_from (map (tree t) vs) in
     replaced_below t k (map string_bytes c.args.rest.now) c.args.new (list is) _ (tree t c.index_mut.result.now) (tree t c.replace_at.new.value) c.replace_at.result
-    (ap (λ o. step_by First (place_or_key o k) (list is)) (sym c.in-Some.ensures) ∙ item_at t vs c.in-Some.at c.index_mut.result.now (omega (arith, c.if-at-len.true, c.len.ensures, c.args.items.now.ok.0)) c.index_mut.ensures.value)
-    (ap list (item_set t vs c.in-Some.at c.replace_at.new.value) ∙ ap (λ o. set_found (place_or_key o k) (tree t c.replace_at.new.value) (list is)) c.in-Some.ensures) c.replace_at.ensures
+    (ap (option_and_then (λ i. nth i (list is))) (sym c.in-Some.ensures) ∙ item_at t vs c.in-Some.at c.index_mut.result.now (omega (arith, c.if-at-len.true, c.len.ensures, c.args.items.now.ok.0)) c.index_mut.ensures.value)
+    (ap list (item_set t vs c.in-Some.at c.replace_at.new.value) ∙ ap (λ o. list (set_placed o (tree t c.replace_at.new.value) is)) c.in-Some.ensures) c.replace_at.ensures
 
 pub replace_item-returns-else-at-len : goal.replace_item-returns-else-at-len
 replace_item-returns-else-at-len g r c =
@@ -44,7 +44,7 @@ replace_item-returns-else-at-len g r c =
     let k = c.args.token.now in
     let is = items_from (map (tree t) vs) in
     replaced_missing t k (map string_bytes c.args.rest.now) c.args.new (list is)
-    (ap (λ o. step_by First (place_or_key o k) (list is)) (sym c.in-Some.ensures) ∙ no_item t vs c.in-Some.at (omega (arith, c.if-at-len.false, c.len.ensures, c.args.items.now.ok.0)))
+    (ap (option_and_then (λ i. nth i (list is))) (sym c.in-Some.ensures) ∙ sym (none_nth t vs c.in-Some.at (omega (arith, c.if-at-len.false, c.len.ensures, c.args.items.now.ok.0))))
 
 pub replace_step-returns-in-Object : goal.replace_step-returns-in-Object
 replace_step-returns-in-Object g r c =

@@ -1,4 +1,4 @@
-use Rattle.sj_text_core.proofs.Finds.{tree_at-keep}
+use Rattle.sj_text_core.proofs.Paths.{tree_at-keep}
 use Rattle.sj_text_core.proofs.laws.finds_kept.Goals as goal
 
 pub returns : goal.returns

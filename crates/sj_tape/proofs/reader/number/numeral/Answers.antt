@@ -7,7 +7,7 @@ use Rattle.sj_tape.proofs.reader.number.numeral.Goals as goal
 use Rattle.sj_tape.proofs.reader.number.numeral.Goals.{else-bytes-at-eq48-via-then-bytes-at-eq48+else-end-at-gt1, else-bytes-at-eq48-via-else-bytes-at-eq48}
 
 pub few-requires : goal.few-requires
-few-requires c =
+few-requires c = λ _.
     let d = c.digits-end in
     let big : 10 ^ (d.result.0 - c.args.at) ≤ 10 ^ 18 = pow-le-pow_right {n = 10} (lit< tt) {i = d.result.0 - c.args.at} {j = 18} c.if-end-at-le18.true in
     omega (arith, d.ensures.value, d.ensures.bound, big)

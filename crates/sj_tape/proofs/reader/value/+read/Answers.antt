@@ -4,9 +4,9 @@ use Rattle.sj_text_core.specs.Tree.{list, obj, items_from, members_from}
 use Rattle.sj_text_core.specs.Nodes.{flat, array, object}
 use Rattle.sj_tape.specs.Marks.{marks}
 use Rattle.sj_text_core.specs.Parse.{value_at, parts_at, list_at, obj_at, member_at}
-use Rattle.sj_tape.proofs.Gives.{ends_drop, behind_quote, static_gives, gives_by, list_is, obj_is, member_by, member_gives, member_errs, filled, empty}
+use Rattle.sj_tape.proofs.Gives.{ends_drop, behind_quote, gives_by, list_is, obj_is, member_by, member_gives, member_errs, filled, empty}
 use Rattle.sj_tape.proofs.Parts.{fails, parts_none, parts_unseparated, last_turn, next_turn, item_flats, member_flats, member_flat, item_flats-push, member_flats-push}
-use Rattle.sj_tape.proofs.Values.{value_at_end, value_too_deep, value_too_deep_2, value_in_list, value_in_obj, value_scalar, errs_by, count_is, nodes_set, flat_list_is, flat_obj_is}
+use Rattle.sj_tape.proofs.Values.{value_at_end, value_too_deep, value_too_deep_2, value_in_list, value_in_obj, value_scalar, count_is, nodes_set, flat_list_is, flat_obj_is}
 use Rattle.sj_tape.proofs.reader.value.+read.Goals as goal
 
 pub value-returns-then-is_empty-clause-err : goal.value-returns-then-is_empty-clause-err
@@ -14,12 +14,7 @@ value-returns-then-is_empty-clause-err t c = λ _. value_at_end c.args.depth c.a
 
 pub value-returns-then-byte-le57-clause-ok : goal.value-returns-then-byte-le57-clause-ok
 value-returns-then-byte-le57-clause-ok t c =
-    let e = value_scalar c.args.depth c.args.rest.now 0 (filled (length c.args.rest.now) c.if-is_empty.ensures) (omega (arith, c.if-byte-le57.true)) (omega (arith, c.if-byte-le57.true)) in
-    IfOk-weaker {X = MutBor (List ℕ)} _ _ _ (λ r k. gives_by _ _ r.now _ _ e k) c.text_or_number.ensures.ok
-
-pub value-returns-then-byte-le57-clause-err : goal.value-returns-then-byte-le57-clause-err
-value-returns-then-byte-le57-clause-err t c =
-    errs_by _ _ _ _ (value_scalar c.args.depth c.args.rest.now 0 (filled (length c.args.rest.now) c.if-is_empty.ensures) (omega (arith, c.if-byte-le57.true)) (omega (arith, c.if-byte-le57.true))) c.text_or_number.ensures.err
+    gives_by _ _ c.in_ok-left.left.now _ _ (value_scalar c.args.depth c.args.rest.now 0 (filled (length c.args.rest.now) c.if-is_empty.ensures) (omega (arith, c.if-byte-le57.true)) (omega (arith, c.if-byte-le57.true))) c.in_ok-left.ensures.ok
 
 pub value-returns-then-depth-eq0-clause-err : goal.value-returns-then-depth-eq0-clause-err
 value-returns-then-depth-eq0-clause-err t c = λ _. value_too_deep c.args.depth c.args.rest.now 0 (filled (length c.args.rest.now) c.if-is_empty.ensures) c.if-byte-eq91.true c.if-depth-eq0.true
@@ -34,12 +29,7 @@ pub value-returns-then-byte-eq91-clause-ok : goal.value-returns-then-byte-eq91-c
 value-returns-then-byte-eq91-clause-ok t c =
     let e = value_in_list c.args.depth c.args.rest.now 0 (filled (length c.args.rest.now) c.if-is_empty.ensures) c.if-byte-eq91.true c.if-depth-eq0.false in
     let f = e ∙ ap (λ l. list_at (value_at (c.args.depth - 1)) l) (sym c.split_at_mut-inside.ensures.back) in
-    IfOk-weaker {X = MutBor (List ℕ)} _ _ _ (λ r k. gives_by _ _ r.now _ _ f k) c.array.ensures.ok
-
-pub value-returns-then-byte-eq91-clause-err : goal.value-returns-then-byte-eq91-clause-err
-value-returns-then-byte-eq91-clause-err t c =
-    let e = value_in_list c.args.depth c.args.rest.now 0 (filled (length c.args.rest.now) c.if-is_empty.ensures) c.if-byte-eq91.true c.if-depth-eq0.false in
-    errs_by _ _ _ _ (e ∙ ap (λ l. list_at (value_at (c.args.depth - 1)) l) (sym c.split_at_mut-inside.ensures.back)) c.array.ensures.err
+    gives_by _ _ c.in_ok-left-2.left.now _ _ f c.in_ok-left-2.ensures.ok
 
 pub value-object-requires : goal.value-object-requires
 value-object-requires t c = (omega (arith, c.decreases), ends_drop c.args.rest.now _ 1 c.requires c.split_at_mut-inside-then-byte-eq123.ensures.back)
@@ -48,25 +38,31 @@ pub value-returns-then-byte-eq123-clause-ok : goal.value-returns-then-byte-eq123
 value-returns-then-byte-eq123-clause-ok t c =
     let e = value_in_obj c.args.depth c.args.rest.now 0 (filled (length c.args.rest.now) c.if-is_empty.ensures) c.if-byte-eq123.true c.if-depth-eq0-2.false in
     let f = e ∙ ap (λ l. obj_at (value_at (c.args.depth - 1)) l) (sym c.split_at_mut-inside-then-byte-eq123.ensures.back) in
-    IfOk-weaker {X = MutBor (List ℕ)} _ _ _ (λ r k. gives_by _ _ r.now _ _ f k) c.object.ensures.ok
-
-pub value-returns-then-byte-eq123-clause-err : goal.value-returns-then-byte-eq123-clause-err
-value-returns-then-byte-eq123-clause-err t c =
-    let e = value_in_obj c.args.depth c.args.rest.now 0 (filled (length c.args.rest.now) c.if-is_empty.ensures) c.if-byte-eq123.true c.if-depth-eq0-2.false in
-    errs_by _ _ _ _ (e ∙ ap (λ l. obj_at (value_at (c.args.depth - 1)) l) (sym c.split_at_mut-inside-then-byte-eq123.ensures.back)) c.object.ensures.err
-
-pub value-returns-in_err-word-clause-err : goal.value-returns-in_err-word-clause-err
-value-returns-in_err-word-clause-err t c =
-    let p = err_from_is_err_and c.from_residual.result c.from_residual.ensures.1 in
-    rw (p.1, p.2) (λ _. value_scalar c.args.depth c.args.rest.now 0 (filled (length c.args.rest.now) c.if-is_empty.ensures) c.if-byte-eq91.false c.if-byte-eq123.false ∙ c.in_err-word.ensures.err)
+    gives_by _ _ c.in_ok-left-3.left.now _ _ f c.in_ok-left-3.ensures.ok
 
 pub value-returns-clause-ok : goal.value-returns-clause-ok
 value-returns-clause-ok t c =
-    static_gives _ _ _ c.in_ok-word.word _ _ (value_scalar c.args.depth c.args.rest.now 0 (filled (length c.args.rest.now) c.if-is_empty.ensures) c.if-byte-eq91.false c.if-byte-eq123.false ∙ c.in_ok-word.ensures.ok)
-    c.split_at_mut-rest.ensures.back c.in_ok-push_node.ensures.marks
+    gives_by _ _ c.in_ok-left-4.left.now _ _ (value_scalar c.args.depth c.args.rest.now 0 (filled (length c.args.rest.now) c.if-is_empty.ensures) c.if-byte-eq91.false c.if-byte-eq123.false) c.in_ok-left-4.ensures.ok
 
-pub value-returns-clause-ends : goal.value-returns-clause-ends
-value-returns-clause-ends t c = ends_drop c.args.rest.now _ c.in_ok-word.end c.requires c.split_at_mut-rest.ensures.back
+pub value-returns-in_err-left-clause-err : goal.value-returns-in_err-left-clause-err
+value-returns-in_err-left-clause-err t c =
+    let p = err_from_is_err_and c.from_residual.result c.from_residual.ensures.1 in
+    rw (p.1, p.2) (λ n. value_scalar c.args.depth c.args.rest.now 0 (filled (length c.args.rest.now) c.if-is_empty.ensures) (omega (arith, c.if-byte-le57.true)) (omega (arith, c.if-byte-le57.true)) ∙ c.in_err-left.ensures.err n)
+
+pub value-returns-in_err-left-2-clause-err : goal.value-returns-in_err-left-2-clause-err
+value-returns-in_err-left-2-clause-err t c =
+    let p = err_from_is_err_and c.from_residual-in_err-left-2.result c.from_residual-in_err-left-2.ensures.1 in
+    rw (p.1, p.2) (λ n. value_in_list c.args.depth c.args.rest.now 0 (filled (length c.args.rest.now) c.if-is_empty.ensures) c.if-byte-eq91.true c.if-depth-eq0.false ∙ ap (λ l. list_at (value_at (c.args.depth - 1)) l) (sym c.split_at_mut-inside.ensures.back) ∙ c.in_err-left-2.ensures.err n)
+
+pub value-returns-in_err-left-3-clause-err : goal.value-returns-in_err-left-3-clause-err
+value-returns-in_err-left-3-clause-err t c =
+    let p = err_from_is_err_and c.from_residual-in_err-left-3.result c.from_residual-in_err-left-3.ensures.1 in
+    rw (p.1, p.2) (λ n. value_in_obj c.args.depth c.args.rest.now 0 (filled (length c.args.rest.now) c.if-is_empty.ensures) c.if-byte-eq123.true c.if-depth-eq0-2.false ∙ ap (λ l. obj_at (value_at (c.args.depth - 1)) l) (sym c.split_at_mut-inside-then-byte-eq123.ensures.back) ∙ c.in_err-left-3.ensures.err n)
+
+pub value-returns-in_err-left-4-clause-err : goal.value-returns-in_err-left-4-clause-err
+value-returns-in_err-left-4-clause-err t c =
+    let p = err_from_is_err_and c.from_residual-in_err-left-4.result c.from_residual-in_err-left-4.ensures.1 in
+    rw (p.1, p.2) (λ n. value_scalar c.args.depth c.args.rest.now 0 (filled (length c.args.rest.now) c.if-is_empty.ensures) c.if-byte-eq91.false c.if-byte-eq123.false ∙ c.in_err-left-4.ensures.err n)
 
 pub array-returns-then-byte_at-eq93-clause-ends : goal.array-returns-then-byte_at-eq93-clause-ends
 array-returns-then-byte_at-eq93-clause-ends t c = ends_drop c.args.rest.now _ (c.skip-first.result + 1) c.requires c.split_at_mut-rest.ensures.back

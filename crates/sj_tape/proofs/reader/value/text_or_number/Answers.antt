@@ -13,7 +13,7 @@ returns-then-rest-eq34-clause-ok c =
 
 pub returns-clause-ok : goal.returns-clause-ok
 returns-clause-ok c =
-    static_gives _ _ _ c.in_ok-number.number _ _ (number_is nothing_at nothing_at c.args.rest.now c.requires.some c.requires.first c.if-rest-eq34.false ∙ c.in_ok-number.ensures.ok) c.split_at_mut-rest.ensures.back c.in_ok-push_node.ensures.marks
+    static_gives _ _ _ c.in-Some.number _ _ (number_is nothing_at nothing_at c.args.rest.now c.requires.some c.requires.first c.if-rest-eq34.false ∙ c.in-Some.ensures.some) c.split_at_mut-rest.ensures.back c.in_ok-push_node.ensures.marks
 
 pub returns-clause-ends : goal.returns-clause-ends
-returns-clause-ends c = ends_drop c.args.rest.now _ c.in_ok-number.end c.requires.ends c.split_at_mut-rest.ensures.back
+returns-clause-ends c = ends_drop c.args.rest.now _ c.in-Some.end c.requires.ends c.split_at_mut-rest.ensures.back

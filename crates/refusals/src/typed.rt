@@ -1,0 +1,91 @@
+//! Typed reads of members, in each form.
+
+/// Whether a read of one type finds a member of 7, by each of its two calls.
+macro_rules! reads_member {
+    ($value:expr, $read:ident, $tried:ident) => {
+        $value.$read("int") == Some(7) && matches!($value.$tried("int"), Ok(Some(7)))
+    };
+}
+
+/// Whether every typed read finds its member of the document of each kind.
+macro_rules! reads_members {
+    ($value:expr) => {
+        reads_member!($value, get_i8, try_get_i8)
+            && reads_member!($value, get_i16, try_get_i16)
+            && reads_member!($value, get_i32, try_get_i32)
+            && reads_member!($value, get_i64, try_get_i64)
+            && reads_member!($value, get_i128, try_get_i128)
+            && reads_member!($value, get_u8, try_get_u8)
+            && reads_member!($value, get_u16, try_get_u16)
+            && reads_member!($value, get_u32, try_get_u32)
+            && reads_member!($value, get_u64, try_get_u64)
+            && reads_member!($value, get_u128, try_get_u128)
+            && reads_member!($value, get_usize, try_get_usize)
+            && $value.get_bool("bool") == Some(true)
+            && matches!($value.try_get_bool("bool"), Ok(Some(true)))
+            && $value.get_str("str") == Some("s")
+            && $value.try_get_str("str").is_ok_and(|text| text == Some("s"))
+            && $value.get_array("array").is_some_and(|items| items.len() == 1)
+            && $value
+                .try_get_array("array")
+                .is_ok_and(|found| found.is_some_and(|items| items.len() == 1))
+            && $value.get_object("object").is_some_and(|members| members.len() == 1)
+            && $value
+                .try_get_object("object")
+                .is_ok_and(|found| found.is_some_and(|members| members.len() == 1))
+    };
+}
+
+/// Whether the reads of parts find what the document of each kind has.
+macro_rules! reads_parts {
+    ($value:expr) => {
+        $value.get("int").is_some()
+            && matches!($value.try_get("none"), Ok(None))
+            && $value.contains_key("str")
+            && $value.as_object().is_some_and(|members| members.len() == 6)
+            && $value.try_as_object().is_ok()
+            && $value.as_array().is_none()
+            && $value.try_as_array().is_err()
+            && $value.get_idx(0).is_none()
+            && $value.try_get_idx(0).is_err()
+    };
+}
+
+use crate::scalars::{
+    is_lazy_nothing, is_lazy_seven, is_lazy_text, is_lazy_true, is_nothing, is_seven, is_text,
+    is_true,
+};
+use sj_document::Document;
+use sj_lazy::Value as LazyValue;
+use sj_object::KeyText;
+use sj_tape::Value as TapeValue;
+
+/// Whether a document has a member of each kind, by every read.
+pub fn is_document_of_kinds<T: KeyText>(value: &Document<T>, text: &String) -> bool {
+    reads_members!(value)
+        && reads_parts!(value)
+        && value.get("null").is_some_and(|found| is_nothing(found))
+        && value.get("bool").is_some_and(|found| is_true(found))
+        && value.get("int").is_some_and(|found| is_seven(found))
+        && value.get("str").is_some_and(|found| is_text(found, text))
+}
+
+/// Whether a part of a tape has a member of each kind, by every read.
+pub fn is_tape_of_kinds(value: TapeValue<'_, '_>, text: &String) -> bool {
+    reads_members!(value)
+        && reads_parts!(value)
+        && value.get("null").is_some_and(|found| is_nothing(&found))
+        && value.get("bool").is_some_and(|found| is_true(&found))
+        && value.get("int").is_some_and(|found| is_seven(&found))
+        && value.get("str").is_some_and(|found| is_text(&found, text))
+}
+
+/// Whether a lazy value has a member of each kind, by every read.
+pub fn is_lazy_of_kinds(value: &LazyValue<'_, '_, '_>, text: &String) -> bool {
+    reads_members!(value)
+        && reads_parts!(value)
+        && is_lazy_nothing(value.get("null"))
+        && is_lazy_true(value.get("bool"))
+        && is_lazy_seven(value.get("int"))
+        && is_lazy_text(value.get("str"), text)
+}

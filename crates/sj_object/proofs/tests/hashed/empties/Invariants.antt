@@ -1,5 +1,0 @@
-use Rattle.std.proofs.Common.{length}
-use Rattle.sj_object.proofs.tests.hashed.empties.Given as goal
-
-abbrev pub decreases-loop-list : goal.decreases-loop-list
-decreases-loop-list g l = length l.list.items

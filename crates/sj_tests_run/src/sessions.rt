@@ -1,0 +1,283 @@
+//! Sessions on small inputs.
+
+mod pointers;
+mod repeats;
+mod runs;
+
+use sj_run::{Form, SessionFault, Way, session};
+use sj_text_core::ErrorKind;
+use std::alloc::Global;
+use std::process::Abort;
+use std::test::Fail;
+
+/// The forms and ways that keep one member of each key as read.
+const KEPT: [(Form, Way); 4] = [
+    (Form::Owned, Way::ByText),
+    (Form::Owned, Way::ByKnownKey),
+    (Form::Borrowed, Way::ByText),
+    (Form::Borrowed, Way::ByKnownKey),
+];
+
+/// Those that are served.
+const SERVED: [(Form, Way); 5] = [
+    (Form::Owned, Way::ByText),
+    (Form::Owned, Way::ByKnownKey),
+    (Form::Borrowed, Way::ByText),
+    (Form::Borrowed, Way::ByKnownKey),
+    (Form::Lazy, Way::ByText),
+];
+
+/// What a session answers, and what `out` has then, which held `> ` before.
+fn answered(
+    alloc: Global,
+    form: Form,
+    way: Way,
+    input: &[u8],
+) -> Result<(Result<(), SessionFault>, String), Fail> {
+    let mut bytes = input.to_vec(alloc)?;
+    let mut out = b"> ".to_vec(alloc)?;
+    let answer = session(alloc, form, way, bytes.as_mut_slice(), &mut out);
+    Ok((answer, String::from_utf8(out)?))
+}
+
+/// These forms and ways answer so.
+fn check_in(
+    rt: &impl Abort,
+    alloc: Global,
+    served: &[(Form, Way)],
+    input: &str,
+    want: &str,
+) -> Result<(), Fail> {
+    for (form, way) in served {
+        let (answer, out) = answered(alloc, *form, *way, input.as_bytes())?;
+        assert_eq!(rt; answer, Ok(()), "{form:?} {way:?} on {input:?}");
+        assert_eq!(rt; out.as_str(), want, "{form:?} {way:?} on {input:?}");
+    }
+    Ok(())
+}
+
+/// Every form answers so in each way.
+fn check(rt: &impl Abort, alloc: Global, input: &str, want: &str) -> Result<(), Fail> {
+    check_in(rt, alloc, &SERVED, input, want)
+}
+
+/// The text is refused, alone and with a command behind it, and `out` stays.
+fn refuse(rt: &impl Abort, alloc: Global, text: &[u8], kind: ErrorKind) -> Result<(), Fail> {
+    for lines in ["", "\n---\n[\"encode\",[]]\n"] {
+        let mut input = text.to_vec(alloc)?;
+        input.extend_from_slice(lines.as_bytes())?;
+        for (form, way) in SERVED {
+            let (answer, out) = answered(alloc, form, way, input.as_slice())?;
+            assert_eq!(rt; answer, Err(SessionFault::Refused(kind)), "on {text:?}");
+            assert_eq!(rt; out.as_str(), "> ", "on {text:?}");
+        }
+    }
+    Ok(())
+}
+
+/// Arrays, each the one item of the one around it.
+fn nested(alloc: Global, count: usize) -> Result<String, Fail> {
+    let mut text = "[".repeat(alloc, count)?;
+    text.push_str("]".repeat(alloc, count)?.as_str())?;
+    Ok(text)
+}
+
+#[test]
+fn answers(rt: HostRuntime) -> Result<(), Fail> {
+    let table = [
+        // the first example, and a key that is written with escapes
+        (
+            "{\"some\": [\"key\", \"value\", 2]}\n---\n[\"encode\",[]]\n[\"insert\",[],\"n\",-0]\n[\"insert\",[],\"n\",true]\n[\"encode\",[]]\n",
+            "> {\"some\":[\"key\",\"value\",2]}\nnone\n0\n{\"some\":[\"key\",\"value\",2],\"n\":true}\n",
+        ),
+        (
+            "{\"q\\\"k\":\"a\\/b\\u0041\"}\n---\n[\"encode\",[]]",
+            "> {\"q\\\"k\":\"a/bA\"}\n",
+        ),
+        (
+            "\"\\ud83d\\ude00\"\n---\n[\"encode\",[]]",
+            "> \"\u{1f600}\"\n",
+        ),
+        // carriers at their limits print as they were read
+        (
+            "[340282366920938463463374607431768211455,-170141183460469231731687303715884105728]\n---\n[\"encode\",[]]\n",
+            "> [340282366920938463463374607431768211455,-170141183460469231731687303715884105728]\n",
+        ),
+        (
+            "[18446744073709551615,18446744073709551616,-9223372036854775808,-9223372036854775809,-0]\n---\n[\"encode\",[]]",
+            "> [18446744073709551615,18446744073709551616,-9223372036854775808,-9223372036854775809,0]\n",
+        ),
+        // repeats at two depths, also of an inserted value
+        (
+            "{\"a\":{\"b\":1,\"b\":2},\"a\":3}\n---\n[\"insert\",[],\"c\",{\"d\":1,\"d\":2}]\n[\"encode\",[]]",
+            "> none\n{\"a\":{\"b\":1},\"c\":{\"d\":1}}\n",
+        ),
+        // no commands, with and without the line that parts them from the document
+        ("[1]", "> "),
+        ("[1]\n---\n", "> "),
+        ("[1]\n---", "> "),
+        // line ends, lines without bytes, a second line of dashes
+        ("[1]\r\n---\r\n[\"encode\",[]]\r\n", "> [1]\n"),
+        ("[1]\n---\n\n\r\n[\"encode\",[]]\n\n", "> [1]\n"),
+        ("[1]\n---\n---\n", "> bad command\n"),
+        // reads and writes of members
+        (
+            "{\"key\": \"value\", \"snot\": 42}\n---\n[\"str\",[\"key\"]]\n[\"insert\",[],\"new\",42]\n[\"keys\",[]]\n[\"fits\",[\"snot\"],\"i8\"]\n[\"remove\",[],\"snot\"]\n[\"encode\",[]]",
+            "> \"value\"\nnone\n[\"key\",\"snot\",\"new\"]\ntrue\n42\n{\"key\":\"value\",\"new\":42}\n",
+        ),
+        // a pretty print
+        (
+            "{\"a\":[1,{}]}\n---\n[\"encode_pp\",[]]",
+            "> {\n  \"a\": [\n    1,\n    {}\n  ]\n}\n",
+        ),
+        // commands of each kind on arrays
+        (
+            "[1,[2,3]]\n---\n[\"kind\",[1]]\n[\"len\",[1]]\n[\"push\",[1],{\"a\":1,\"a\":2}]\n[\"put\",[0],null]\n[\"pop\",[5]]\n[\"pop\",[]]\n[\"has\",[],\"a\"]\n[\"len\",[0]]\n[\"insert\",[],\"k\",1]\n[\"nonsense\"]\n[\"encode\",[]]",
+            "> Array\n2\nok\n1\nmissing\n[2,3,{\"a\":1}]\nfalse\nno length\nnot an object\nbad command\n[null]\n",
+        ),
+        // places, and lines that are no command: each is answered, and the session goes on
+        (
+            "[[1]]\n---\n[\"len\",[-0]]\n[\"len\",[-1]]\n[\"kind\",[340282366920938463463374607431768211455]]\n[\"encode\",[],1]\n[\"ENCODE\",[]]\n[\"fits\",[0],\"i7\"]\n{\"a\":1}\n[\"encode\",[]\n[\"insert\",[],\"a\",1.5]\n \n---\n\n\r\n[\"encode\",[]]",
+            "> 1\nbad command\nbad command\nbad command\nbad command\nbad command\nbad command\nbad command\nbad command\nbad command\nbad command\n[[1]]\n",
+        ),
+    ];
+    for (input, want) in table {
+        check(&rt, rt.alloc(), input, want)?;
+    }
+    Ok(())
+}
+
+/// An object of `k00` to `k31` with values 0 to 31, then `k00` with 99.
+#[test]
+fn keeps_the_first_of_many(rt: HostRuntime) -> Result<(), Fail> {
+    let mut members = String::new(rt.alloc());
+    for i in 0u8..32 {
+        let comma = if i == 0 { "" } else { "," };
+        members.push_str(format!(in rt.alloc(); "{comma}\"k{i:02}\":{i}")?.as_str())?;
+    }
+    let input = format!(in rt.alloc(); "{{{members},\"k00\":99}}\n---\n[\"encode\",[]]\n")?;
+    let want = format!(in rt.alloc(); "> {{{members}}}\n")?;
+    // the same text twice in one process
+    check_in(&rt, rt.alloc(), &KEPT, input.as_str(), want.as_str())?;
+    check_in(&rt, rt.alloc(), &KEPT, input.as_str(), want.as_str())
+}
+
+/// A lazy document shows repeats until its first write, also where that is refused or finds nothing.
+#[test]
+fn repeats_are_shown_until_a_write(rt: HostRuntime) -> Result<(), Fail> {
+    let (object, array) = ("{\"a\":1,\"a\":2}", "[{\"a\":{\"b\":0,\"b\":1},\"a\":2}]");
+    let table = [
+        (
+            object,
+            "[\"len\",[]]\n[\"pop\",[]]\n[\"encode\",[]]",
+            "> 2\nnot an array\n{\"a\":1}\n",
+            "> 1\nnot an array\n{\"a\":1}\n",
+        ),
+        (
+            object,
+            "[\"keys\",[]]\n[\"pop\",[3]]\n[\"keys\",[]]",
+            "> [\"a\",\"a\"]\nmissing\n[\"a\"]\n",
+            "> [\"a\"]\nmissing\n[\"a\"]\n",
+        ),
+        (
+            object,
+            "[\"keys\",[\"b\"]]\n[\"keys\",[\"a\"]]\n[\"encode\",[]]",
+            "> missing\nnot an object\n{\"a\":1,\"a\":2}\n",
+            "> missing\nnot an object\n{\"a\":1}\n",
+        ),
+        (
+            object,
+            "[\"remove\",[],\"a\"]\n[\"has\",[],\"a\"]\n[\"len\",[]]",
+            "> 1\nfalse\n0\n",
+            "> 1\nfalse\n0\n",
+        ),
+        (
+            array,
+            "[\"encode\",[0,\"a\"]]\n[\"len\",[0]]\n[\"put\",[0,\"a\",\"b\"],7]\n[\"encode\",[]]",
+            "> {\"b\":0,\"b\":1}\n2\n0\n[{\"a\":{\"b\":7}}]\n",
+            "> {\"b\":0}\n1\n0\n[{\"a\":{\"b\":7}}]\n",
+        ),
+    ];
+    for (text, lines, lazy, kept) in table {
+        let input = format!(in rt.alloc(); "{text}\n---\n{lines}")?;
+        let lazy_form = [(Form::Lazy, Way::ByText)];
+        check_in(&rt, rt.alloc(), &lazy_form, input.as_str(), lazy)?;
+        check_in(&rt, rt.alloc(), &KEPT, input.as_str(), kept)?;
+    }
+    Ok(())
+}
+
+#[test]
+fn refuses(rt: HostRuntime) -> Result<(), Fail> {
+    let table = [
+        ("", ErrorKind::Syntax),
+        ("  ", ErrorKind::Syntax),
+        ("---\n[\"encode\",[]]", ErrorKind::Syntax),
+        ("01", ErrorKind::Syntax),
+        ("[1,]", ErrorKind::Syntax),
+        ("-", ErrorKind::Syntax),
+        ("nul", ErrorKind::Syntax),
+        ("[1 2]", ErrorKind::Syntax),
+        ("{\"a\":1", ErrorKind::Syntax),
+        ("1.5", ErrorKind::Float),
+        ("1e3", ErrorKind::Float),
+        (
+            "340282366920938463463374607431768211456",
+            ErrorKind::NumberTooLarge,
+        ),
+        (
+            "-170141183460469231731687303715884105729",
+            ErrorKind::NumberTooLarge,
+        ),
+        ("\"\\ud83d\"", ErrorKind::LoneSurrogate),
+        ("\"\\ude00\"", ErrorKind::LoneSurrogate),
+    ];
+    for (text, kind) in table {
+        refuse(&rt, rt.alloc(), text.as_bytes(), kind)?;
+    }
+    refuse(&rt, rt.alloc(), &[0x22, 0xff, 0x22], ErrorKind::InvalidUtf8)
+}
+
+/// 1024 levels are read, 1025 are too many.
+#[test]
+fn counts_levels(rt: HostRuntime) -> Result<(), Fail> {
+    let deepest = nested(rt.alloc(), 1024)?;
+    let input = format!(in rt.alloc(); "{deepest}\n---\n[\"encode\",[]]\n")?;
+    let want = format!(in rt.alloc(); "> {deepest}\n")?;
+    check(&rt, rt.alloc(), input.as_str(), want.as_str())?;
+    let deeper = nested(rt.alloc(), 1025)?;
+    refuse(&rt, rt.alloc(), deeper.as_bytes(), ErrorKind::TooDeep)
+}
+
+/// A line that is no UTF-8 is a bad command.
+#[test]
+fn answers_any_bytes(rt: HostRuntime) -> Result<(), Fail> {
+    for (form, way) in SERVED {
+        let (answer, out) = answered(rt.alloc(), form, way, b"1\n---\n\xff\n[\"encode\",[]]")?;
+        assert_eq!(rt; answer, Ok(()));
+        assert_eq!(rt; out.as_str(), "> bad command\n1\n");
+    }
+    Ok(())
+}
+
+/// Thirty-three keys whose hashes are one number, the first gone and back.
+#[test]
+fn answers_at_colliding_keys(rt: HostRuntime) -> Result<(), Fail> {
+    let mut members = String::new(rt.alloc());
+    for i in 0u8..33 {
+        members.push_str(if i == 0 { "{\"" } else { ",\"" })?;
+        for bit in [32u8, 16, 8, 4, 2, 1] {
+            members.push_str(if i & bit == 0 { "Aa" } else { "BB" })?;
+        }
+        members.push_str(format!(in rt.alloc(); "\":{i}")?.as_str())?;
+    }
+    let lines =
+        "}\n---\n[\"remove\",[],\"AaAaAaAaAaAa\"]\n[\"len\",[]]\n[\"has\",[],\"BBAaAaAaAaAa\"]\n[\"encode\",[\"AaAaAaAaAaBB\"]]\n[\"insert\",[],\"AaAaAaAaAaAa\",7]\n[\"len\",[]]";
+    members.push_str(lines)?;
+    check(
+        &rt,
+        rt.alloc(),
+        members.as_str(),
+        "> 0\n32\ntrue\n1\nnone\n33\n",
+    )
+}

@@ -1,0 +1,7 @@
+//! Tests of owned and of borrowed documents, and of known keys, by their public calls.
+#![tactic(auto)]
+
+#[cfg(test)]
+mod borrowed;
+#[cfg(test)]
+mod owned;

@@ -1,0 +1,73 @@
+# How calls are run with requests for memory refused: for tools/refusals.sh, which sets program and
+# stands in a folder with refuse.so.
+# shellcheck shell=bash
+passed=0
+failed=0
+
+# run N WORDS: one run with the Nth request refused; sets status and requests
+run() {
+  rm -f count
+  # shellcheck disable=SC2086
+  REFUSE=$1 REFUSE_COUNT=count LD_PRELOAD=./refuse.so "$program" $2 > out 2> err
+  status=$?
+  requests=none
+  [ -e count ] && read -r requests < count
+}
+
+# told TEXT: whether the run told that, and nothing else
+told() {
+  printf '%s' "$1" > want
+  [ "$status" = 0 ] && cmp -s out want && [ ! -s err ]
+}
+
+# made WORDS: keeps that a call was run, and how many requests it met
+made() {
+  printf '%s\t%s\n' "$requests" "$1" >> made
+}
+
+# count PASSED WHAT: counts one call
+count() {
+  if [ "$1" = yes ]; then
+    passed=$((passed + 1))
+    printf '%s: requests %s\n' "$2" "$requests"
+  else
+    failed=$((failed + 1))
+    printf 'failed: %s (status %s, requests %s)\n' "$2" "$status" "$requests"
+    head -c 600 out
+    head -c 300 err
+  fi
+}
+
+# free WORDS TEXT: a call that meets no request
+free() {
+  run 1 "$1"
+  good=no
+  told "$2" && [ "$requests" = 0 ] && good=yes
+  made "$1"
+  count $good "$1"
+}
+
+# each WORDS REFUSED DONE: a call that is refused at each of its requests, asks for nothing more
+# then, and is done where none is refused
+each() {
+  local n=1
+  good=no
+  while run $n "$1"; [ "$requests" = $n ] && told "$2"; do
+    n=$((n + 1))
+  done
+  told "$3" && [ $n -gt 1 ] && [ "$requests" = $((n - 1)) ] && good=yes
+  made "$1"
+  count $good "$1"
+}
+
+# goes_on WORDS REFUSED DONE: as each, where the call asks for more once it was refused
+goes_on() {
+  local n=1
+  good=no
+  while run $n "$1"; [ "$requests" -ge $n ] && told "$2"; do
+    n=$((n + 1))
+  done
+  told "$3" && [ $n -gt 1 ] && [ "$requests" = $((n - 1)) ] && good=yes
+  made "$1"
+  count $good "$1"
+}
