@@ -25,4 +25,3 @@ pub mod Values
 pub mod Compared
 pub mod Counted
 pub mod Yielded
-pub mod TypedReads
