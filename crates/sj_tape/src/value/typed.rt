@@ -2,7 +2,7 @@
 
 ghost use Rattle.std.specs.Prelude.{◌≡◌, option_map, IfOk, IfSome};
 ghost use Rattle.std.specs.Result.{result_map_both};
-ghost use Rattle.sj_text_core.specs.Reads.{as_boolean, as_signed, as_unsigned, as_text, as_items, as_members, member_as, try_member_as};
+ghost use Rattle.sj_text_core.specs.Reads.{as_boolean, as_signed, as_unsigned, as_text, as_items, as_members, kind_of, read_as, member_as, try_member_as};
 ghost use Rattle.sj_tape.specs.Items.{items, array_choice};
 ghost use Rattle.sj_tape.specs.Members.{members, object_choice};
 ghost use Rattle.sj_tape.specs.Value.{tree, choice, found};
