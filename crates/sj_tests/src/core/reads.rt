@@ -1,6 +1,6 @@
 //! Typed reads.
 
-use crate::{
+use sj_text_core::{
     ExtendedValueType, SameAs, StaticNode, TryTypeError, TypedValue, ValueAsScalar, ValueType,
 };
 
@@ -168,35 +168,38 @@ fn faults_name_both_kinds(rt: HostRuntime) {
 #[test]
 fn reads_answer_the_value(rt: HostRuntime) {
     let five = StaticNode::U128(5);
-    assert_eq!(rt; StaticNode::Null.as_null(), Some(()));
-    assert_eq!(rt; StaticNode::Null.try_as_null(), Ok(()));
-    assert_eq!(rt; StaticNode::Bool(true).as_bool(), Some(true));
-    assert_eq!(rt; StaticNode::Bool(true).try_as_bool(), Ok(true));
-    assert_eq!(rt; five.as_null(), None);
-    assert_eq!(rt; five.as_bool(), None);
-    assert!(rt; five.as_str().is_none());
-    assert_eq!(rt; five.as_i8(), Some(5));
-    assert_eq!(rt; five.try_as_i8(), Ok(5));
-    assert_eq!(rt; five.as_i16(), Some(5));
-    assert_eq!(rt; five.try_as_i16(), Ok(5));
-    assert_eq!(rt; five.as_i32(), Some(5));
-    assert_eq!(rt; five.try_as_i32(), Ok(5));
-    assert_eq!(rt; five.as_i64(), Some(5));
-    assert_eq!(rt; five.try_as_i64(), Ok(5));
-    assert_eq!(rt; five.as_i128(), Some(5));
-    assert_eq!(rt; five.try_as_i128(), Ok(5));
-    assert_eq!(rt; five.as_u8(), Some(5));
-    assert_eq!(rt; five.try_as_u8(), Ok(5));
-    assert_eq!(rt; five.as_u16(), Some(5));
-    assert_eq!(rt; five.try_as_u16(), Ok(5));
-    assert_eq!(rt; five.as_u32(), Some(5));
-    assert_eq!(rt; five.try_as_u32(), Ok(5));
-    assert_eq!(rt; five.as_u64(), Some(5));
-    assert_eq!(rt; five.try_as_u64(), Ok(5));
-    assert_eq!(rt; five.as_u128(), Some(5));
-    assert_eq!(rt; five.try_as_u128(), Ok(5));
-    assert_eq!(rt; five.as_usize(), Some(5));
-    assert_eq!(rt; five.try_as_usize(), Ok(5));
+    let told = [
+        StaticNode::Null.as_null() == Some(()),
+        StaticNode::Null.try_as_null() == Ok(()),
+        StaticNode::Bool(true).as_bool() == Some(true),
+        StaticNode::Bool(true).try_as_bool() == Ok(true),
+        five.as_null() == None,
+        five.as_bool() == None,
+        five.as_i8() == Some(5),
+        five.try_as_i8() == Ok(5),
+        five.as_i16() == Some(5),
+        five.try_as_i16() == Ok(5),
+        five.as_i32() == Some(5),
+        five.try_as_i32() == Ok(5),
+        five.as_i64() == Some(5),
+        five.try_as_i64() == Ok(5),
+        five.as_i128() == Some(5),
+        five.try_as_i128() == Ok(5),
+        five.as_u8() == Some(5),
+        five.try_as_u8() == Ok(5),
+        five.as_u16() == Some(5),
+        five.try_as_u16() == Ok(5),
+        five.as_u32() == Some(5),
+        five.try_as_u32() == Ok(5),
+        five.as_u64() == Some(5),
+        five.try_as_u64() == Ok(5),
+        five.as_u128() == Some(5),
+        five.try_as_u128() == Ok(5),
+        five.as_usize() == Some(5),
+        five.try_as_usize() == Ok(5),
+        five.as_str().is_none(),
+    ];
+    assert_eq!(rt; told, [true; 29]);
 }
 
 #[test]

@@ -1,6 +1,6 @@
 //! Texts of faults, and faults of memory.
 
-use crate::{
+use sj_text_core::{
     AccessError, BadTape, ErrorKind, ExtendedValueType, Refused, TryTypeError, ValueType,
     WriteError,
 };

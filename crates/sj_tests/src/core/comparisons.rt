@@ -1,6 +1,6 @@
 //! Comparisons.
 
-use crate::{SameAs, StaticNode};
+use sj_text_core::{SameAs, StaticNode};
 use std::test::Fail;
 
 /// Equal scalars stand in one row.
