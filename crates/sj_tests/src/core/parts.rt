@@ -49,39 +49,49 @@ impl ValueAsScalar for Part<'_> {
     }
 }
 
+/// Whether the part is a text, an array, an object, or any scalar.
+fn kinds(part: Part<'_>) -> [bool; 7] {
+    [
+        part.is_str(),
+        part.is_array(),
+        part.is_object(),
+        part.is_null(),
+        part.is_bool(),
+        part.is_i128(),
+        part.is_u128(),
+    ]
+}
+
 #[test]
 fn parts_are_told(rt: HostRuntime) {
-    let parts = [
-        (Part::Text("null"), ValueType::String),
-        (Part::Array, ValueType::Array),
-        (Part::Object, ValueType::Object),
-    ];
-    for (part, kind) in parts {
-        assert_eq!(rt; part.value_type(), kind);
-        assert_eq!(rt; part.is_str(), kind == ValueType::String);
-        assert_eq!(rt; part.is_array(), kind == ValueType::Array);
-        assert_eq!(rt; part.is_object(), kind == ValueType::Object);
-        assert!(rt; !part.is_null() && !part.is_bool() && !part.is_i128() && !part.is_u128());
+    let (yes, no) = (true, false);
+    for (part, kind, told) in [
+        (Part::Text("null"), ValueType::String, [yes, no, no, no, no, no, no]),
+        (Part::Array, ValueType::Array, [no, yes, no, no, no, no, no]),
+        (Part::Object, ValueType::Object, [no, no, yes, no, no, no, no]),
+    ] {
+        assert_eq!(rt; (part.value_type(), kinds(part)), (kind, told));
     }
 }
 
 #[test]
 fn texts_are_read(rt: HostRuntime) -> Result<(), Fail> {
     let part = Part::Text("null");
-    assert_eq!(rt; part.as_str(), Some("null"));
-    assert_eq!(rt; part.try_as_str(), Ok("null"));
-    assert!(rt; Part::Array.as_str().is_none());
-    assert_eq!(rt;
-        Part::Object.try_as_str().err(),
-        Some(TryTypeError {
-            expected: ValueType::String,
-            got: ValueType::Object,
-        })
-    );
+    let fault = TryTypeError {
+        expected: ValueType::String,
+        got: ValueType::Object,
+    };
+    let told = [
+        part.as_str() == Some("null"),
+        part.try_as_str() == Ok("null"),
+        Part::Array.as_str().is_none(),
+        Part::Object.try_as_str().err() == Some(fault),
+    ];
+    assert_eq!(rt; told, [true; 4]);
     for (other, same) in [("null", true), ("nul", false), ("nulL", false), ("", false)] {
         let text = String::from_str(rt.alloc(), other)?;
-        assert_eq!(rt; part.same_as(&other), same);
-        assert_eq!(rt; part.same_as(&text), same);
+        let told = [part.same_as(&other), part.same_as(&text)];
+        assert_eq!(rt; told, [same; 2], "{other}");
     }
     Ok(())
 }

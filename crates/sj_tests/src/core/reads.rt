@@ -45,65 +45,77 @@ const NUMBERS: [(StaticNode, usize, usize); 32] = [
     (StaticNode::I128(-9223372036854775809), 4, 5),
 ];
 
-/// Which signed types the value fits, and what they read of it is the value.
-fn signed(node: StaticNode) -> [(bool, bool); 5] {
+/// Whether something was read, and it is the value.
+fn reads<T>(node: StaticNode, read: Option<T>) -> bool
+where
+    T: Drop,
+    StaticNode: SameAs<T>,
+{
+    match read {
+        Some(number) => node.same_as(&number),
+        None => false,
+    }
+}
+
+/// Which signed types the value fits, and which of them read it.
+fn signed(node: StaticNode) -> [[bool; 5]; 2] {
     [
-        (node.is_i8(), node.as_i8().is_some_and(|n| node.same_as(&n))),
-        (
+        [
+            node.is_i8(),
             node.is_i16(),
-            node.as_i16().is_some_and(|n| node.same_as(&n)),
-        ),
-        (
             node.is_i32(),
-            node.as_i32().is_some_and(|n| node.same_as(&n)),
-        ),
-        (
             node.is_i64(),
-            node.as_i64().is_some_and(|n| node.same_as(&n)),
-        ),
-        (
             node.is_i128(),
-            node.as_i128().is_some_and(|n| node.same_as(&n)),
-        ),
+        ],
+        [
+            reads(node, node.as_i8()),
+            reads(node, node.as_i16()),
+            reads(node, node.as_i32()),
+            reads(node, node.as_i64()),
+            reads(node, node.as_i128()),
+        ],
     ]
 }
 
-/// Which unsigned types the value fits, and what they read of it is the value.
-fn unsigned(node: StaticNode) -> [(bool, bool); 5] {
+/// Which unsigned types the value fits, and which of them read it.
+fn unsigned(node: StaticNode) -> [[bool; 5]; 2] {
     [
-        (node.is_u8(), node.as_u8().is_some_and(|n| node.same_as(&n))),
-        (
+        [
+            node.is_u8(),
             node.is_u16(),
-            node.as_u16().is_some_and(|n| node.same_as(&n)),
-        ),
-        (
             node.is_u32(),
-            node.as_u32().is_some_and(|n| node.same_as(&n)),
-        ),
-        (
             node.is_u64(),
-            node.as_u64().is_some_and(|n| node.same_as(&n)),
-        ),
-        (
             node.is_u128(),
-            node.as_u128().is_some_and(|n| node.same_as(&n)),
-        ),
+        ],
+        [
+            reads(node, node.as_u8()),
+            reads(node, node.as_u16()),
+            reads(node, node.as_u32()),
+            reads(node, node.as_u64()),
+            reads(node, node.as_u128()),
+        ],
+    ]
+}
+
+/// The types that a value fits.
+fn from(narrowest: usize) -> [bool; 5] {
+    [
+        narrowest == 0,
+        narrowest <= 1,
+        narrowest <= 2,
+        narrowest <= 3,
+        narrowest <= 4,
     ]
 }
 
 #[test]
 fn numbers_are_read_by_their_ranges(rt: HostRuntime) {
     for (node, narrowest_signed, narrowest_unsigned) in NUMBERS {
-        for (i, reads) in signed(node).into_iter().enumerate() {
-            let fits = narrowest_signed <= i;
-            assert_eq!(rt; reads, (fits, fits), "{node} at {i}");
-        }
-        for (i, reads) in unsigned(node).into_iter().enumerate() {
-            let fits = narrowest_unsigned <= i;
-            assert_eq!(rt; reads, (fits, fits), "{node} at {i}");
-        }
-        assert_eq!(rt; node.is_usize(), node.is_u64());
-        assert_eq!(rt; node.as_usize().is_some(), node.is_usize());
+        let told = (signed(node), unsigned(node));
+        let fits = ([from(narrowest_signed); 2], [from(narrowest_unsigned); 2]);
+        assert_eq!(rt; told, fits, "{node}");
+        let size = [node.is_usize(), reads(node, node.as_usize())];
+        assert_eq!(rt; size, [narrowest_unsigned <= 3; 2], "{node}");
     }
 }
 
@@ -165,6 +177,40 @@ fn faults_name_both_kinds(rt: HostRuntime) {
     }
 }
 
+/// Whether each signed type reads 5.
+fn signed_fives(node: StaticNode) -> [bool; 10] {
+    [
+        node.as_i8() == Some(5),
+        node.try_as_i8() == Ok(5),
+        node.as_i16() == Some(5),
+        node.try_as_i16() == Ok(5),
+        node.as_i32() == Some(5),
+        node.try_as_i32() == Ok(5),
+        node.as_i64() == Some(5),
+        node.try_as_i64() == Ok(5),
+        node.as_i128() == Some(5),
+        node.try_as_i128() == Ok(5),
+    ]
+}
+
+/// Whether each unsigned type reads 5.
+fn unsigned_fives(node: StaticNode) -> [bool; 12] {
+    [
+        node.as_u8() == Some(5),
+        node.try_as_u8() == Ok(5),
+        node.as_u16() == Some(5),
+        node.try_as_u16() == Ok(5),
+        node.as_u32() == Some(5),
+        node.try_as_u32() == Ok(5),
+        node.as_u64() == Some(5),
+        node.try_as_u64() == Ok(5),
+        node.as_u128() == Some(5),
+        node.try_as_u128() == Ok(5),
+        node.as_usize() == Some(5),
+        node.try_as_usize() == Ok(5),
+    ]
+}
+
 #[test]
 fn reads_answer_the_value(rt: HostRuntime) {
     let five = StaticNode::U128(5);
@@ -175,52 +221,34 @@ fn reads_answer_the_value(rt: HostRuntime) {
         StaticNode::Bool(true).try_as_bool() == Ok(true),
         five.as_null() == None,
         five.as_bool() == None,
-        five.as_i8() == Some(5),
-        five.try_as_i8() == Ok(5),
-        five.as_i16() == Some(5),
-        five.try_as_i16() == Ok(5),
-        five.as_i32() == Some(5),
-        five.try_as_i32() == Ok(5),
-        five.as_i64() == Some(5),
-        five.try_as_i64() == Ok(5),
-        five.as_i128() == Some(5),
-        five.try_as_i128() == Ok(5),
-        five.as_u8() == Some(5),
-        five.try_as_u8() == Ok(5),
-        five.as_u16() == Some(5),
-        five.try_as_u16() == Ok(5),
-        five.as_u32() == Some(5),
-        five.try_as_u32() == Ok(5),
-        five.as_u64() == Some(5),
-        five.try_as_u64() == Ok(5),
-        five.as_u128() == Some(5),
-        five.try_as_u128() == Ok(5),
-        five.as_usize() == Some(5),
-        five.try_as_usize() == Ok(5),
         five.as_str().is_none(),
     ];
-    assert_eq!(rt; told, [true; 29]);
+    let numbers = (signed_fives(five), unsigned_fives(five));
+    assert_eq!(rt; (told, numbers), ([true; 7], ([true; 10], [true; 12])));
+}
+
+/// Whether the value is null, a truth value, or what no scalar is.
+fn kinds(node: StaticNode) -> [bool; 5] {
+    [
+        node.is_null(),
+        node.is_bool(),
+        node.is_str(),
+        node.is_array(),
+        node.is_object(),
+    ]
 }
 
 #[test]
 fn kinds_are_told(rt: HostRuntime) {
-    let carriers = [
-        (StaticNode::I64(1), ValueType::I64),
-        (StaticNode::U64(1), ValueType::U64),
-        (StaticNode::I128(1), ValueType::I128),
-        (StaticNode::U128(1), ValueType::U128),
-    ];
-    for (node, kind) in carriers {
-        assert_eq!(rt; node.value_type(), kind);
-    }
-    let nodes = [
-        (StaticNode::Null, true, false),
-        (StaticNode::Bool(false), false, true),
-        (StaticNode::U64(42), false, false),
-    ];
-    for (node, is_null, is_bool) in nodes {
-        assert_eq!(rt; node.is_null(), is_null);
-        assert_eq!(rt; node.is_bool(), is_bool);
-        assert!(rt; !node.is_str() && !node.is_array() && !node.is_object());
+    let (yes, no) = (true, false);
+    for (node, kind, told) in [
+        (StaticNode::Null, ValueType::Null, [yes, no, no, no, no]),
+        (StaticNode::Bool(false), ValueType::Bool, [no, yes, no, no, no]),
+        (StaticNode::I64(1), ValueType::I64, [no; 5]),
+        (StaticNode::U64(42), ValueType::U64, [no; 5]),
+        (StaticNode::I128(1), ValueType::I128, [no; 5]),
+        (StaticNode::U128(1), ValueType::U128, [no; 5]),
+    ] {
+        assert_eq!(rt; (node.value_type(), kinds(node)), (kind, told), "{node}");
     }
 }
