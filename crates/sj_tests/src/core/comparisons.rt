@@ -1,7 +1,7 @@
 //! Comparisons.
 
 use sj_text_core::{SameAs, StaticNode};
-use std::test::Fail;
+use std::alloc::{AllocError, Global};
 
 /// Scalars, each with a number of its value.
 const SCALARS: [(StaticNode, u8); 17] = [
@@ -26,9 +26,9 @@ const SCALARS: [(StaticNode, u8); 17] = [
 
 #[test]
 fn scalars_are_compared_by_value(rt: HostRuntime) {
-    for (left, mine) in SCALARS {
-        for (right, other) in SCALARS {
-            assert_eq!(rt; left == right, mine == other, "{left} and {right}");
+    for &(left, mine) in &SCALARS {
+        for &(right, other) in &SCALARS {
+            assert!(rt; (left == right) == (mine == other), "{left} and {right}");
         }
     }
 }
@@ -73,19 +73,35 @@ fn same_as_six(node: StaticNode) -> [bool; 6] {
 }
 
 #[test]
-fn scalars_are_compared_with_other_types(rt: HostRuntime) -> Result<(), Fail> {
-    for (node, same) in [
-        (StaticNode::Null, [true, false, false, false]),
-        (StaticNode::Bool(false), [false, false, true, false]),
-        (StaticNode::Bool(true), [false, true, false, false]),
-    ] {
-        assert_eq!(rt; same_as_scalars(node), same, "{node}");
+fn scalars_are_compared_with_other_types(rt: HostRuntime) {
+    let told = [
+        same_as_scalars(StaticNode::Null),
+        same_as_scalars(StaticNode::Bool(false)),
+        same_as_scalars(StaticNode::Bool(true)),
+    ];
+    let wanted = [
+        [true, false, false, false],
+        [false, false, true, false],
+        [false, true, false, false],
+    ];
+    assert_eq!(rt; told, wanted);
+}
+
+#[test]
+fn numbers_are_compared_with_other_types(rt: HostRuntime) {
+    for &node in &[StaticNode::I64(5), StaticNode::U128(5)] {
+        assert_eq!(rt; same_as_five(node), [true; 11]);
+        assert_eq!(rt; same_as_six(node), [false; 6]);
     }
-    for node in [StaticNode::I64(5), StaticNode::U128(5)] {
-        let same = (same_as_five(node), same_as_six(node));
-        assert_eq!(rt; same, ([true; 11], [false; 6]), "{node:?}");
-    }
-    let text = String::from_str(rt.alloc(), "null")?;
-    assert!(rt; !StaticNode::Null.same_as(&text));
-    Ok(())
+}
+
+/// Whether null is a text.
+fn null_is_text(alloc: Global) -> Result<bool, AllocError> {
+    let text = String::from_str(alloc, "null")?;
+    Ok(StaticNode::Null.same_as(&text))
+}
+
+#[test]
+fn null_is_no_text(rt: HostRuntime) {
+    assert!(rt; null_is_text(rt.alloc()) == Ok(false));
 }

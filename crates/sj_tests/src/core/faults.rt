@@ -1,26 +1,33 @@
 //! Texts of faults, and faults of memory.
 
-use std::alloc::{AllocError, AllocFailed};
+use std::alloc::{AllocError, AllocFailed, Global};
 use std::test::Fail;
 use sj_text_core::{
     AccessError, BadTape, ErrorKind, ExtendedValueType, Refused, TryTypeError, ValueType,
     WriteError,
 };
 
+/// Kinds of refusals, and their texts.
+const KINDS: [(ErrorKind, &str); 7] = [
+    (ErrorKind::InvalidUtf8, "invalid UTF-8"),
+    (ErrorKind::Syntax, "syntax error"),
+    (ErrorKind::LoneSurrogate, "lone surrogate"),
+    (ErrorKind::Float, "number with a fraction or an exponent"),
+    (ErrorKind::NumberTooLarge, "number too large"),
+    (ErrorKind::TooDeep, "nested too deep"),
+    (ErrorKind::OutOfMemory, "out of memory"),
+];
+
+/// Whether the kind is told so.
+fn is_told(alloc: Global, kind: ErrorKind, wanted: &str) -> Result<bool, AllocError> {
+    Ok(format!(in alloc; "{kind}")?.as_str() == wanted)
+}
+
 #[test]
-fn kinds_of_refusals_are_told(rt: HostRuntime) -> Result<(), Fail> {
-    for (kind, want) in [
-        (ErrorKind::InvalidUtf8, "invalid UTF-8"),
-        (ErrorKind::Syntax, "syntax error"),
-        (ErrorKind::LoneSurrogate, "lone surrogate"),
-        (ErrorKind::Float, "number with a fraction or an exponent"),
-        (ErrorKind::NumberTooLarge, "number too large"),
-        (ErrorKind::TooDeep, "nested too deep"),
-        (ErrorKind::OutOfMemory, "out of memory"),
-    ] {
-        assert_eq!(rt; format!(in rt.alloc(); "{kind}")?.as_str(), want);
+fn kinds_of_refusals_are_told(rt: HostRuntime) {
+    for &(kind, wanted) in &KINDS {
+        assert!(rt; is_told(rt.alloc(), kind, wanted) == Ok(true), "{wanted}");
     }
-    Ok(())
 }
 
 #[test]

@@ -1,7 +1,7 @@
 //! Texts, arrays and objects, which no scalar node is.
 
 use sj_text_core::{Meaning, SameAs, TryTypeError, TypedValue, ValueAsScalar, ValueType};
-use std::test::Fail;
+use std::alloc::{AllocError, Global};
 
 /// A text, an empty array or an empty object.
 #[derive(Clone, Copy)]
@@ -65,17 +65,19 @@ fn kinds(part: Part<'_>) -> [bool; 7] {
 #[test]
 fn parts_are_told(rt: HostRuntime) {
     let (yes, no) = (true, false);
-    for (part, kind, told) in [
-        (Part::Text("null"), ValueType::String, [yes, no, no, no, no, no, no]),
-        (Part::Array, ValueType::Array, [no, yes, no, no, no, no, no]),
-        (Part::Object, ValueType::Object, [no, no, yes, no, no, no, no]),
-    ] {
-        assert_eq!(rt; (part.value_type(), kinds(part)), (kind, told));
-    }
+    let (text, array, object) = (Part::Text("null"), Part::Array, Part::Object);
+    let types = [text.value_type(), array.value_type(), object.value_type()];
+    assert_eq!(rt; types, [ValueType::String, ValueType::Array, ValueType::Object]);
+    let wanted = [
+        [yes, no, no, no, no, no, no],
+        [no, yes, no, no, no, no, no],
+        [no, no, yes, no, no, no, no],
+    ];
+    assert_eq!(rt; [kinds(text), kinds(array), kinds(object)], wanted);
 }
 
 #[test]
-fn texts_are_read(rt: HostRuntime) -> Result<(), Fail> {
+fn texts_are_read(rt: HostRuntime) {
     let part = Part::Text("null");
     let fault = TryTypeError {
         expected: ValueType::String,
@@ -88,10 +90,18 @@ fn texts_are_read(rt: HostRuntime) -> Result<(), Fail> {
         Part::Object.try_as_str().err() == Some(fault),
     ];
     assert_eq!(rt; told, [true; 4]);
-    for (other, same) in [("null", true), ("nul", false), ("nulL", false), ("", false)] {
-        let text = String::from_str(rt.alloc(), other)?;
-        let told = [part.same_as(&other), part.same_as(&text)];
-        assert_eq!(rt; told, [same; 2], "{other}");
+}
+
+/// Whether the text `null` is another, lent and owned.
+fn same_texts(alloc: Global, other: &str) -> Result<[bool; 2], AllocError> {
+    let part = Part::Text("null");
+    let text = String::from_str(alloc, other)?;
+    Ok([part.same_as(&other), part.same_as(&text)])
+}
+
+#[test]
+fn texts_are_compared(rt: HostRuntime) {
+    for &(other, same) in &[("null", true), ("nul", false), ("nulL", false), ("", false)] {
+        assert!(rt; same_texts(rt.alloc(), other) == Ok([same; 2]), "{other}");
     }
-    Ok(())
 }

@@ -34,15 +34,21 @@ fn prints_pretty(alloc: Global, value: &Value<'_, '_>, wanted: &str) -> Result<[
     Ok([value.encode_pp(alloc)?.as_str() == wanted, written])
 }
 
+/// Whether a text prints so by each choice.
+fn prints_by_both(alloc: Global, text: &str, wanted: &str) -> Result<[[bool; 3]; 2], Fail> {
+    let mut bytes = text.as_bytes().to_vec(alloc)?;
+    let tape = to_tape(alloc, bytes.as_mut_slice())?;
+    Ok([
+        prints(alloc, &tape.as_value_repeats(Repeats::First), wanted)?,
+        prints(alloc, &tape.as_value_repeats(Repeats::Last), wanted)?,
+    ])
+}
+
 #[test]
 fn compact_prints(rt: HostRuntime) -> Result<(), Fail> {
-    for (text, wanted) in ROWS {
-        let mut bytes = text.as_bytes().to_vec(rt.alloc())?;
-        let tape = to_tape(rt.alloc(), bytes.as_mut_slice())?;
-        for choice in [Repeats::First, Repeats::Last] {
-            let told = prints(rt.alloc(), &tape.as_value_repeats(choice), wanted)?;
-            assert_eq!(rt; told, [true; 3], "{text}");
-        }
+    for &(text, wanted) in &ROWS {
+        let told = prints_by_both(rt.alloc(), text, wanted)?;
+        assert!(rt; told == [[true; 3]; 2], "{text}");
     }
     Ok(())
 }
@@ -66,7 +72,7 @@ fn shown(alloc: Global, text: &str) -> Result<String, Fail> {
 
 #[test]
 fn displays(rt: HostRuntime) -> Result<(), Fail> {
-    for (text, wanted) in [
+    for &(text, wanted) in &[
         ("null", "null"),
         ("-7", "-7"),
         ("\"a\\\"b\"", "a\"b"),
@@ -75,7 +81,7 @@ fn displays(rt: HostRuntime) -> Result<(), Fail> {
             "[1,{\"k\\n\":\"v\\u0001\"}]",
         ),
     ] {
-        assert_eq!(rt; shown(rt.alloc(), text)?.as_str(), wanted, "{text}");
+        assert!(rt; shown(rt.alloc(), text)?.as_str() == wanted, "{text}");
     }
     Ok(())
 }
@@ -105,8 +111,8 @@ fn accepted_lists_are_printed(rt: HostRuntime) -> Result<(), Fail> {
             "{\"k\":null}",
         ),
     ];
-    for (nodes, wanted) in lists {
-        assert_eq!(rt; encoded(rt.alloc(), nodes)?.as_str(), wanted);
+    for &(nodes, wanted) in &lists {
+        assert!(rt; encoded(rt.alloc(), nodes)?.as_str() == wanted, "{wanted}");
     }
     Ok(())
 }
@@ -140,14 +146,14 @@ fn alike(alloc: Global, one: StaticNode, other: StaticNode) -> Result<[bool; 2],
 
 #[test]
 fn carriers_are_not_printed(rt: HostRuntime) -> Result<(), Fail> {
-    for (one, other, same) in [
+    for &(one, other, same) in &[
         (StaticNode::U64(5), StaticNode::I64(5), true),
         (StaticNode::U64(5), StaticNode::U128(5), true),
         (StaticNode::I64(-5), StaticNode::I128(-5), true),
         (StaticNode::U64(5), StaticNode::I64(-5), false),
         (StaticNode::Null, StaticNode::Bool(false), false),
     ] {
-        assert_eq!(rt; alike(rt.alloc(), one, other)?, [same; 2], "{one:?}, {other:?}");
+        assert!(rt; alike(rt.alloc(), one, other)? == [same; 2], "{one:?}, {other:?}");
     }
     Ok(())
 }

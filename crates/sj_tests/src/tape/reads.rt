@@ -1,8 +1,9 @@
 //! Reads of the parts of tapes that were read from texts.
 
+use super::{has_items, has_members, lists_members, number_of};
 use sj_tape::{
-    Array, ExtendedValueType, Object, Repeats, TryTypeError, Value, ValueAsScalar, ValueType,
-    to_tape,
+    Array, ErrorKind, ExtendedValueType, Object, Repeats, TryTypeError, Value, ValueAsScalar,
+    ValueType, to_tape,
 };
 use std::alloc::Global;
 use std::test::Fail;
@@ -16,28 +17,54 @@ fn narrow(expected: ExtendedValueType) -> ValueType {
     ValueType::Extended(expected)
 }
 
-/// Whether the parts of {"the_answer":42} are found, and faults name both kinds.
-fn finds_the_answer(whole: Value<'_, '_>) -> Option<[bool; 8]> {
-    let number = whole.try_get("the_answer").ok()??;
-    let (array, object) = (ValueType::Array, ValueType::Object);
-    let (null, unsigned) = (ValueType::Null, ValueType::U64);
-    Some([
-        number.as_u64() == Some(42),
+/// Whether the parts of {"the_answer":42} are found.
+fn finds_the_answer(whole: Value<'_, '_>) -> [bool; 3] {
+    [
+        number_of(whole.get("the_answer")) == Some(42),
         matches!(whole.try_get("does_not_exist"), Ok(None)),
         whole.try_as_object().is_ok(),
-        whole.try_get_idx(0).err() == fault::<()>(array, object).err(),
-        whole.try_as_array().err() == fault::<()>(array, object).err(),
-        number.try_get("k").err() == fault::<()>(object, unsigned).err(),
-        number.try_as_object().err() == fault::<()>(object, unsigned).err(),
-        Value::null().try_get_idx(0).err() == fault::<()>(array, null).err(),
-    ])
+    ]
+}
+
+/// Whether faults at an object name both kinds.
+fn names_the_object(whole: Value<'_, '_>) -> [bool; 2] {
+    let named = Some(TryTypeError {
+        expected: ValueType::Array,
+        got: ValueType::Object,
+    });
+    [
+        whole.try_get_idx(0).err() == named,
+        whole.try_as_array().err() == named,
+    ]
+}
+
+/// Whether faults at a number and at null name both kinds.
+fn names_the_number(number: Value<'_, '_>) -> [bool; 4] {
+    let named = Some(TryTypeError {
+        expected: ValueType::Object,
+        got: ValueType::U64,
+    });
+    let null = Some(TryTypeError {
+        expected: ValueType::Array,
+        got: ValueType::Null,
+    });
+    [
+        number.as_u64() == Some(42),
+        number.try_get("k").err() == named,
+        number.try_as_object().err() == named,
+        Value::null().try_get_idx(0).err() == null,
+    ]
 }
 
 #[test]
 fn faults_name_both_kinds(rt: HostRuntime) -> Result<(), Fail> {
     let mut bytes = b"{\"the_answer\": 42}".to_vec(rt.alloc())?;
     let tape = to_tape(rt.alloc(), bytes.as_mut_slice())?;
-    assert_eq!(rt; finds_the_answer(tape.as_value()), Some([true; 8]));
+    let whole = tape.as_value();
+    let number = whole.try_get("the_answer")?.ok_or("a number")?;
+    assert_eq!(rt; finds_the_answer(whole), [true; 3]);
+    assert_eq!(rt; names_the_object(whole), [true; 2]);
+    assert_eq!(rt; names_the_number(number), [true; 4]);
     Ok(())
 }
 
@@ -90,15 +117,22 @@ fn has_one_member(object: Option<Object<'_, '_>>) -> bool {
     matches!(object, Some(object) if object.len() == 1)
 }
 
+/// Whether the last `m` is read.
+fn lasts(last: Value<'_, '_>) -> [bool; 2] {
+    [
+        last.get_u16("m") == None,
+        last.get_str("m") == Some("late"),
+    ]
+}
+
 #[test]
 fn members_by_type(rt: HostRuntime) -> Result<(), Fail> {
     let mut bytes = MEMBERS.as_bytes().to_vec(rt.alloc())?;
     let tape = to_tape(rt.alloc(), bytes.as_mut_slice())?;
     let v = tape.as_value();
-    let last = tape.as_value_repeats(Repeats::Last);
-    let told = (signed(v), unsigned(v), others(v));
-    assert_eq!(rt; told, ([true; 6], [true; 7], [true; 7]));
-    assert_eq!(rt; (last.get_u16("m"), last.get_str("m")), (None, Some("late")));
+    let last = lasts(tape.as_value_repeats(Repeats::Last));
+    let told = (signed(v), unsigned(v), others(v), last);
+    assert_eq!(rt; told, ([true; 6], [true; 7], [true; 7], [true; 2]));
     Ok(())
 }
 
@@ -146,13 +180,13 @@ fn scalars_or_fault(v: Value<'_, '_>) -> [bool; 5] {
 }
 
 /// Whether arrays and objects are read.
-fn parts_or_fault(v: Value<'_, '_>) -> Option<[bool; 4]> {
-    Some([
-        has_two_items(v.try_get_array("a").ok()?),
+fn parts_or_fault(v: Value<'_, '_>) -> [bool; 4] {
+    [
+        matches!(v.try_get_array("a"), Ok(Some(array)) if array.len() == 2),
         v.try_get_array("o").is_err(),
-        has_one_member(v.try_get_object("o").ok()?),
-        v.try_get_object("absent").ok()?.is_none(),
-    ])
+        matches!(v.try_get_object("o"), Ok(Some(object)) if object.len() == 1),
+        matches!(v.try_get_object("absent"), Ok(None)),
+    ]
 }
 
 #[test]
@@ -160,77 +194,55 @@ fn members_by_type_with_faults(rt: HostRuntime) -> Result<(), Fail> {
     let mut bytes = MEMBERS.as_bytes().to_vec(rt.alloc())?;
     let tape = to_tape(rt.alloc(), bytes.as_mut_slice())?;
     let v = tape.as_value();
-    let told = (signed_or_fault(v), unsigned_or_fault(v), scalars_or_fault(v));
-    assert_eq!(rt; told, ([true; 6], [true; 7], [true; 5]));
-    assert_eq!(rt; parts_or_fault(v), Some([true; 4]));
+    let numbers = (signed_or_fault(v), unsigned_or_fault(v));
+    let told = (numbers, scalars_or_fault(v), parts_or_fault(v));
+    assert_eq!(rt; told, (([true; 6], [true; 7]), [true; 5], [true; 4]));
     Ok(())
 }
 
-/// The number of what was found.
-fn byte_of(found: Option<Value<'_, '_>>) -> Option<u8> {
-    match found {
-        Some(value) => value.as_u8(),
+/// Whether a text has these items, and these in the array at place 1.
+fn is_list(
+    alloc: Global,
+    text: &str,
+    outer: &[Option<u128>],
+    inner: &[Option<u128>],
+) -> Result<[bool; 2], ErrorKind> {
+    let mut bytes = text.as_bytes().to_vec(alloc)?;
+    let tape = to_tape(alloc, bytes.as_mut_slice())?;
+    let array = tape.as_value().as_array();
+    let part = match tape.as_value().get_idx(1) {
+        Some(part) => part.as_array(),
         None => None,
-    }
-}
-
-/// Whether the array has these items, one after another and by their places.
-fn has_items(array: Option<Array<'_, '_>>, wanted: &[Option<u8>]) -> bool {
-    let Some(array) = array else {
-        return wanted.is_empty();
     };
-    for (i, item) in array.iter().enumerate() {
-        let number = item.as_u8();
-        if wanted.get(i).copied() != Some(number) || byte_of(array.get(i)) != number {
-            return false;
-        }
-    }
-    array.len() == wanted.len() && array.get(wanted.len()).is_none()
+    Ok([has_items(array, outer), has_items(part, inner)])
 }
 
 #[test]
-fn items_of_arrays(rt: HostRuntime) -> Result<(), Fail> {
-    // A text, its items, and those of the array at place 1.
-    let rows: [(&str, &[Option<u8>], &[Option<u8>]); 2] = [
-        ("[1,2,3,4]", &[Some(1), Some(2), Some(3), Some(4)], &[]),
-        (
-            "[1,[2,3],4]",
-            &[Some(1), None, Some(4)],
-            &[Some(2), Some(3)],
-        ),
+fn items_of_arrays(rt: HostRuntime) {
+    let four = [Some(1), Some(2), Some(3), Some(4)];
+    let three = [Some(1), None, Some(4)];
+    let told = [
+        is_list(rt.alloc(), "[1,2,3,4]", &four, &[]),
+        is_list(rt.alloc(), "[1,[2,3],4]", &three, &[Some(2), Some(3)]),
     ];
-    for (text, outer, inner) in rows {
-        let mut bytes = text.as_bytes().to_vec(rt.alloc())?;
-        let tape = to_tape(rt.alloc(), bytes.as_mut_slice())?;
-        let array = tape.as_value().as_array();
-        let part = tape.as_value().get_idx(1).ok_or("an item")?.as_array();
-        assert_eq!(rt; [has_items(array, outer), has_items(part, inner)], [true; 2], "{text}");
-    }
-    Ok(())
+    assert_eq!(rt; told, [Ok([true; 2]); 2]);
 }
 
-const NUMBERS: [(&str, u8); 4] = [("snot", 1), ("badger", 2), ("cake", 3), ("cookie", 4)];
+const NUMBERS: [(&str, Option<u128>); 4] = [
+    ("snot", Some(1)),
+    ("badger", Some(2)),
+    ("cake", Some(3)),
+    ("cookie", Some(4)),
+];
 
-/// Whether the object has the numbers, one after another and by their keys.
-fn has_numbers(object: Object<'_, '_>) -> bool {
-    for (i, (key, value)) in object.iter().enumerate() {
-        let number = value.as_u8();
-        match NUMBERS.get(i) {
-            Some((name, wanted)) if *name == key && Some(*wanted) == number => {}
-            _ => return false,
-        }
-        if byte_of(object.get(key)) != number {
+/// Whether the numbers are found by their keys, and no other is.
+fn finds_numbers(object: Object<'_, '_>) -> bool {
+    for (key, number) in &NUMBERS {
+        if number_of(object.get(*key)) != *number {
             return false;
         }
     }
-    object.len() == 4 && object.get("monster").is_none()
-}
-
-/// The keys of an object behind one another, and its numbers.
-fn listed(alloc: Global, object: Object<'_, '_>) -> Result<String, Fail> {
-    let keys: Vec<&str> = object.keys().collect(alloc)?;
-    let numbers: Vec<Option<u8>> = object.values().map(|v| v.as_u8()).collect(alloc)?;
-    Ok(format!(in alloc; "{keys:?} {numbers:?}")?)
+    object.get("monster").is_none()
 }
 
 #[test]
@@ -238,9 +250,12 @@ fn members_of_objects(rt: HostRuntime) -> Result<(), Fail> {
     let mut bytes = b"{\"snot\":1,\"badger\":2,\"cake\":3,\"cookie\":4}".to_vec(rt.alloc())?;
     let tape = to_tape(rt.alloc(), bytes.as_mut_slice())?;
     let object = tape.as_value().as_object().ok_or("an object")?;
-    assert!(rt; has_numbers(object));
-    let wanted = "[\"snot\", \"badger\", \"cake\", \"cookie\"] [Some(1), Some(2), Some(3), Some(4)]";
-    assert_eq!(rt; listed(rt.alloc(), object)?.as_str(), wanted);
+    let told = [
+        finds_numbers(object),
+        has_members(object, &NUMBERS),
+        lists_members(object, &NUMBERS),
+    ];
+    assert_eq!(rt; told, [true; 3]);
     Ok(())
 }
 
@@ -255,15 +270,19 @@ fn text_past_32_members(alloc: Global) -> Result<Vec<u8>, Fail> {
     Ok(text.into_bytes())
 }
 
+/// How many members and nodes there are, and what `k00` and `k31` are.
+fn looked(whole: Value<'_, '_>) -> Option<(usize, usize, [Option<u8>; 2])> {
+    let len = whole.as_object()?.len();
+    let found = [whole.get_u8("k00"), whole.get_u8("k31")];
+    Some((len, whole.nodes().len(), found))
+}
+
 #[test]
 fn repeats_past_32_members(rt: HostRuntime) -> Result<(), Fail> {
     let mut bytes = text_past_32_members(rt.alloc())?;
     let tape = to_tape(rt.alloc(), bytes.as_mut_slice())?;
-    let whole = tape.as_value();
-    let len = whole.as_object().ok_or("an object")?.len();
-    let last = tape.as_value_repeats(Repeats::Last);
-    let found = [whole.get_u8("k00"), whole.get_u8("k31"), last.get_u8("k00")];
-    let told = (len, whole.nodes().len(), found);
-    assert_eq!(rt; told, (33, 67, [Some(0), Some(31), Some(99)]));
+    let last = tape.as_value_repeats(Repeats::Last).get_u8("k00");
+    let told = (looked(tape.as_value()), last);
+    assert_eq!(rt; told, (Some((33, 67, [Some(0), Some(31)])), Some(99)));
     Ok(())
 }

@@ -2,8 +2,8 @@
 
 ghost use Rattle.std.specs.Prelude.{◌≡◌, ◌<◌};
 
-use super::{nested_arrays, number_of, tape_of};
-use sj_tape::{Array, Node, Object, Tape, Value};
+use super::{has_items, has_members, lists_members, nested_arrays, number_of, tape_of};
+use sj_tape::{Array, Node, Tape, Value};
 use sj_text_core::{Repeats, StaticNode, Steps, TypedValue, ValueAsScalar, ValueType};
 use std::alloc::Global;
 use std::marker::Brand;
@@ -63,8 +63,8 @@ fn preorders_alone_are_accepted(rt: HostRuntime) -> Result<(), Fail> {
         (&[array(2, 3), array(1, 1), NULL, NULL], true),
         (&[object(1, 2), KEY, NULL], true),
     ];
-    for (nodes, accepted) in lists {
-        assert_eq!(rt; is_accepted(rt.alloc(), nodes)?, accepted, "{nodes:?}");
+    for &(nodes, accepted) in &lists {
+        assert!(rt; is_accepted(rt.alloc(), nodes)? == accepted, "{nodes:?}");
     }
     Ok(())
 }
@@ -87,27 +87,19 @@ fn arrays_are_nested(rt: HostRuntime) -> Result<(), Fail> {
 }
 
 /// Whether look-ups in {"x":{"k":1},"k":2,"x":3} find the first member of each key.
-fn finds_members(whole: Value<'_, '_>) -> Option<[bool; 6]> {
+fn finds_members(whole: Value<'_, '_>) -> Option<[bool; 7]> {
     let inner = whole.get("x")?;
+    let object = whole.as_object()?;
+    let wanted = [("x", None), ("k", Some(2)), ("x", Some(3))];
     Some([
         number_of(whole.get("k")) == Some(2),
         number_of(inner.get("k")) == Some(1),
         !inner.contains_key("x"),
         whole.contains_key("x"),
         whole.as_array().is_none(),
-        whole.as_object().is_some(),
+        has_members(object, &wanted),
+        lists_members(object, &wanted),
     ])
-}
-
-/// Whether the object has these members in order.
-fn has_members(object: Object<'_, '_>, wanted: &[(&str, Option<u128>)]) -> bool {
-    for (i, (key, value)) in object.iter().enumerate() {
-        match wanted.get(i) {
-            Some((name, number)) if *name == key && *number == value.as_u128() => {}
-            _ => return false,
-        }
-    }
-    object.len() == wanted.len() && !object.is_empty()
 }
 
 #[test]
@@ -125,25 +117,16 @@ fn members(rt: HostRuntime) -> Result<(), Fail> {
         number(3),
     ];
     let tape = tape_of(rt.alloc(), &nodes)?;
-    let whole = tape.as_value();
-    assert_eq!(rt; finds_members(whole), Some([true; 6]));
-    let object = whole.as_object().ok_or("an object")?;
-    let keys: Vec<&str> = object.keys().collect(rt.alloc())?;
-    assert_eq!(rt; keys.as_slice(), ["x", "k", "x"].as_slice());
-    let numbers: Vec<Option<u128>> = object.values().map(|v| v.as_u128()).collect(rt.alloc())?;
-    assert_eq!(rt; numbers.as_slice(), [None, Some(2), Some(3)].as_slice());
-    assert!(rt; has_members(object, &[("x", None), ("k", Some(2)), ("x", Some(3))]));
+    assert_eq!(rt; finds_members(tape.as_value()), Some([true; 7]));
     Ok(())
 }
 
 /// Whether look-ups in [1,[2,3],4] find its items.
-fn finds_items(whole: Value<'_, '_>) -> Option<[bool; 4]> {
-    let array = whole.as_array()?;
+fn finds_items(whole: Value<'_, '_>) -> Option<[bool; 3]> {
     let inner = whole.get_idx(1)?;
     Some([
-        array.len() == 3,
+        has_items(whole.as_array(), &[Some(1), None, Some(4)]),
         number_of(inner.get_idx(1)) == Some(3),
-        array.get(3).is_none(),
         whole.as_object().is_none(),
     ])
 }
@@ -159,18 +142,15 @@ fn items(rt: HostRuntime) -> Result<(), Fail> {
         number(4),
     ];
     let tape = tape_of(rt.alloc(), &nodes)?;
-    let whole = tape.as_value();
-    assert_eq!(rt; finds_items(whole), Some([true; 4]));
-    let array = whole.as_array().ok_or("an array")?;
-    let numbers: Vec<Option<u128>> = array.iter().map(|v| v.as_u128()).collect(rt.alloc())?;
-    assert_eq!(rt; numbers.as_slice(), [Some(1), None, Some(4)].as_slice());
+    assert_eq!(rt; finds_items(tape.as_value()), Some([true; 3]));
     Ok(())
 }
 
+/// What a scalar is read as.
+type Told = (ValueType, Option<i128>, Option<u128>, Option<u8>);
+
 /// What a value is read as, by the bounds alone.
-fn reads<V: TypedValue + ValueAsScalar>(
-    value: &V,
-) -> (ValueType, Option<i128>, Option<u128>, Option<u8>) {
+fn reads<V: TypedValue + ValueAsScalar>(value: &V) -> Told {
     (
         value.value_type(),
         value.as_i128(),
@@ -189,10 +169,7 @@ fn kinds(value: Value<'_, '_>) -> [bool; 3] {
 }
 
 /// Scalars, and what they are read as.
-const SCALARS: [(
-    StaticNode,
-    (ValueType, Option<i128>, Option<u128>, Option<u8>),
-); 8] = [
+const SCALARS: [(StaticNode, Told); 8] = [
     (StaticNode::Null, (ValueType::Null, None, None, None)),
     (StaticNode::Bool(true), (ValueType::Bool, None, None, None)),
     (StaticNode::I64(-1), (ValueType::I64, Some(-1), None, None)),
@@ -223,13 +200,18 @@ const SCALARS: [(
     ),
 ];
 
+/// Whether the tape of a scalar is read so.
+fn is_read(alloc: Global, node: StaticNode, told: Told) -> Result<bool, Fail> {
+    let tape = tape_of(alloc, &[Node::Static(node)])?;
+    let value = tape.as_value();
+    let kind = [told.0 == ValueType::Null, told.0 == ValueType::Bool, false];
+    Ok(reads(&value) == told && kinds(value) == kind)
+}
+
 #[test]
 fn scalars(rt: HostRuntime) -> Result<(), Fail> {
-    for (node, told) in SCALARS {
-        let tape = tape_of(rt.alloc(), &[Node::Static(node)])?;
-        let value = tape.as_value();
-        let kind = [told.0 == ValueType::Null, told.0 == ValueType::Bool, false];
-        assert_eq!(rt; (reads(&value), kinds(value)), (told, kind), "{node}");
+    for &(node, told) in &SCALARS {
+        assert!(rt; is_read(rt.alloc(), node, told)?, "{node:?}");
     }
     assert!(rt; Value::null().as_null().is_some());
     Ok(())
