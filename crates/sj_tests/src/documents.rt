@@ -5,15 +5,15 @@ mod repeats;
 
 use sj_document::{BorrowedValue, Document, OwnedValue, replace_at};
 use sj_object::{HashMap, ObjectHasher, deserialize};
-use sj_text_core::{StaticNode, Writable};
+use sj_text_core::{ErrorKind, StaticNode, Writable};
 use std::alloc::Global;
 use std::borrow::CowStr;
 use std::test::Fail;
 
 /// The owned document of a text.
-fn owned(alloc: Global, text: &str) -> Result<OwnedValue, Fail> {
+fn owned(alloc: Global, text: &str) -> Result<OwnedValue, ErrorKind> {
     let mut bytes = text.as_bytes().to_vec(alloc)?;
-    Ok(deserialize::<OwnedValue, String>(alloc, bytes.as_mut_slice())?)
+    deserialize::<OwnedValue, String>(alloc, bytes.as_mut_slice())
 }
 
 /// An object with one member.

@@ -1,11 +1,11 @@
 //! Texts of faults, and faults of memory.
 
-use std::alloc::{AllocError, AllocFailed, Global};
-use std::test::Fail;
 use sj_text_core::{
     AccessError, BadTape, ErrorKind, ExtendedValueType, Refused, TryTypeError, ValueType,
     WriteError,
 };
+use std::alloc::{AllocError, AllocFailed, Global};
+use std::test::Fail;
 
 /// Kinds of refusals, and their texts.
 const KINDS: [(ErrorKind, &str); 7] = [

@@ -67,7 +67,10 @@ fn parts_are_told(rt: HostRuntime) {
     let (yes, no) = (true, false);
     let (text, array, object) = (Part::Text("null"), Part::Array, Part::Object);
     let types = [text.value_type(), array.value_type(), object.value_type()];
-    assert_eq!(rt; types, [ValueType::String, ValueType::Array, ValueType::Object]);
+    assert_eq!(rt;
+        types,
+        [ValueType::String, ValueType::Array, ValueType::Object]
+    );
     let wanted = [
         [yes, no, no, no, no, no, no],
         [no, yes, no, no, no, no, no],

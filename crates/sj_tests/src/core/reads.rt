@@ -119,7 +119,10 @@ fn is_read(node: StaticNode, narrowest_signed: usize, narrowest_unsigned: usize)
 #[test]
 fn numbers_are_read_by_their_ranges(rt: HostRuntime) {
     for &(node, narrowest_signed, narrowest_unsigned) in &NUMBERS {
-        assert!(rt; is_read(node, narrowest_signed, narrowest_unsigned), "{node}");
+        assert!(rt;
+            is_read(node, narrowest_signed, narrowest_unsigned),
+            "{node}"
+        );
     }
 }
 
@@ -246,12 +249,19 @@ fn kinds_are_told(rt: HostRuntime) {
     let (yes, no) = (true, false);
     for &(node, kind, told) in &[
         (StaticNode::Null, ValueType::Null, [yes, no, no, no, no]),
-        (StaticNode::Bool(false), ValueType::Bool, [no, yes, no, no, no]),
+        (
+            StaticNode::Bool(false),
+            ValueType::Bool,
+            [no, yes, no, no, no],
+        ),
         (StaticNode::I64(1), ValueType::I64, [no; 5]),
         (StaticNode::U64(42), ValueType::U64, [no; 5]),
         (StaticNode::I128(1), ValueType::I128, [no; 5]),
         (StaticNode::U128(1), ValueType::U128, [no; 5]),
     ] {
-        assert!(rt; node.value_type() == kind && kinds(node) == told, "{node:?}");
+        assert!(rt;
+            node.value_type() == kind && kinds(node) == told,
+            "{node:?}"
+        );
     }
 }

@@ -31,13 +31,16 @@ fn holds(value: &OwnedValue, keys: &[String]) -> Option<Option<usize>> {
             _ => return None,
         }
     }
-    if members.len() == keys.len() { Some(members.buckets()) } else { None }
+    if members.len() == keys.len() {
+        Some(members.buckets())
+    } else {
+        None
+    }
 }
 
-/// A tape of one object: the keys `k00`, `k01` and so on, each with its number, and then the
-/// repeats with 99.
-fn repeating<'i>(alloc: Global, keys: &'i [String], repeats: &[usize]) -> Result<Tape<'i>, Fail> {
-    let len = keys.len() + repeats.len();
+/// A tape of one object: the keys, each with its number, and then one of them with 99.
+fn repeating<'i>(alloc: Global, keys: &'i [String], repeat: usize) -> Result<Tape<'i>, Fail> {
+    let len = keys.len() + 1;
     let mut nodes = vec![in alloc;
         Node::Object {
             len,
@@ -48,13 +51,9 @@ fn repeating<'i>(alloc: Global, keys: &'i [String], repeats: &[usize]) -> Result
         nodes.push(Node::String(key.as_str()))?;
         nodes.push(Node::Static(StaticNode::U64(i as u64)))?;
     }
-    for i in repeats {
-        let Some(key) = keys.get(*i) else {
-            return Err("no such key".into());
-        };
-        nodes.push(Node::String(key.as_str()))?;
-        nodes.push(Node::Static(StaticNode::U64(99)))?;
-    }
+    let key = keys.get(repeat).ok_or("no such key")?;
+    nodes.push(Node::String(key.as_str()))?;
+    nodes.push(Node::Static(StaticNode::U64(99)))?;
     Ok(Tape::new(nodes)?)
 }
 
@@ -66,14 +65,19 @@ fn lends_keys(alloc: Global, tape: &Tape<'_>) -> Result<bool, Fail> {
     Ok(members.keys().all(|key| matches!(key, CowStr::Borrowed(_))))
 }
 
+/// Whether the owned document of such a tape has the first members, and the borrowed one lends.
+fn is_kept(alloc: Global, len: usize, repeat: usize) -> Result<[bool; 2], Fail> {
+    let keys = numbered(alloc, len)?;
+    let tape = repeating(alloc, keys.as_slice(), repeat)?;
+    let value = owned_from_tape(alloc, tape.as_value())?;
+    let held = holds(&value, keys.as_slice()).is_some();
+    Ok([held, lends_keys(alloc, &tape)?])
+}
+
 #[test]
 fn keeps_the_first_of_each_key(rt: HostRuntime) -> Result<(), Fail> {
-    for (len, repeat) in REPEATS {
-        let keys = numbered(rt.alloc(), len)?;
-        let tape = repeating(rt.alloc(), keys.as_slice(), &[repeat])?;
-        let value = owned_from_tape(rt.alloc(), tape.as_value())?;
-        let held = holds(&value, keys.as_slice()).is_some();
-        assert_eq!(rt; [held, lends_keys(rt.alloc(), &tape)?], [true; 2], "{len}");
+    for &(len, repeat) in &REPEATS {
+        assert!(rt; is_kept(rt.alloc(), len, repeat)? == [true; 2], "{len}");
     }
     Ok(())
 }
@@ -89,14 +93,19 @@ fn text_with_repeat(alloc: Global, len: usize, repeat: usize) -> Result<String, 
     Ok(text)
 }
 
+/// The buckets of the document of such a text, where it has the first members.
+fn held(alloc: Global, len: usize, repeat: usize) -> Result<Option<Option<usize>>, Fail> {
+    let text = text_with_repeat(alloc, len, repeat)?;
+    let value = owned(alloc, text.as_str())?;
+    let keys = numbered(alloc, len)?;
+    Ok(holds(&value, keys.as_slice()))
+}
+
 #[test]
 fn reads_a_text_with_a_repeat(rt: HostRuntime) -> Result<(), Fail> {
-    for (len, repeat) in REPEATS {
-        let text = text_with_repeat(rt.alloc(), len, repeat)?;
-        let value = owned(rt.alloc(), text.as_str())?;
-        let keys = numbered(rt.alloc(), len)?;
+    for &(len, repeat) in &REPEATS {
         let buckets = if len > 32 { Some(64) } else { None };
-        assert_eq!(rt; holds(&value, keys.as_slice()), Some(buckets), "{len}");
+        assert!(rt; held(rt.alloc(), len, repeat)? == Some(buckets), "{len}");
     }
     Ok(())
 }

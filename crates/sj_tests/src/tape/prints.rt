@@ -129,7 +129,10 @@ fn prints_deeper_than_the_limit(rt: HostRuntime) -> Result<(), Fail> {
     let print = tape.as_value().encode(rt.alloc())?;
     let back = laws::reads_back(rt.alloc(), &tape.as_value())?;
     let refusal = refusal(rt.alloc(), print.as_str())?;
-    assert_eq!(rt; (print.len(), refusal, back), (2050, Some(ErrorKind::TooDeep), false));
+    assert_eq!(rt;
+        (print.len(), refusal, back),
+        (2050, Some(ErrorKind::TooDeep), false)
+    );
     Ok(())
 }
 
@@ -153,7 +156,10 @@ fn carriers_are_not_printed(rt: HostRuntime) -> Result<(), Fail> {
         (StaticNode::U64(5), StaticNode::I64(-5), false),
         (StaticNode::Null, StaticNode::Bool(false), false),
     ] {
-        assert!(rt; alike(rt.alloc(), one, other)? == [same; 2], "{one:?}, {other:?}");
+        assert!(rt;
+            alike(rt.alloc(), one, other)? == [same; 2],
+            "{one:?}, {other:?}"
+        );
     }
     Ok(())
 }

@@ -103,7 +103,11 @@ fn numbers(rt: HostRuntime) {
 
 /// The text of a document that is one string.
 fn text_is(alloc: Global, spelled: &str, wanted: &str) -> Result<bool, AllocError> {
-    reads_as(alloc, spelled, format!(in alloc; "String({wanted:?})")?.as_str())
+    reads_as(
+        alloc,
+        spelled,
+        format!(in alloc; "String({wanted:?})")?.as_str(),
+    )
 }
 
 #[test]
@@ -124,7 +128,10 @@ fn texts(rt: HostRuntime) {
             "\n0123456789abcdef0123456789abcdef\u{e9}/0123456789abcdefx\t",
         ),
     ] {
-        assert!(rt; text_is(rt.alloc(), spelled, wanted) == Ok(true), "{spelled}");
+        assert!(rt;
+            text_is(rt.alloc(), spelled, wanted) == Ok(true),
+            "{spelled}"
+        );
     }
 }
 
@@ -180,7 +187,10 @@ fn refusals(rt: HostRuntime) {
         ("\u{feff}1", "Syntax"),
         ("[\"a\\n\",\"\\x\"]", "Syntax"),
     ] {
-        assert!(rt; answers(rt.alloc(), text.as_bytes(), kind) == Ok(true), "{text}");
+        assert!(rt;
+            answers(rt.alloc(), text.as_bytes(), kind) == Ok(true),
+            "{text}"
+        );
     }
 }
 
@@ -194,7 +204,10 @@ fn bytes_that_are_no_text(rt: HostRuntime) {
         b"01\xff",
     ];
     for &text in &texts {
-        assert!(rt; answers(rt.alloc(), text, "InvalidUtf8") == Ok(true), "{text:?}");
+        assert!(rt;
+            answers(rt.alloc(), text, "InvalidUtf8") == Ok(true),
+            "{text:?}"
+        );
     }
 }
 
@@ -202,7 +215,10 @@ fn bytes_that_are_no_text(rt: HostRuntime) {
 fn beginnings(rt: HostRuntime) {
     let whole = "{\"a\":[1,\"\\u00e9\",true]}".as_bytes();
     for len in 0..whole.len() {
-        assert!(rt; answers(rt.alloc(), &whole[..len], "Syntax") == Ok(true), "{len}");
+        assert!(rt;
+            answers(rt.alloc(), &whole[..len], "Syntax") == Ok(true),
+            "{len}"
+        );
     }
 }
 

@@ -69,7 +69,8 @@ fn faults_name_both_kinds(rt: HostRuntime) -> Result<(), Fail> {
 }
 
 /// A text with members of each kind.
-const MEMBERS: &str = "{\"t\":true,\"n\":-5,\"m\":300,\"s\":\"text\",\"a\":[1,2],\"o\":{\"k\":1},\"m\":\"late\"}";
+const MEMBERS: &str =
+    "{\"t\":true,\"n\":-5,\"m\":300,\"s\":\"text\",\"a\":[1,2],\"o\":{\"k\":1},\"m\":\"late\"}";
 
 /// Whether members are read by signed types.
 fn signed(v: Value<'_, '_>) -> [bool; 6] {
@@ -119,10 +120,7 @@ fn has_one_member(object: Option<Object<'_, '_>>) -> bool {
 
 /// Whether the last `m` is read.
 fn lasts(last: Value<'_, '_>) -> [bool; 2] {
-    [
-        last.get_u16("m") == None,
-        last.get_str("m") == Some("late"),
-    ]
+    [last.get_u16("m") == None, last.get_str("m") == Some("late")]
 }
 
 #[test]
