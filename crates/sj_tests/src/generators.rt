@@ -7,8 +7,7 @@ use sj_print::{
     BaseGenerator, DumpGenerator, PrettyGenerator, PrettyWriterGenerator, WriterGenerator,
 };
 use sj_text_core::StaticNode;
-use std::alloc::AllocError;
-use std::test::Fail;
+use std::alloc::{AllocError, Global};
 
 const TEXTS: [(&str, &str); 51] = [
     ("\x00", "\"\\u0000\""),
@@ -103,45 +102,65 @@ const SCALARS: [(StaticNode, &str); 15] = [
     ),
 ];
 
-fn append_compact(out: &mut Vec<u8>, text: &str) -> Result<(), AllocError> {
-    WriterGenerator::new(out).write_string(text)
+/// Whether both compact generators write the text so.
+fn is_compact(alloc: Global, text: &str, print: &str) -> Result<[bool; 2], AllocError> {
+    let mut out = Vec::new(alloc);
+    WriterGenerator::new(&mut out).write_string(text)?;
+    let mut dump = DumpGenerator::new(alloc);
+    dump.write_string(text)?;
+    Ok([
+        out.as_slice() == print.as_bytes(),
+        dump.consume().as_str() == print,
+    ])
 }
 
-fn append_pretty(out: &mut Vec<u8>, text: &str) -> Result<(), AllocError> {
-    PrettyWriterGenerator::new(out, 2).write_string(text)
-}
-
-#[test]
-fn strings_are_escaped(rt: HostRuntime) -> Result<(), Fail> {
-    for (text, print) in TEXTS {
-        let mut dump = DumpGenerator::new(rt.alloc());
-        dump.write_string(text)?;
-        assert_eq!(rt; dump.consume().as_str(), print);
-        let mut out = Vec::new(rt.alloc());
-        append_compact(&mut out, text)?;
-        assert_eq!(rt; out.as_slice(), print.as_bytes());
-        out.clear();
-        append_pretty(&mut out, text)?;
-        assert_eq!(rt; out.as_slice(), print.as_bytes());
-        let mut pretty = PrettyGenerator::new(rt.alloc(), 2);
-        pretty.write_string(text)?;
-        assert_eq!(rt; pretty.consume().as_str(), print);
-    }
-    Ok(())
+/// Whether both pretty generators write the text so.
+fn is_pretty(alloc: Global, text: &str, print: &str) -> Result<[bool; 2], AllocError> {
+    let mut out = Vec::new(alloc);
+    PrettyWriterGenerator::new(&mut out, 2).write_string(text)?;
+    let mut pretty = PrettyGenerator::new(alloc, 2);
+    pretty.write_string(text)?;
+    Ok([
+        out.as_slice() == print.as_bytes(),
+        pretty.consume().as_str() == print,
+    ])
 }
 
 #[test]
-fn scalars_are_printed(rt: HostRuntime) -> Result<(), Fail> {
-    for (node, print) in SCALARS {
-        let mut dump = DumpGenerator::new(rt.alloc());
-        dump.write_static(node)?;
-        assert_eq!(rt; dump.consume().as_str(), print);
-        let mut pretty = PrettyGenerator::new(rt.alloc(), 4);
-        pretty.write_static(node)?;
-        assert_eq!(rt; pretty.consume().as_str(), print);
-        assert_eq!(rt; format!(in rt.alloc(); "{node}")?.as_str(), print);
+fn strings_are_escaped(rt: HostRuntime) {
+    for &(text, print) in &TEXTS {
+        assert!(rt;
+            is_compact(rt.alloc(), text, print) == Ok([true; 2]),
+            "{print}"
+        );
+        assert!(rt;
+            is_pretty(rt.alloc(), text, print) == Ok([true; 2]),
+            "{print}"
+        );
     }
-    Ok(())
+}
+
+/// Whether both generators and a display write the scalar so.
+fn is_printed(alloc: Global, node: StaticNode, print: &str) -> Result<[bool; 3], AllocError> {
+    let mut dump = DumpGenerator::new(alloc);
+    dump.write_static(node)?;
+    let mut pretty = PrettyGenerator::new(alloc, 4);
+    pretty.write_static(node)?;
+    Ok([
+        dump.consume().as_str() == print,
+        pretty.consume().as_str() == print,
+        format!(in alloc; "{node}")?.as_str() == print,
+    ])
+}
+
+#[test]
+fn scalars_are_printed(rt: HostRuntime) {
+    for &(node, print) in &SCALARS {
+        assert!(rt;
+            is_printed(rt.alloc(), node, print) == Ok([true; 3]),
+            "{print}"
+        );
+    }
 }
 
 /// Writes `{"a":[1,{}]}`.
@@ -175,21 +194,37 @@ const TWO_SPACES: &str = "{\n  \"a\": [\n    1,\n    {}\n  ]\n}";
 
 const NO_SPACES: &str = "{\n\"a\": [\n1,\n{}\n]\n}";
 
-#[test]
-fn an_object_is_laid_out(rt: HostRuntime) -> Result<(), Fail> {
-    let mut dump = DumpGenerator::new(rt.alloc());
-    write_object(&mut dump)?;
-    assert_eq!(rt; dump.consume().as_str(), COMPACT);
-    let mut out = Vec::new(rt.alloc());
+/// Whether both compact generators lay the object out so.
+fn is_laid_out(alloc: Global) -> Result<[bool; 2], AllocError> {
+    let mut out = Vec::new(alloc);
     write_object(&mut WriterGenerator::new(&mut out))?;
-    assert_eq!(rt; out.as_slice(), COMPACT.as_bytes());
-    for (spaces, print) in [(2_u16, TWO_SPACES), (0, NO_SPACES)] {
-        let mut pretty = PrettyGenerator::new(rt.alloc(), spaces);
-        write_object(&mut pretty)?;
-        assert_eq!(rt; pretty.consume().as_str(), print);
-        out.clear();
-        write_object(&mut PrettyWriterGenerator::new(&mut out, spaces))?;
-        assert_eq!(rt; out.as_slice(), print.as_bytes());
-    }
-    Ok(())
+    let mut dump = DumpGenerator::new(alloc);
+    write_object(&mut dump)?;
+    Ok([
+        out.as_slice() == COMPACT.as_bytes(),
+        dump.consume().as_str() == COMPACT,
+    ])
+}
+
+/// Whether both pretty generators lay the object out so.
+fn is_indented(alloc: Global, spaces: u16, print: &str) -> Result<[bool; 2], AllocError> {
+    let mut out = Vec::new(alloc);
+    write_object(&mut PrettyWriterGenerator::new(&mut out, spaces))?;
+    let mut pretty = PrettyGenerator::new(alloc, spaces);
+    write_object(&mut pretty)?;
+    Ok([
+        out.as_slice() == print.as_bytes(),
+        pretty.consume().as_str() == print,
+    ])
+}
+
+#[test]
+fn an_object_is_laid_out(rt: HostRuntime) {
+    let alloc = rt.alloc();
+    let told = [
+        is_laid_out(alloc),
+        is_indented(alloc, 2, TWO_SPACES),
+        is_indented(alloc, 0, NO_SPACES),
+    ];
+    assert_eq!(rt; told, [Ok([true; 2]); 3]);
 }

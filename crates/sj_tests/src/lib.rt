@@ -1,8 +1,10 @@
-//! Tests of generators, tapes, maps and documents, by their public calls.
+//! Tests of scalars and faults, generators, tapes, maps and documents, by their public calls.
 //!
 //! Tests stand in crates of their own because a crate with tests is proved twice.
 #![tactic(auto)]
 
+#[cfg(test)]
+mod core;
 #[cfg(test)]
 mod documents;
 #[cfg(test)]

@@ -50,50 +50,75 @@ fn hashes_texts(rt: HostRuntime) {
         ("key", 106079),
         ("k00", 104363),
     ];
-    for (text, hash) in table {
-        assert_eq!(rt; ObjectHasher::default().hash_text(text), hash, "{text}");
+    for &(text, hash) in &table {
+        assert!(rt; ObjectHasher::default().hash_text(text) == hash, "{text}");
     }
+}
+
+/// Inserts a text as key; what stood there.
+fn inserts(
+    alloc: Global,
+    map: &mut HashMap<String, u64, ObjectHasher>,
+    key: &str,
+    value: u64,
+) -> Result<Option<u64>, Fail> {
+    Ok(map.insert(String::from_str(alloc, key)?, value)?)
+}
+
+/// Removes a key; what stood there, how many are left, and whether the key is one of them.
+fn removes(map: &mut HashMap<String, u64, ObjectHasher>, key: &str) -> (Option<u64>, usize, bool) {
+    let before = map.remove(key);
+    (before, map.len(), map.contains_key(key))
 }
 
 #[test]
 fn inserts_in_place_or_last(rt: HostRuntime) -> Result<(), Fail> {
     let alloc = rt.alloc();
     let mut map = HashMap::with_capacity_and_hasher(alloc, 0, ObjectHasher::default())?;
-    assert!(rt; map.is_empty());
+    let empty = map.is_empty();
     for (key, value, before) in [("a", 1, None), ("b", 2, None), ("a", 3, Some(1))] {
-        let answer = map.insert(String::from_str(alloc, key)?, value)?;
+        let answer = inserts(alloc, &mut map, key, value)?;
         assert_eq!(rt; answer, before, "{key} {value}");
     }
     let shown = format!(in alloc; "{map:?}")?;
     assert_eq!(rt; shown.as_str(), "{\"a\": 3, \"b\": 2}");
-    for (key, value, len) in [("a", Some(3), 1), ("a", None, 1)] {
-        assert_eq!(rt; map.remove(key), value);
-        assert_eq!(rt; map.len(), len);
-        assert!(rt; !map.contains_key(key));
-    }
-    assert_eq!(rt; map.buckets(), None);
+    let removed = [removes(&mut map, "a"), removes(&mut map, "a")];
+    let told = (empty, removed, map.buckets());
+    assert_eq!(rt; told, (true, [(Some(3), 1, false), (None, 1, false)], None));
     Ok(())
+}
+
+const THREE: [&str; 3] = ["k00", "k01", "k02"];
+
+/// Whether the members are these three, each with its number.
+fn walks(map: &HashMap<String, u64, ObjectHasher>) -> bool {
+    for (i, (key, value)) in map.iter().enumerate() {
+        if THREE.get(i).copied() != Some(key.as_str()) || *value != i as u64 {
+            return false;
+        }
+    }
+    true
+}
+
+/// Whether the keys that are taken out are these three.
+fn takes(map: HashMap<String, u64, ObjectHasher>) -> bool {
+    let mut members = map.into_iter();
+    for name in THREE {
+        match members.next() {
+            Some((key, _)) if key.as_str() == name => {}
+            _ => return false,
+        }
+    }
+    members.next().is_none()
 }
 
 #[test]
 fn walks_in_order(rt: HostRuntime) -> Result<(), Fail> {
     let map = numbered(rt.alloc(), 3, ObjectHasher::default())?;
-    let wanted = ["k00", "k01", "k02"];
-    for (i, (key, value)) in map.iter().enumerate() {
-        assert_eq!(rt; wanted.get(i).copied(), Some(key.as_str()));
-        assert_eq!(rt; *value, i as u64);
-    }
-    assert_eq!(rt; map.iter().count(), 3);
-    assert_eq!(rt; map.keys().count(), 3);
-    assert_eq!(rt; map.values().copied().max(), Some(2));
-    let mut members = map.into_iter();
-    for name in wanted {
-        let Some((key, _)) = members.next() else {
-            return Err("a member is missing".into());
-        };
-        assert_eq!(rt; key.as_str(), name);
-    }
-    assert!(rt; members.next().is_none());
+    let counts = [map.iter().count(), map.keys().count()];
+    let told = (walks(&map), counts, map.values().copied().max());
+    assert_eq!(rt; told, (true, [3, 3], Some(2)));
+    assert!(rt; takes(map));
     Ok(())
 }
 
@@ -103,58 +128,62 @@ fn keeps_the_stored_key(rt: HostRuntime) -> Result<(), Fail> {
     let mut map = HashMap::with_capacity_and_hasher(alloc, 0, ObjectHasher::default())?;
     map.insert(CowStr::Borrowed("a"), 1)?;
     let before = map.insert(CowStr::Owned(String::from_str(alloc, "a")?), 2)?;
-    assert_eq!(rt; before, Some(1));
-    assert!(rt; map.keys().all(|key| matches!(key, CowStr::Borrowed(_))));
+    let kept = map.keys().all(|key| matches!(key, CowStr::Borrowed(_)));
+    assert_eq!(rt; (before, kept), (Some(1), true));
     Ok(())
 }
 
-/// A text of one character. The hashes of 40 such texts in turn differ, also modulo 64.
-fn character(alloc: Global, number: u8) -> Result<String, Fail> {
-    let mut text = String::new(alloc);
-    text.push(char::from(b'0'.wrapping_add(number)))?;
-    Ok(text)
-}
+/// Texts of one character. Their hashes differ, also modulo 64.
+const CHARACTERS: [&str; 40] = [
+    "0", "1", "2", "3", "4", "5", "6", "7", "8", "9", ":", ";", "<", "=", ">", "?", "@", "A", "B",
+    "C", "D", "E", "F", "G", "H", "I", "J", "K", "L", "M", "N", "O", "P", "Q", "R", "S", "T", "U",
+    "V", "W",
+];
 
 #[test]
 fn removes_from_the_middle_of_40(rt: HostRuntime) -> Result<(), Fail> {
     let alloc = rt.alloc();
     let mut map = HashMap::with_capacity_and_hasher(alloc, 0, ObjectHasher::default())?;
-    for number in 0..40 {
-        map.insert(character(alloc, number)?, number)?;
+    for (number, key) in CHARACTERS.into_iter().enumerate() {
+        inserts(alloc, &mut map, key, number as u64)?;
     }
-    assert_eq!(rt; map.remove("D"), Some(20));
-    assert_eq!(rt; map.len(), 39);
-    for number in 0..40 {
-        let key = character(alloc, number)?;
-        let wanted = if number == 20 { None } else { Some(number) };
-        assert_eq!(rt; map.get(key.as_str()).copied(), wanted, "{key}");
+    assert_eq!(rt; removes(&mut map, "D"), (Some(20), 39, false));
+    for (number, key) in CHARACTERS.into_iter().enumerate() {
+        let wanted = if number == 20 {
+            None
+        } else {
+            Some(number as u64)
+        };
+        assert_eq!(rt; map.get(key).copied(), wanted, "{key}");
     }
     Ok(())
 }
 
-#[test]
-fn bears_a_constant_hasher(rt: HostRuntime) -> Result<(), Fail> {
-    let alloc = rt.alloc();
-    let mut map = numbered(alloc, 40, Constant)?;
-    let last = String::from_str(alloc, "k40")?;
-    assert_eq!(rt; map.insert_hashed(7, last, 40)?, None);
-    assert_eq!(rt; map.remove("k00"), Some(0));
+/// Changes two values in place, by a known hash and by the key.
+fn changes_two(map: &mut HashMap<String, u64, Constant>) {
     if let Some(value) = map.get_hashed_mut(7, "k39") {
         *value = 390;
     }
     if let Some(value) = map.get_mut("k38") {
         *value = 380;
     }
-    let table = [
-        ("k00", None),
-        ("k01", Some(1)),
-        ("k38", Some(380)),
-        ("k39", Some(390)),
-        ("k40", Some(40)),
+}
+
+#[test]
+fn bears_a_constant_hasher(rt: HostRuntime) -> Result<(), Fail> {
+    let mut map = numbered(rt.alloc(), 40, Constant)?;
+    let last = String::from_str(rt.alloc(), "k40")?;
+    let changed = [map.insert_hashed(7, last, 40)?, map.remove("k00")];
+    changes_two(&mut map);
+    let found = [
+        map.get_hashed(7, "k00").copied(),
+        map.get_hashed(7, "k01").copied(),
+        map.get_hashed(7, "k38").copied(),
+        map.get_hashed(7, "k39").copied(),
+        map.get_hashed(7, "k40").copied(),
     ];
-    for (key, wanted) in table {
-        assert_eq!(rt; map.get_hashed(7, key).copied(), wanted, "{key}");
-    }
+    let wanted = [None, Some(1), Some(380), Some(390), Some(40)];
+    assert_eq!(rt; (changed, found), ([None, Some(0)], wanted));
     Ok(())
 }
 

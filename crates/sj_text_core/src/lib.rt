@@ -31,6 +31,3 @@ pub use typed_value::TypedValue;
 pub use value_as_scalar::ValueAsScalar;
 pub use value_type::{ExtendedValueType, TryTypeError, ValueType};
 pub use writable::Writable;
-
-#[cfg(test)]
-mod tests;

@@ -36,48 +36,75 @@ const BUCKETS: [(u64, Option<usize>); 6] = [
     (129, Some(256)),
 ];
 
+/// The buckets of a map with so many members.
+fn buckets<S: KeyHasher + Drop>(
+    alloc: Global,
+    members: u64,
+    hasher: S,
+) -> Result<Option<usize>, Fail> {
+    Ok(numbered(alloc, members, hasher)?.buckets())
+}
+
+/// The same, where each was inserted by its known hash.
+fn buckets_of_inserted(alloc: Global, members: u64) -> Result<Option<usize>, Fail> {
+    let mut map = HashMap::with_capacity_and_hasher(alloc, 0, Constant)?;
+    for number in 0..members {
+        let key = format!(in alloc; "k{number:02}")?;
+        if map.insert_hashed(7, key, number)?.is_some() {
+            return Err("a key was there".into());
+        }
+    }
+    Ok(map.buckets())
+}
+
+/// The same, where each was made by its known hash.
+fn buckets_of_made(alloc: Global, members: u64) -> Result<Option<usize>, Fail> {
+    let mut map = HashMap::with_capacity_and_hasher(alloc, 0, Constant)?;
+    for number in 0..members {
+        let key = format!(in alloc; "k{number:02}")?;
+        map.get_or_insert_hashed_with(7, key, || number)?;
+    }
+    Ok(map.buckets())
+}
+
 #[test]
 fn counts_buckets(rt: HostRuntime) -> Result<(), Fail> {
     let alloc = rt.alloc();
-    for (members, wanted) in BUCKETS {
-        let map = numbered(alloc, members, ObjectHasher::default())?;
-        assert_eq!(rt; map.buckets(), wanted, "{members}");
-        let map = numbered(alloc, members, Constant)?;
-        assert_eq!(rt; map.buckets(), wanted, "{members}, all in one");
+    for &(members, wanted) in &BUCKETS {
+        let told = [
+            buckets(alloc, members, ObjectHasher::default())?,
+            buckets(alloc, members, Constant)?,
+            buckets_of_inserted(alloc, members)?,
+            buckets_of_made(alloc, members)?,
+        ];
+        assert!(rt; told == [wanted; 4], "{members}");
     }
     Ok(())
 }
 
-#[test]
-fn counts_buckets_by_known_hashes(rt: HostRuntime) -> Result<(), Fail> {
-    let alloc = rt.alloc();
-    for (members, wanted) in BUCKETS {
-        let mut inserted = HashMap::with_capacity_and_hasher(alloc, 0, Constant)?;
-        let mut made = HashMap::with_capacity_and_hasher(alloc, 0, Constant)?;
-        for number in 0..members {
-            let key = format!(in alloc; "k{number:02}")?;
-            made.get_or_insert_hashed_with(7, key.clone()?, || number)?;
-            assert_eq!(rt; inserted.insert_hashed(7, key, number)?, None);
+/// Takes 64 members out; whether each was there, and the buckets stayed.
+fn keeps_128_buckets(
+    alloc: Global,
+    map: &mut HashMap<String, u64, ObjectHasher>,
+) -> Result<bool, Fail> {
+    for number in 0..64 {
+        let key = format!(in alloc; "k{number:02}")?;
+        if map.remove(key.as_str()) != Some(number) || map.buckets() != Some(128) {
+            return Ok(false);
         }
-        assert_eq!(rt; inserted.buckets(), wanted, "{members} inserted");
-        assert_eq!(rt; made.buckets(), wanted, "{members} made");
     }
-    Ok(())
+    Ok(true)
 }
 
 #[test]
 fn keeps_its_buckets(rt: HostRuntime) -> Result<(), Fail> {
     let alloc = rt.alloc();
     let mut map = numbered(alloc, 65, ObjectHasher::default())?;
-    for number in 0..64 {
-        let key = format!(in alloc; "k{number:02}")?;
-        assert_eq!(rt; map.remove(key.as_str()), Some(number));
-        assert_eq!(rt; map.buckets(), Some(128));
-    }
-    assert_eq!(rt; map.len(), 1);
-    assert_eq!(rt; map.get("k64").copied(), Some(64));
-    assert_eq!(rt; map.insert(String::from_str(alloc, "k64")?, 7)?, Some(64));
-    assert_eq!(rt; map.buckets(), Some(128));
+    assert!(rt; keeps_128_buckets(alloc, &mut map)?);
+    let left = (map.len(), map.get("k64").copied());
+    let before = map.insert(String::from_str(alloc, "k64")?, 7)?;
+    let told = (left, before, map.buckets());
+    assert_eq!(rt; told, ((1, Some(64)), Some(64), Some(128)));
     Ok(())
 }
 
@@ -85,11 +112,14 @@ fn keeps_its_buckets(rt: HostRuntime) -> Result<(), Fail> {
 fn hashes_by_members_and_not_by_capacity(rt: HostRuntime) -> Result<(), Fail> {
     let alloc = rt.alloc();
     let mut map = HashMap::with_capacity_and_hasher(alloc, 128, ObjectHasher::default())?;
+    let mut hashed_before = None;
     for number in 0..33 {
-        assert_eq!(rt; map.buckets(), None, "{number}");
+        if map.buckets().is_some() {
+            hashed_before = Some(number);
+        }
         map.insert(format!(in alloc; "k{number:02}")?, number)?;
     }
-    assert_eq!(rt; map.buckets(), Some(64));
+    assert_eq!(rt; (hashed_before, map.buckets()), (None, Some(64)));
     Ok(())
 }
 
@@ -107,35 +137,60 @@ fn colliding(alloc: Global, number: usize, weights: &[usize]) -> Result<String, 
     Ok(text)
 }
 
+/// The hash of such a text.
+fn hash_of(alloc: Global, number: usize, weights: &[usize]) -> Result<u64, Fail> {
+    let key = colliding(alloc, number, weights)?;
+    Ok(ObjectHasher::default().hash_text(key.as_str()))
+}
+
 #[test]
-fn keeps_members_whose_keys_collide(rt: HostRuntime) -> Result<(), Fail> {
-    let alloc = rt.alloc();
-    let mut map = HashMap::with_capacity_and_hasher(alloc, 0, ObjectHasher::default())?;
+fn hashes_blocks(rt: HostRuntime) -> Result<(), Fail> {
     for number in 0..33 {
-        let key = colliding(alloc, number, &SIX)?;
-        let hash = ObjectHasher::default().hash_text(key.as_str());
-        assert_eq!(rt; hash, 1732858124334809472);
-        assert_eq!(rt; map.insert(key, number)?, None);
+        assert!(rt;
+            hash_of(rt.alloc(), number, &SIX)? == 1732858124334809472,
+            "{number}"
+        );
     }
-    assert_eq!(rt; (map.len(), map.buckets()), (33, Some(64)));
-    assert_eq!(rt; map.remove("AaAaAaAaAaAa"), Some(0));
-    assert_eq!(rt; (map.len(), map.buckets()), (32, Some(64)));
-    let first = map.keys().next();
-    assert!(rt; matches!(first, Some(key) if key.as_str() == "AaAaAaAaAaBB"));
-    for number in 1..33 {
-        let key = colliding(alloc, number, &SIX)?;
-        assert_eq!(rt; map.get(key.as_str()).copied(), Some(number), "{key}");
+    for &number in &[0, 64, 127] {
+        assert!(rt;
+            hash_of(rt.alloc(), number, &SEVEN)? == 5069690851892259264,
+            "{number}"
+        );
     }
     Ok(())
 }
 
+/// The map of 33 members whose keys collide, each with its number.
+fn all_colliding(alloc: Global) -> Result<HashMap<String, usize, ObjectHasher>, Fail> {
+    let mut map = HashMap::with_capacity_and_hasher(alloc, 0, ObjectHasher::default())?;
+    for number in 0..33 {
+        if map
+            .insert(colliding(alloc, number, &SIX)?, number)?
+            .is_some()
+        {
+            return Err("a key was there".into());
+        }
+    }
+    Ok(map)
+}
+
+/// Whether the first key is this.
+fn begins_with(map: &HashMap<String, usize, ObjectHasher>, wanted: &str) -> bool {
+    matches!(map.keys().next(), Some(key) if key.as_str() == wanted)
+}
+
 #[test]
-fn hashes_seven_blocks(rt: HostRuntime) -> Result<(), Fail> {
-    let alloc = rt.alloc();
-    for number in [0, 64, 127] {
-        let key = colliding(alloc, number, &SEVEN)?;
-        let hash = ObjectHasher::default().hash_text(key.as_str());
-        assert_eq!(rt; hash, 5069690851892259264, "{key}");
+fn keeps_members_whose_keys_collide(rt: HostRuntime) -> Result<(), Fail> {
+    let mut map = all_colliding(rt.alloc())?;
+    let before = (map.len(), map.buckets());
+    let removed = map.remove("AaAaAaAaAaAa");
+    let after = (map.len(), map.buckets());
+    let told = (before, removed, after);
+    assert_eq!(rt; told, ((33, Some(64)), Some(0), (32, Some(64))));
+    assert!(rt; begins_with(&map, "AaAaAaAaAaBB"));
+    for number in 1..33 {
+        let key = colliding(rt.alloc(), number, &SIX)?;
+        assert_eq!(rt; map.get(key.as_str()).copied(), Some(number), "{key}");
     }
     Ok(())
 }
@@ -203,46 +258,50 @@ fn empties<S: KeyHasher + Drop>(
     Ok(map.is_empty())
 }
 
+/// Whether such maps under three hashers stay like plain lists.
+fn all_empty(alloc: Global, members: usize, way: u8, collides: bool) -> Result<[bool; 3], Fail> {
+    let fixed = ObjectHasher::default();
+    Ok([
+        empties(alloc, members, way, collides, fixed)?,
+        empties(alloc, members, way, collides, Constant)?,
+        empties(alloc, members, way, collides, Length)?,
+    ])
+}
+
 #[test]
 fn closes_up_like_a_plain_list(rt: HostRuntime) -> Result<(), Fail> {
-    let alloc = rt.alloc();
-    for members in [31, 32, 33, 64, 65] {
-        for (way, collides) in [
-            (0, true),
-            (1, true),
-            (2, true),
-            (0, false),
-            (1, false),
-            (2, false),
-        ] {
-            let here = format!(in alloc; "{members} {way} {collides}")?;
-            let fixed = ObjectHasher::default();
-            assert!(rt; empties(alloc, members, way, collides, fixed)?, "{here}");
-            assert!(rt; empties(alloc, members, way, collides, Constant)?, "{here}");
-            assert!(rt; empties(alloc, members, way, collides, Length)?, "{here}");
+    for &members in &[31, 32, 33, 64, 65] {
+        for way in 0..3 {
+            let told = [
+                all_empty(rt.alloc(), members, way, true)?,
+                all_empty(rt.alloc(), members, way, false)?,
+            ];
+            assert!(rt; told == [[true; 3]; 2], "{members} {way}");
         }
     }
     Ok(())
 }
 
+/// What a new key's value is after it was made, and after it was asked for with another.
+fn makes(alloc: Global, map: &mut HashMap<String, u64, Constant>) -> Result<[u64; 2], Fail> {
+    let key = String::from_str(alloc, "new")?;
+    let value = map.get_or_insert_hashed_with(7, key, || 500)?;
+    let first = *value;
+    *value = 501;
+    let key = String::from_str(alloc, "new")?;
+    let second = *map.get_or_insert_hashed_with(7, key, || 502)?;
+    Ok([first, second])
+}
+
 #[test]
 fn makes_an_absent_value_once(rt: HostRuntime) -> Result<(), Fail> {
-    let alloc = rt.alloc();
     for members in [0, 31, 32, 64, 100] {
-        let mut map = numbered(alloc, members, Constant)?;
-        let key = String::from_str(alloc, "new")?;
-        let value = map.get_or_insert_hashed_with(7, key, || 500)?;
-        assert_eq!(rt; *value, 500);
-        *value = 501;
-        let key = String::from_str(alloc, "new")?;
-        assert_eq!(rt;
-            *map.get_or_insert_hashed_with(7, key, || 502)?,
-            501,
-            "{members}"
-        );
-        assert_eq!(rt; map.len() as u64, members + 1);
-        assert_eq!(rt; map.buckets().is_some(), members >= 32, "{members}");
-        assert_eq!(rt; map.get("new").copied(), Some(501));
+        let mut map = numbered(rt.alloc(), members, Constant)?;
+        let made = makes(rt.alloc(), &mut map)?;
+        let found = map.get("new").copied();
+        let told = (made, found, map.len() as u64, map.buckets().is_some());
+        let wanted = ([500, 501], Some(501), members + 1, members >= 32);
+        assert_eq!(rt; told, wanted);
     }
     Ok(())
 }
@@ -282,42 +341,47 @@ fn changes(map: &mut HashMap<String, u64, Constant>, key: &str, value: u64) -> O
 
 #[test]
 fn appends_behind_all_members(rt: HostRuntime) -> Result<(), Fail> {
-    let alloc = rt.alloc();
     for members in [0, 31, 32, 64] {
-        let mut map = numbered(alloc, members, Constant)?;
-        let first = String::from_str(alloc, "first")?;
-        let second = String::from_str(alloc, "second")?;
-        assert!(rt; appends(&mut map, first, 500)?, "{members}");
-        assert!(rt; appends_made(&mut map, second, 600)?, "{members}");
+        let mut map = numbered(rt.alloc(), members, Constant)?;
+        let first = appends(&mut map, String::from_str(rt.alloc(), "first")?, 500)?;
+        let second = appends_made(&mut map, String::from_str(rt.alloc(), "second")?, 600)?;
         let position = changes(&mut map, "first", 501);
-        assert_eq!(rt; position, usize::try_from(members).ok(), "{members}");
-        assert_eq!(rt; map.get("first").copied(), Some(501), "{members}");
-        assert_eq!(rt; map.get("second").copied(), Some(600), "{members}");
-        assert_eq!(rt; map.buckets().is_some(), members >= 31, "{members}");
+        let found = [map.get("first").copied(), map.get("second").copied()];
+        let told = ([first, second], position, found, map.buckets().is_some());
+        let place = usize::try_from(members).ok();
+        let wanted = ([true; 2], place, [Some(501), Some(600)], members >= 31);
+        assert_eq!(rt; told, wanted);
     }
     Ok(())
 }
 
+/// So many times the letter `a`, with a `b` at the place.
+fn letters(alloc: Global, length: usize, place: usize) -> Result<String, Fail> {
+    let mut text = String::new(alloc);
+    for i in 0..length {
+        text.push(if i == place { 'b' } else { 'a' })?;
+    }
+    Ok(text)
+}
+
+/// Whether a key of so many letters is found, and none like it with another letter or one more.
+fn tells_apart(alloc: Global, length: usize) -> Result<bool, Fail> {
+    let key = letters(alloc, length, length)?;
+    let mut map = HashMap::with_capacity_and_hasher(alloc, 0, Constant)?;
+    map.insert(key.clone()?, 0)?;
+    for place in 0..length {
+        if map.contains_key(letters(alloc, length, place)?.as_str()) {
+            return Ok(false);
+        }
+    }
+    let longer = format!(in alloc; "{key}a")?;
+    Ok(map.get(key.as_str()).copied() == Some(0) && !map.contains_key(longer.as_str()))
+}
+
 #[test]
 fn tells_keys_of_all_lengths_apart(rt: HostRuntime) -> Result<(), Fail> {
-    let alloc = rt.alloc();
     for length in 1..40 {
-        let mut key = String::new(alloc);
-        for _ in 0..length {
-            key.push('a')?;
-        }
-        let mut map = HashMap::with_capacity_and_hasher(alloc, 0, Constant)?;
-        map.insert(key.clone()?, 0)?;
-        assert_eq!(rt; map.get(key.as_str()).copied(), Some(0));
-        for place in 0..length {
-            let mut other = String::new(alloc);
-            for i in 0..length {
-                other.push(if i == place { 'b' } else { 'a' })?;
-            }
-            assert!(rt; !map.contains_key(other.as_str()), "{other}");
-        }
-        key.push('a')?;
-        assert!(rt; !map.contains_key(key.as_str()), "{key}");
+        assert!(rt; tells_apart(rt.alloc(), length)?, "{length}");
     }
     Ok(())
 }

@@ -32,9 +32,15 @@ fn nested(
     Ok(text)
 }
 
+/// Whether the text is read as these nodes.
+fn reads_as(alloc: Global, text: &str, nodes: &str) -> Result<bool, AllocError> {
+    let wanted = format!(in alloc; "Tape {{ nodes: [{nodes}] }}")?;
+    Ok(answer(alloc, text.as_bytes())?.as_str() == wanted.as_str())
+}
+
 #[test]
-fn nodes_and_counts(rt: HostRuntime) -> Result<(), AllocError> {
-    for (text, nodes) in [
+fn nodes_and_counts(rt: HostRuntime) {
+    for &(text, nodes) in &[
         (
             "{\"x\":{\"k\":1},\"k\":2}",
             "Object { len: 2, count: 6 }, String(\"x\"), Object { len: 1, count: 2 }, String(\"k\"), Static(U64(1)), String(\"k\"), Static(U64(2))",
@@ -50,19 +56,18 @@ fn nodes_and_counts(rt: HostRuntime) -> Result<(), AllocError> {
         ),
         ("\t\r\n 0\n", "Static(U64(0))"),
     ] {
-        let wanted = format!(in rt.alloc(); "Tape {{ nodes: [{nodes}] }}")?;
-        assert_eq!(rt;
-            answer(rt.alloc(), text.as_bytes())?.as_str(),
-            wanted.as_str(),
-            "{text}"
-        );
+        assert!(rt; reads_as(rt.alloc(), text, nodes) == Ok(true), "{text}");
     }
-    Ok(())
+}
+
+/// Whether the text is read as this number.
+fn number_is(alloc: Global, text: &str, node: &str) -> Result<bool, AllocError> {
+    reads_as(alloc, text, format!(in alloc; "Static({node})")?.as_str())
 }
 
 #[test]
-fn numbers(rt: HostRuntime) -> Result<(), AllocError> {
-    for (text, node) in [
+fn numbers(rt: HostRuntime) {
+    for &(text, node) in &[
         ("18446744073709551615", "U64(18446744073709551615)"),
         ("18446744073709551616", "U128(18446744073709551616)"),
         ("10000000000000000000", "U64(10000000000000000000)"),
@@ -92,24 +97,22 @@ fn numbers(rt: HostRuntime) -> Result<(), AllocError> {
         ("-0", "I64(0)"),
         ("7", "U64(7)"),
     ] {
-        let wanted = format!(in rt.alloc(); "Tape {{ nodes: [Static({node})] }}")?;
-        assert_eq!(rt;
-            answer(rt.alloc(), text.as_bytes())?.as_str(),
-            wanted.as_str()
-        );
+        assert!(rt; number_is(rt.alloc(), text, node) == Ok(true), "{text}");
     }
-    Ok(())
 }
 
 /// The text of a document that is one string.
 fn text_is(alloc: Global, spelled: &str, wanted: &str) -> Result<bool, AllocError> {
-    let shown = format!(in alloc; "Tape {{ nodes: [String({wanted:?})] }}")?;
-    Ok(answer(alloc, spelled.as_bytes())?.as_str() == shown.as_str())
+    reads_as(
+        alloc,
+        spelled,
+        format!(in alloc; "String({wanted:?})")?.as_str(),
+    )
 }
 
 #[test]
-fn texts(rt: HostRuntime) -> Result<(), AllocError> {
-    for (spelled, wanted) in [
+fn texts(rt: HostRuntime) {
+    for &(spelled, wanted) in &[
         ("\"\\ud83d\\ude00\"", "\u{1f600}"),
         ("\"a\\/b\\u0041\"", "a/bA"),
         ("\"q\\\"k\"", "q\"k"),
@@ -125,17 +128,29 @@ fn texts(rt: HostRuntime) -> Result<(), AllocError> {
             "\n0123456789abcdef0123456789abcdef\u{e9}/0123456789abcdefx\t",
         ),
     ] {
-        assert!(rt; text_is(rt.alloc(), spelled, wanted)?, "{spelled}");
+        assert!(rt;
+            text_is(rt.alloc(), spelled, wanted) == Ok(true),
+            "{spelled}"
+        );
     }
+}
+
+#[test]
+fn a_long_text(rt: HostRuntime) -> Result<(), AllocError> {
     let long = repeated(rt.alloc(), "plain text ", 40)?;
     let spelled = format!(in rt.alloc(); "\"{long}\"")?;
     assert!(rt; text_is(rt.alloc(), spelled.as_str(), long.as_str())?);
     Ok(())
 }
 
+/// Whether the answer is this.
+fn answers(alloc: Global, text: &[u8], wanted: &str) -> Result<bool, AllocError> {
+    Ok(answer(alloc, text)?.as_str() == wanted)
+}
+
 #[test]
-fn refusals(rt: HostRuntime) -> Result<(), AllocError> {
-    for (text, kind) in [
+fn refusals(rt: HostRuntime) {
+    for &(text, kind) in &[
         ("", "Syntax"),
         ("  ", "Syntax"),
         ("01", "Syntax"),
@@ -172,66 +187,65 @@ fn refusals(rt: HostRuntime) -> Result<(), AllocError> {
         ("\u{feff}1", "Syntax"),
         ("[\"a\\n\",\"\\x\"]", "Syntax"),
     ] {
-        assert_eq!(rt;
-            answer(rt.alloc(), text.as_bytes())?.as_str(),
-            kind,
+        assert!(rt;
+            answers(rt.alloc(), text.as_bytes(), kind) == Ok(true),
             "{text}"
         );
     }
-    Ok(())
 }
 
 #[test]
-fn bytes_that_are_no_text(rt: HostRuntime) -> Result<(), AllocError> {
-    assert_eq!(rt;
-        answer(rt.alloc(), b"{\"\xff\":1}")?.as_str(),
-        "InvalidUtf8"
-    );
-    assert_eq!(rt; answer(rt.alloc(), b"\"\xc3")?.as_str(), "InvalidUtf8");
-    assert_eq!(rt; answer(rt.alloc(), b"[1,\xff")?.as_str(), "InvalidUtf8");
-    assert_eq!(rt; answer(rt.alloc(), b"\"\xff\"")?.as_str(), "InvalidUtf8");
-    assert_eq!(rt; answer(rt.alloc(), b"01\xff")?.as_str(), "InvalidUtf8");
-    Ok(())
+fn bytes_that_are_no_text(rt: HostRuntime) {
+    let texts: [&[u8]; 5] = [
+        b"{\"\xff\":1}",
+        b"\"\xc3",
+        b"[1,\xff",
+        b"\"\xff\"",
+        b"01\xff",
+    ];
+    for &text in &texts {
+        assert!(rt;
+            answers(rt.alloc(), text, "InvalidUtf8") == Ok(true),
+            "{text:?}"
+        );
+    }
 }
 
 #[test]
-fn beginnings(rt: HostRuntime) -> Result<(), AllocError> {
+fn beginnings(rt: HostRuntime) {
     let whole = "{\"a\":[1,\"\\u00e9\",true]}".as_bytes();
     for len in 0..whole.len() {
-        assert_eq!(rt;
-            answer(rt.alloc(), &whole[..len])?.as_str(),
-            "Syntax",
+        assert!(rt;
+            answers(rt.alloc(), &whole[..len], "Syntax") == Ok(true),
             "{len}"
         );
     }
-    Ok(())
+}
+
+/// Texts of two parts around a middle, how often the parts come, and what the answer begins with.
+const DEPTHS: [(&str, &str, &str, usize, &str); 6] = [
+    ("[", "", "]", DEPTH_LIMIT, "Tape"),
+    ("[", "", "]", DEPTH_LIMIT + 1, "TooDeep"),
+    ("{\"a\":", "1", "}", DEPTH_LIMIT, "Tape"),
+    ("{\"a\":", "1", "}", DEPTH_LIMIT + 1, "TooDeep"),
+    ("[", "", "", 1024, "Syntax"),
+    ("[", "", "", 1025, "TooDeep"),
+];
+
+/// Whether the answer to a nested text begins so.
+fn nested_answers(
+    alloc: Global,
+    (open, middle, close, count, wanted): (&str, &str, &str, usize, &str),
+) -> Result<bool, AllocError> {
+    let text = nested(alloc, open, middle, close, count)?;
+    Ok(answer(alloc, text.as_bytes())?.as_str().starts_with(wanted))
 }
 
 #[test]
-fn depths(rt: HostRuntime) -> Result<(), AllocError> {
-    let alloc = rt.alloc();
-    for (open, middle, close, past) in [
-        ("[", "", "]", "TooDeep"),
-        ("{\"a\":", "1", "}", "TooDeep"),
-    ] {
-        let deepest = nested(alloc, open, middle, close, DEPTH_LIMIT)?;
-        assert!(rt;
-            answer(alloc, deepest.as_bytes())?
-                .as_str()
-                .starts_with("Tape")
-        );
-        let deeper = nested(alloc, open, middle, close, DEPTH_LIMIT + 1)?;
-        assert_eq!(rt; answer(alloc, deeper.as_bytes())?.as_str(), past);
+fn depths(rt: HostRuntime) {
+    for (i, &row) in DEPTHS.iter().enumerate() {
+        assert!(rt; nested_answers(rt.alloc(), row) == Ok(true), "{i}");
     }
-    assert_eq!(rt;
-        answer(alloc, repeated(alloc, "[", 1024)?.as_bytes())?.as_str(),
-        "Syntax"
-    );
-    assert_eq!(rt;
-        answer(alloc, repeated(alloc, "[", 1025)?.as_bytes())?.as_str(),
-        "TooDeep"
-    );
-    Ok(())
 }
 
 /// What the answer of a reading with the buffers prints.
@@ -247,42 +261,76 @@ fn answer_with_buffers(
     }
 }
 
+/// Texts, and what their readings answer.
+const ANSWERS: [(&str, &str); 8] = [
+    ("[1,[2,\"\\u0041\\n\"]]", "[1,[2,\"A\\n\"]]"),
+    ("[]", "[]"),
+    ("{\"k\\\\\":\"\\/\"}", "{\"k\\\\\":\"/\"}"),
+    ("[1,", "Syntax"),
+    ("[\"\\n\",", "Syntax"),
+    ("\"\\ud83d\"", "LoneSurrogate"),
+    ("{\"a\\t\":1.5}", "Float"),
+    ("x", "Syntax"),
+];
+
+/// Whether the answer behind another text is the wanted one.
+fn is_answered(
+    alloc: Global,
+    before: &str,
+    (text, wanted): (&str, &str),
+    buffers: &mut Buffers,
+) -> Result<bool, AllocError> {
+    let _ = answer_with_buffers(alloc, before, buffers)?;
+    Ok(answer_with_buffers(alloc, text, buffers)?.as_str() == wanted)
+}
+
+/// Which answers are the wanted ones, behind the text alone and behind all before.
+fn answers_behind(
+    alloc: Global,
+    before: &str,
+    kept: &mut Buffers,
+) -> Result<[[bool; 8]; 2], AllocError> {
+    let mut alone = [false; 8];
+    let mut behind_all = [false; 8];
+    for (i, row) in ANSWERS.into_iter().enumerate() {
+        let mut buffers = Buffers::new(alloc, 4)?;
+        if let Some(told) = alone.get_mut(i) {
+            *told = is_answered(alloc, before, row, &mut buffers)?;
+        }
+        if let Some(told) = behind_all.get_mut(i) {
+            *told = is_answered(alloc, before, row, kept)?;
+        }
+    }
+    Ok([alone, behind_all])
+}
+
+/// Texts that were read before: a beginning, a part and how often it comes, and an end.
+const BEFORE: [(&str, &str, usize, &str); 7] = [
+    ("\"", "plain text ", 100, "\""),
+    ("[", "\"\\u00e9\\n\",", 100, "null]"),
+    ("[[", "\"\\u00e9\\n\",", 100, "null],\"\\ud83d\"]"),
+    ("[[[[\"\\n\",[", "", 0, ""),
+    ("\"\\n\"", "", 0, ""),
+    ("{\"a\\t\":1.5}", "", 0, ""),
+    ("", "", 0, ""),
+];
+
+/// Whether all answers behind such a text are the wanted ones.
+fn all_answer(
+    alloc: Global,
+    (open, part, count, close): (&str, &str, usize, &str),
+    kept: &mut Buffers,
+) -> Result<bool, AllocError> {
+    let middle = repeated(alloc, part, count)?;
+    let before = format!(in alloc; "{open}{middle}{close}")?;
+    Ok(answers_behind(alloc, before.as_str(), kept)? == [[true; 8]; 2])
+}
+
 #[test]
 fn answers_do_not_depend_on_buffers(rt: HostRuntime) -> Result<(), AllocError> {
-    let alloc = rt.alloc();
-    let long = repeated(alloc, "plain text ", 100)?;
-    let long = format!(in alloc; "\"{long}\"")?;
-    let escapes = repeated(alloc, "\"\\u00e9\\n\",", 100)?;
-    let escapes = format!(in alloc; "[{escapes}null]")?;
-    let refused_late = format!(in alloc; "[{escapes},\"\\ud83d\"]")?;
-    let mut kept = Buffers::new(alloc, 4)?;
-    for before in [
-        long.as_str(),
-        escapes.as_str(),
-        refused_late.as_str(),
-        "[[[[\"\\n\",[",
-        "\"\\n\"",
-        "{\"a\\t\":1.5}",
-        "",
-    ] {
-        for (text, wanted) in [
-            ("[1,[2,\"\\u0041\\n\"]]", "[1,[2,\"A\\n\"]]"),
-            ("[]", "[]"),
-            ("{\"k\\\\\":\"\\/\"}", "{\"k\\\\\":\"/\"}"),
-            ("[1,", "Syntax"),
-            ("[\"\\n\",", "Syntax"),
-            ("\"\\ud83d\"", "LoneSurrogate"),
-            ("{\"a\\t\":1.5}", "Float"),
-            ("x", "Syntax"),
-        ] {
-            let mut buffers = Buffers::new(alloc, 4)?;
-            let _ = answer_with_buffers(alloc, before, &mut buffers)?;
-            let first = answer_with_buffers(alloc, text, &mut buffers)?;
-            assert_eq!(rt; first.as_str(), wanted, "{text} behind {before}");
-            let _ = answer_with_buffers(alloc, before, &mut kept)?;
-            let again = answer_with_buffers(alloc, text, &mut kept)?;
-            assert_eq!(rt; again.as_str(), wanted, "{text} behind all before {before}");
-        }
+    let mut kept = Buffers::new(rt.alloc(), 4)?;
+    for (i, &row) in BEFORE.iter().enumerate() {
+        assert!(rt; all_answer(rt.alloc(), row, &mut kept)?, "{i}");
     }
     Ok(())
 }

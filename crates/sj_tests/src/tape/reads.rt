@@ -1,8 +1,11 @@
 //! Reads of the parts of tapes that were read from texts.
 
+use super::{has_items, has_members, lists_members, number_of};
 use sj_tape::{
-    ExtendedValueType, Repeats, TryTypeError, TypedValue, Value, ValueAsScalar, ValueType, to_tape,
+    Array, ErrorKind, ExtendedValueType, Object, Repeats, TryTypeError, Value, ValueAsScalar,
+    ValueType, to_tape,
 };
+use std::alloc::Global;
 use std::test::Fail;
 
 /// That a kind was expected where another is.
@@ -14,165 +17,230 @@ fn narrow(expected: ExtendedValueType) -> ValueType {
     ValueType::Extended(expected)
 }
 
+/// Whether the parts of {"the_answer":42} are found.
+fn finds_the_answer(whole: Value<'_, '_>) -> [bool; 3] {
+    [
+        number_of(whole.get("the_answer")) == Some(42),
+        matches!(whole.try_get("does_not_exist"), Ok(None)),
+        whole.try_as_object().is_ok(),
+    ]
+}
+
+/// Whether faults at an object name both kinds.
+fn names_the_object(whole: Value<'_, '_>) -> [bool; 2] {
+    let named = Some(TryTypeError {
+        expected: ValueType::Array,
+        got: ValueType::Object,
+    });
+    [
+        whole.try_get_idx(0).err() == named,
+        whole.try_as_array().err() == named,
+    ]
+}
+
+/// Whether faults at a number and at null name both kinds.
+fn names_the_number(number: Value<'_, '_>) -> [bool; 4] {
+    let named = Some(TryTypeError {
+        expected: ValueType::Object,
+        got: ValueType::U64,
+    });
+    let null = Some(TryTypeError {
+        expected: ValueType::Array,
+        got: ValueType::Null,
+    });
+    [
+        number.as_u64() == Some(42),
+        number.try_get("k").err() == named,
+        number.try_as_object().err() == named,
+        Value::null().try_get_idx(0).err() == null,
+    ]
+}
+
 #[test]
 fn faults_name_both_kinds(rt: HostRuntime) -> Result<(), Fail> {
     let mut bytes = b"{\"the_answer\": 42}".to_vec(rt.alloc())?;
     let tape = to_tape(rt.alloc(), bytes.as_mut_slice())?;
     let whole = tape.as_value();
-    let found = whole.try_get("the_answer")?;
-    assert_eq!(rt; found.and_then(|v| v.as_u64()), Some(42));
-    assert!(rt; whole.try_get("does_not_exist")?.is_none());
-    assert!(rt; whole.try_as_object().is_ok());
-    let number = whole.get("the_answer").ok_or("a number")?;
-    for (answer, expected, got) in [
-        (
-            whole.try_get_idx(0).err(),
-            ValueType::Array,
-            ValueType::Object,
-        ),
-        (
-            whole.try_as_array().err(),
-            ValueType::Array,
-            ValueType::Object,
-        ),
-        (number.try_get("k").err(), ValueType::Object, ValueType::U64),
-        (
-            number.try_as_object().err(),
-            ValueType::Object,
-            ValueType::U64,
-        ),
-        (
-            Value::null().try_get_idx(0).err(),
-            ValueType::Array,
-            ValueType::Null,
-        ),
-    ] {
-        assert_eq!(rt; answer, Some(TryTypeError { expected, got }));
-    }
+    let number = whole.try_get("the_answer")?.ok_or("a number")?;
+    assert_eq!(rt; finds_the_answer(whole), [true; 3]);
+    assert_eq!(rt; names_the_object(whole), [true; 2]);
+    assert_eq!(rt; names_the_number(number), [true; 4]);
     Ok(())
+}
+
+/// A text with members of each kind.
+const MEMBERS: &str =
+    "{\"t\":true,\"n\":-5,\"m\":300,\"s\":\"text\",\"a\":[1,2],\"o\":{\"k\":1},\"m\":\"late\"}";
+
+/// Whether members are read by signed types.
+fn signed(v: Value<'_, '_>) -> [bool; 6] {
+    [
+        v.get_i8("n") == Some(-5),
+        v.get_i8("m") == None,
+        v.get_i16("m") == Some(300),
+        v.get_i32("n") == Some(-5),
+        v.get_i64("n") == Some(-5),
+        v.get_i128("m") == Some(300),
+    ]
+}
+
+/// Whether members are read by unsigned types.
+fn unsigned(v: Value<'_, '_>) -> [bool; 7] {
+    [
+        v.get_u8("m") == None,
+        v.get_u16("m") == Some(300),
+        v.get_u32("n") == None,
+        v.get_u64("m") == Some(300),
+        v.get_u128("m") == Some(300),
+        v.get_usize("m") == Some(300),
+        v.get_usize("absent") == None,
+    ]
+}
+
+/// Whether members are read by the other types.
+fn others(v: Value<'_, '_>) -> [bool; 7] {
+    [
+        v.get_bool("t") == Some(true),
+        v.get_bool("n") == None,
+        v.get_str("s") == Some("text"),
+        has_two_items(v.get_array("a")),
+        v.get_array("o").is_none(),
+        has_one_member(v.get_object("o")),
+        Value::null().get_object("o").is_none(),
+    ]
+}
+
+fn has_two_items(array: Option<Array<'_, '_>>) -> bool {
+    matches!(array, Some(array) if array.len() == 2)
+}
+
+fn has_one_member(object: Option<Object<'_, '_>>) -> bool {
+    matches!(object, Some(object) if object.len() == 1)
+}
+
+/// Whether the last `m` is read.
+fn lasts(last: Value<'_, '_>) -> [bool; 2] {
+    [last.get_u16("m") == None, last.get_str("m") == Some("late")]
 }
 
 #[test]
 fn members_by_type(rt: HostRuntime) -> Result<(), Fail> {
-    let mut bytes =
-        b"{\"t\":true,\"n\":-5,\"m\":300,\"s\":\"text\",\"a\":[1,2],\"o\":{\"k\":1},\"m\":\"late\"}".to_vec(
-            rt.alloc(),
-        )?;
+    let mut bytes = MEMBERS.as_bytes().to_vec(rt.alloc())?;
     let tape = to_tape(rt.alloc(), bytes.as_mut_slice())?;
     let v = tape.as_value();
-    assert_eq!(rt; v.get_bool("t"), Some(true));
-    assert_eq!(rt; v.get_bool("n"), None);
-    assert_eq!(rt; v.get_i8("n"), Some(-5));
-    assert_eq!(rt; v.get_i8("m"), None);
-    assert_eq!(rt; v.get_i16("m"), Some(300));
-    assert_eq!(rt; v.get_i32("n"), Some(-5));
-    assert_eq!(rt; v.get_i64("n"), Some(-5));
-    assert_eq!(rt; v.get_i128("m"), Some(300));
-    assert_eq!(rt; v.get_u8("m"), None);
-    assert_eq!(rt; v.get_u16("m"), Some(300));
-    assert_eq!(rt; v.get_u32("n"), None);
-    assert_eq!(rt; v.get_u64("m"), Some(300));
-    assert_eq!(rt; v.get_u128("m"), Some(300));
-    assert_eq!(rt; v.get_usize("m"), Some(300));
-    assert_eq!(rt; v.get_usize("absent"), None);
-    assert_eq!(rt; v.get_str("s"), Some("text"));
-    assert_eq!(rt; v.get_array("a").map(|a| a.len()), Some(2));
-    assert!(rt; v.get_array("o").is_none());
-    assert_eq!(rt; v.get_object("o").map(|o| o.len()), Some(1));
-    assert!(rt; Value::null().get_object("o").is_none());
-    let last = tape.as_value_repeats(Repeats::Last);
-    assert_eq!(rt; last.get_u16("m"), None);
-    assert_eq!(rt; last.get_str("m"), Some("late"));
+    let last = lasts(tape.as_value_repeats(Repeats::Last));
+    let told = (signed(v), unsigned(v), others(v), last);
+    assert_eq!(rt; told, ([true; 6], [true; 7], [true; 7], [true; 2]));
     Ok(())
+}
+
+/// Whether signed types read members or name both kinds.
+fn signed_or_fault(v: Value<'_, '_>) -> [bool; 6] {
+    let byte = narrow(ExtendedValueType::I8);
+    let short = narrow(ExtendedValueType::I16);
+    let word = narrow(ExtendedValueType::I32);
+    [
+        v.try_get_i8("n") == Ok(Some(-5)),
+        v.try_get_i8("m") == fault(byte, ValueType::U64),
+        v.try_get_i16("s") == fault(short, ValueType::String),
+        v.try_get_i32("t") == fault(word, ValueType::Bool),
+        v.try_get_i64("a") == fault(ValueType::I64, ValueType::Array),
+        v.try_get_i128("o") == fault(ValueType::I128, ValueType::Object),
+    ]
+}
+
+/// Whether unsigned types read members or name both kinds.
+fn unsigned_or_fault(v: Value<'_, '_>) -> [bool; 7] {
+    let byte = narrow(ExtendedValueType::U8);
+    let short = narrow(ExtendedValueType::U16);
+    let word = narrow(ExtendedValueType::U32);
+    let size = narrow(ExtendedValueType::Usize);
+    [
+        v.try_get_u8("m") == fault(byte, ValueType::U64),
+        v.try_get_u16("n") == fault(short, ValueType::I64),
+        v.try_get_u32("n") == fault(word, ValueType::I64),
+        v.try_get_u64("n") == fault(ValueType::U64, ValueType::I64),
+        v.try_get_u128("m") == Ok(Some(300)),
+        v.try_get_usize("n") == fault(size, ValueType::I64),
+        Value::null().try_get_u8("m") == fault(ValueType::Object, ValueType::Null),
+    ]
+}
+
+/// Whether truth values and texts are read or both kinds named.
+fn scalars_or_fault(v: Value<'_, '_>) -> [bool; 5] {
+    [
+        v.try_get_bool("t") == Ok(Some(true)),
+        v.try_get_bool("absent") == Ok(None),
+        v.try_get_bool("n") == fault(ValueType::Bool, ValueType::I64),
+        v.try_get_str("s") == Ok(Some("text")),
+        v.try_get_str("m") == fault(ValueType::String, ValueType::U64),
+    ]
+}
+
+/// Whether arrays and objects are read.
+fn parts_or_fault(v: Value<'_, '_>) -> [bool; 4] {
+    [
+        matches!(v.try_get_array("a"), Ok(Some(array)) if array.len() == 2),
+        v.try_get_array("o").is_err(),
+        matches!(v.try_get_object("o"), Ok(Some(object)) if object.len() == 1),
+        matches!(v.try_get_object("absent"), Ok(None)),
+    ]
 }
 
 #[test]
 fn members_by_type_with_faults(rt: HostRuntime) -> Result<(), Fail> {
-    let mut bytes =
-        b"{\"t\":true,\"n\":-5,\"m\":300,\"s\":\"text\",\"a\":[1,2],\"o\":{\"k\":1}}".to_vec(
-            rt.alloc(),
-        )?;
+    let mut bytes = MEMBERS.as_bytes().to_vec(rt.alloc())?;
     let tape = to_tape(rt.alloc(), bytes.as_mut_slice())?;
     let v = tape.as_value();
-    assert_eq!(rt; v.try_get_bool("t"), Ok(Some(true)));
-    assert_eq!(rt; v.try_get_bool("absent"), Ok(None));
-    assert_eq!(rt; v.try_get_bool("n"), fault(ValueType::Bool, ValueType::I64));
-    assert_eq!(rt; v.try_get_i8("n"), Ok(Some(-5)));
-    assert_eq!(rt;
-        v.try_get_i8("m"),
-        fault(narrow(ExtendedValueType::I8), ValueType::U64)
-    );
-    assert_eq!(rt;
-        v.try_get_i16("s"),
-        fault(narrow(ExtendedValueType::I16), ValueType::String)
-    );
-    assert_eq!(rt;
-        v.try_get_i32("t"),
-        fault(narrow(ExtendedValueType::I32), ValueType::Bool)
-    );
-    assert_eq!(rt; v.try_get_i64("a"), fault(ValueType::I64, ValueType::Array));
-    assert_eq!(rt;
-        v.try_get_i128("o"),
-        fault(ValueType::I128, ValueType::Object)
-    );
-    assert_eq!(rt;
-        v.try_get_u8("m"),
-        fault(narrow(ExtendedValueType::U8), ValueType::U64)
-    );
-    assert_eq!(rt;
-        v.try_get_u16("n"),
-        fault(narrow(ExtendedValueType::U16), ValueType::I64)
-    );
-    assert_eq!(rt;
-        v.try_get_u32("n"),
-        fault(narrow(ExtendedValueType::U32), ValueType::I64)
-    );
-    assert_eq!(rt; v.try_get_u64("n"), fault(ValueType::U64, ValueType::I64));
-    assert_eq!(rt; v.try_get_u128("m"), Ok(Some(300)));
-    assert_eq!(rt;
-        v.try_get_usize("n"),
-        fault(narrow(ExtendedValueType::Usize), ValueType::I64)
-    );
-    assert_eq!(rt; v.try_get_str("s"), Ok(Some("text")));
-    assert_eq!(rt;
-        v.try_get_str("m"),
-        fault(ValueType::String, ValueType::U64)
-    );
-    assert_eq!(rt; v.try_get_array("a")?.map(|a| a.len()), Some(2));
-    assert!(rt; v.try_get_array("o").is_err());
-    assert_eq!(rt; v.try_get_object("o")?.map(|o| o.len()), Some(1));
-    assert!(rt; v.try_get_object("absent")?.is_none());
-    assert_eq!(rt;
-        Value::null().try_get_u8("m"),
-        fault(ValueType::Object, ValueType::Null)
-    );
+    let numbers = (signed_or_fault(v), unsigned_or_fault(v));
+    let told = (numbers, scalars_or_fault(v), parts_or_fault(v));
+    assert_eq!(rt; told, (([true; 6], [true; 7]), [true; 5], [true; 4]));
     Ok(())
 }
 
-#[test]
-fn items_of_arrays(rt: HostRuntime) -> Result<(), Fail> {
-    let mut bytes = b"[1,2,3,4]".to_vec(rt.alloc())?;
-    let tape = to_tape(rt.alloc(), bytes.as_mut_slice())?;
-    let array = tape.as_value().as_array().ok_or("an array")?;
-    let numbers: Vec<Option<u8>> = array.iter().map(|v| v.as_u8()).collect(rt.alloc())?;
-    assert_eq!(rt;
-        numbers.as_slice(),
-        [Some(1), Some(2), Some(3), Some(4)].as_slice()
-    );
-    for (place, number) in [(0, 1), (1, 2), (2, 3), (3, 4)] {
-        assert_eq!(rt; array.get(place).and_then(|v| v.as_u8()), Some(number));
-    }
-    assert!(rt; array.get(4).is_none());
+/// Whether a text has these items, and these in the array at place 1.
+fn is_list(
+    alloc: Global,
+    text: &str,
+    outer: &[Option<u128>],
+    inner: &[Option<u128>],
+) -> Result<[bool; 2], ErrorKind> {
+    let mut bytes = text.as_bytes().to_vec(alloc)?;
+    let tape = to_tape(alloc, bytes.as_mut_slice())?;
+    let array = tape.as_value().as_array();
+    let part = match tape.as_value().get_idx(1) {
+        Some(part) => part.as_array(),
+        None => None,
+    };
+    Ok([has_items(array, outer), has_items(part, inner)])
+}
 
-    let mut bytes = b"[1,[2,3],4]".to_vec(rt.alloc())?;
-    let tape = to_tape(rt.alloc(), bytes.as_mut_slice())?;
-    let array = tape.as_value().as_array().ok_or("an array")?;
-    let numbers: Vec<Option<u8>> = array.iter().map(|v| v.as_u8()).collect(rt.alloc())?;
-    assert_eq!(rt; numbers.as_slice(), [Some(1), None, Some(4)].as_slice());
-    let inner = array.get(1).and_then(|v| v.as_array()).ok_or("an array")?;
-    let numbers: Vec<Option<u8>> = inner.iter().map(|v| v.as_u8()).collect(rt.alloc())?;
-    assert_eq!(rt; numbers.as_slice(), [Some(2), Some(3)].as_slice());
-    Ok(())
+#[test]
+fn items_of_arrays(rt: HostRuntime) {
+    let four = [Some(1), Some(2), Some(3), Some(4)];
+    let three = [Some(1), None, Some(4)];
+    let told = [
+        is_list(rt.alloc(), "[1,2,3,4]", &four, &[]),
+        is_list(rt.alloc(), "[1,[2,3],4]", &three, &[Some(2), Some(3)]),
+    ];
+    assert_eq!(rt; told, [Ok([true; 2]); 2]);
+}
+
+const NUMBERS: [(&str, Option<u128>); 4] = [
+    ("snot", Some(1)),
+    ("badger", Some(2)),
+    ("cake", Some(3)),
+    ("cookie", Some(4)),
+];
+
+/// Whether the numbers are found by their keys, and no other is.
+fn finds_numbers(object: Object<'_, '_>) -> bool {
+    for (key, number) in &NUMBERS {
+        if number_of(object.get(*key)) != *number {
+            return false;
+        }
+    }
+    object.get("monster").is_none()
 }
 
 #[test]
@@ -180,58 +248,39 @@ fn members_of_objects(rt: HostRuntime) -> Result<(), Fail> {
     let mut bytes = b"{\"snot\":1,\"badger\":2,\"cake\":3,\"cookie\":4}".to_vec(rt.alloc())?;
     let tape = to_tape(rt.alloc(), bytes.as_mut_slice())?;
     let object = tape.as_value().as_object().ok_or("an object")?;
-    let wanted = [("snot", 1), ("badger", 2), ("cake", 3), ("cookie", 4)];
-    for (key, number) in wanted {
-        assert_eq!(rt; object.get(key).and_then(|v| v.as_u8()), Some(number));
-    }
-    assert!(rt; object.get("monster").is_none());
-    let keys: Vec<&str> = object.keys().collect(rt.alloc())?;
-    assert_eq!(rt;
-        keys.as_slice(),
-        ["snot", "badger", "cake", "cookie"].as_slice()
-    );
-    let values: Vec<Option<u8>> = object.values().map(|v| v.as_u8()).collect(rt.alloc())?;
-    assert_eq!(rt;
-        values.as_slice(),
-        [Some(1), Some(2), Some(3), Some(4)].as_slice()
-    );
-    for (key, value) in object.iter() {
-        assert_eq!(rt; object.get(key).and_then(|v| v.as_u8()), value.as_u8());
-    }
+    let told = [
+        finds_numbers(object),
+        has_members(object, &NUMBERS),
+        lists_members(object, &NUMBERS),
+    ];
+    assert_eq!(rt; told, [true; 3]);
     Ok(())
+}
+
+/// The text of an object with the keys `k00` to `k31`, each with its number, and then `k00` with 99.
+fn text_past_32_members(alloc: Global) -> Result<Vec<u8>, Fail> {
+    let mut text = String::new(alloc);
+    for i in 0..32 {
+        let comma = if i == 0 { "{" } else { "," };
+        text.push_str(format!(in alloc; "{comma}\"k{i:02}\":{i}")?.as_str())?;
+    }
+    text.push_str(",\"k00\":99}")?;
+    Ok(text.into_bytes())
+}
+
+/// How many members and nodes there are, and what `k00` and `k31` are.
+fn looked(whole: Value<'_, '_>) -> Option<(usize, usize, [Option<u8>; 2])> {
+    let len = whole.as_object()?.len();
+    let found = [whole.get_u8("k00"), whole.get_u8("k31")];
+    Some((len, whole.nodes().len(), found))
 }
 
 #[test]
 fn repeats_past_32_members(rt: HostRuntime) -> Result<(), Fail> {
-    let mut text = String::new(rt.alloc());
-    for i in 0..32 {
-        let comma = if i == 0 { "{" } else { "," };
-        text.push_str(format!(in rt.alloc(); "{comma}\"k{i:02}\":{i}")?.as_str())?;
-    }
-    text.push_str(",\"k00\":99}")?;
-    let mut bytes = text.as_bytes().to_vec(rt.alloc())?;
+    let mut bytes = text_past_32_members(rt.alloc())?;
     let tape = to_tape(rt.alloc(), bytes.as_mut_slice())?;
-    let whole = tape.as_value();
-    assert_eq!(rt; whole.as_object().map(|o| o.len()), Some(33));
-    assert_eq!(rt; whole.nodes().len(), 67);
-    assert_eq!(rt; whole.get_u8("k00"), Some(0));
-    assert_eq!(rt; whole.get_u8("k31"), Some(31));
-    let last = tape.as_value_repeats(Repeats::Last);
-    assert_eq!(rt; last.get_u8("k00"), Some(99));
-    Ok(())
-}
-
-/// The kind and the number, by the bounds alone.
-fn through_bounds<V: TypedValue + ValueAsScalar>(value: &V) -> (ValueType, Option<u8>) {
-    (value.value_type(), value.as_u8())
-}
-
-#[test]
-fn reads_through_bounds(rt: HostRuntime) -> Result<(), Fail> {
-    let mut bytes = b"7".to_vec(rt.alloc())?;
-    let tape = to_tape(rt.alloc(), bytes.as_mut_slice())?;
-    let (kind, number) = through_bounds(&tape.as_value());
-    assert_eq!(rt; kind, ValueType::U64);
-    assert_eq!(rt; number, Some(7));
+    let last = tape.as_value_repeats(Repeats::Last).get_u8("k00");
+    let told = (looked(tape.as_value()), last);
+    assert_eq!(rt; told, (Some((33, 67, [Some(0), Some(31)])), Some(99)));
     Ok(())
 }

@@ -2,7 +2,8 @@
 
 ghost use Rattle.std.specs.Prelude.{◌≡◌, ◌<◌};
 
-use sj_tape::{Node, Tape, Value};
+use super::{has_items, has_members, lists_members, nested_arrays, number_of, tape_of};
+use sj_tape::{Array, Node, Tape, Value};
 use sj_text_core::{Repeats, StaticNode, Steps, TypedValue, ValueAsScalar, ValueType};
 use std::alloc::Global;
 use std::marker::Brand;
@@ -25,9 +26,20 @@ fn object(len: usize, count: usize) -> Node<'static> {
     Node::Object { len, count }
 }
 
-/// The tape of the nodes.
-fn tape<'i>(alloc: Global, nodes: &[Node<'i>]) -> Result<Tape<'i>, Fail> {
-    Ok(Tape::new(nodes.to_vec(alloc)?)?)
+/// Whether the list is accepted; a refused one comes back.
+fn is_accepted(alloc: Global, nodes: &[Node<'_>]) -> Result<bool, Fail> {
+    match Tape::new(nodes.to_vec(alloc)?) {
+        Ok(_) => Ok(true),
+        Err(refused) => {
+            let given = format!(in alloc; "{nodes:?}")?;
+            let back = format!(in alloc; "{:?}", refused.value)?;
+            if back.as_str() == given.as_str() {
+                Ok(false)
+            } else {
+                Err("another list came back".into())
+            }
+        }
+    }
 }
 
 #[test]
@@ -51,38 +63,47 @@ fn preorders_alone_are_accepted(rt: HostRuntime) -> Result<(), Fail> {
         (&[array(2, 3), array(1, 1), NULL, NULL], true),
         (&[object(1, 2), KEY, NULL], true),
     ];
-    for (nodes, accepted) in lists {
-        let given = format!(in rt.alloc(); "{nodes:?}")?;
-        match Tape::new(nodes.to_vec(rt.alloc())?) {
-            Ok(_) => assert!(rt; accepted, "{given}"),
-            Err(refused) => {
-                assert!(rt; !accepted, "{given}");
-                let back = format!(in rt.alloc(); "{:?}", refused.value)?;
-                assert_eq!(rt; back.as_str(), given.as_str());
-            }
-        }
+    for &(nodes, accepted) in &lists {
+        assert!(rt; is_accepted(rt.alloc(), nodes)? == accepted, "{nodes:?}");
     }
     Ok(())
 }
 
-#[test]
-fn nested_arrays(rt: HostRuntime) -> Result<(), Fail> {
-    let mut nodes = Vec::new(rt.alloc());
-    for count in (0..1025).rev() {
-        nodes.push(array(usize::min(count, 1), count))?;
-    }
-    let tape = tape(rt.alloc(), nodes.as_slice())?;
-    let mut inner = tape.as_value();
+/// The array inside of 1024 others.
+fn innermost<'t, 'i>(value: Value<'t, 'i>) -> Option<Array<'t, 'i>> {
+    let mut inner = value;
     for _ in 0..1024 {
-        inner = inner.get_idx(0).ok_or("an array inside")?;
+        inner = inner.get_idx(0)?;
     }
-    assert!(rt; inner.as_array().ok_or("the innermost array")?.is_empty());
+    inner.as_array()
+}
+
+#[test]
+fn arrays_are_nested(rt: HostRuntime) -> Result<(), Fail> {
+    let tape = nested_arrays(rt.alloc())?;
+    let inner = innermost(tape.as_value());
+    assert!(rt; matches!(inner, Some(array) if array.is_empty()));
     Ok(())
+}
+
+/// Whether look-ups in {"x":{"k":1},"k":2,"x":3} find the first member of each key.
+fn finds_members(whole: Value<'_, '_>) -> Option<[bool; 7]> {
+    let inner = whole.get("x")?;
+    let object = whole.as_object()?;
+    let wanted = [("x", None), ("k", Some(2)), ("x", Some(3))];
+    Some([
+        number_of(whole.get("k")) == Some(2),
+        number_of(inner.get("k")) == Some(1),
+        !inner.contains_key("x"),
+        whole.contains_key("x"),
+        whole.as_array().is_none(),
+        has_members(object, &wanted),
+        lists_members(object, &wanted),
+    ])
 }
 
 #[test]
 fn members(rt: HostRuntime) -> Result<(), Fail> {
-    // {"x":{"k":1},"k":2,"x":3}
     let x = Node::String("x");
     let nodes = [
         object(3, 8),
@@ -95,31 +116,23 @@ fn members(rt: HostRuntime) -> Result<(), Fail> {
         x,
         number(3),
     ];
-    let tape = tape(rt.alloc(), &nodes)?;
-    let whole = tape.as_value();
-    assert_eq!(rt; whole.get("k").and_then(|v| v.as_u128()), Some(2));
-    let inner = whole.get("x").ok_or("x")?;
-    assert_eq!(rt; inner.get("k").and_then(|v| v.as_u128()), Some(1));
-    assert!(rt; !inner.contains_key("x"));
-    assert!(rt; whole.contains_key("x"));
-
-    let object = whole.as_object().ok_or("an object")?;
-    assert_eq!(rt; object.len(), 3);
-    assert!(rt; !object.is_empty());
-    assert!(rt; whole.as_array().is_none());
-    let keys: Vec<&str> = object.keys().collect(rt.alloc())?;
-    assert_eq!(rt; keys.as_slice(), ["x", "k", "x"].as_slice());
-    let numbers: Vec<Option<u128>> = object.values().map(|v| v.as_u128()).collect(rt.alloc())?;
-    assert_eq!(rt; numbers.as_slice(), [None, Some(2), Some(3)].as_slice());
-    for (key, value) in object.iter() {
-        assert_eq!(rt; key == "k", value.as_u128() == Some(2));
-    }
+    let tape = tape_of(rt.alloc(), &nodes)?;
+    assert_eq!(rt; finds_members(tape.as_value()), Some([true; 7]));
     Ok(())
+}
+
+/// Whether look-ups in [1,[2,3],4] find its items.
+fn finds_items(whole: Value<'_, '_>) -> Option<[bool; 3]> {
+    let inner = whole.get_idx(1)?;
+    Some([
+        has_items(whole.as_array(), &[Some(1), None, Some(4)]),
+        number_of(inner.get_idx(1)) == Some(3),
+        whole.as_object().is_none(),
+    ])
 }
 
 #[test]
 fn items(rt: HostRuntime) -> Result<(), Fail> {
-    // [1,[2,3],4]
     let nodes = [
         array(3, 5),
         number(1),
@@ -128,55 +141,77 @@ fn items(rt: HostRuntime) -> Result<(), Fail> {
         number(3),
         number(4),
     ];
-    let tape = tape(rt.alloc(), &nodes)?;
-    let whole = tape.as_value();
-    let array = whole.as_array().ok_or("an array")?;
-    assert_eq!(rt; array.len(), 3);
-    let numbers: Vec<Option<u128>> = array.iter().map(|v| v.as_u128()).collect(rt.alloc())?;
-    assert_eq!(rt; numbers.as_slice(), [Some(1), None, Some(4)].as_slice());
-    let inner = whole.get_idx(1).ok_or("the inner array")?;
-    assert_eq!(rt; inner.get_idx(1).and_then(|v| v.as_u128()), Some(3));
-    assert!(rt; array.get(3).is_none());
-    assert!(rt; whole.as_object().is_none());
+    let tape = tape_of(rt.alloc(), &nodes)?;
+    assert_eq!(rt; finds_items(tape.as_value()), Some([true; 3]));
     Ok(())
+}
+
+/// What a scalar is read as.
+type Told = (ValueType, Option<i128>, Option<u128>, Option<u8>);
+
+/// What a value is read as, by the bounds alone.
+fn reads<V: TypedValue + ValueAsScalar>(value: &V) -> Told {
+    (
+        value.value_type(),
+        value.as_i128(),
+        value.as_u128(),
+        value.as_u8(),
+    )
+}
+
+/// Whether the value is null, true, or a text.
+fn kinds(value: Value<'_, '_>) -> [bool; 3] {
+    [
+        value.as_null().is_some(),
+        value.as_bool() == Some(true),
+        value.into_string().is_some(),
+    ]
+}
+
+/// Scalars, and what they are read as.
+const SCALARS: [(StaticNode, Told); 8] = [
+    (StaticNode::Null, (ValueType::Null, None, None, None)),
+    (StaticNode::Bool(true), (ValueType::Bool, None, None, None)),
+    (StaticNode::I64(-1), (ValueType::I64, Some(-1), None, None)),
+    (
+        StaticNode::I64(5),
+        (ValueType::I64, Some(5), Some(5), Some(5)),
+    ),
+    (
+        StaticNode::U64(7),
+        (ValueType::U64, Some(7), Some(7), Some(7)),
+    ),
+    (
+        StaticNode::I128(i128::MIN),
+        (ValueType::I128, Some(i128::MIN), None, None),
+    ),
+    (
+        StaticNode::I128(i128::MAX),
+        (
+            ValueType::I128,
+            Some(i128::MAX),
+            Some(i128::MAX as u128),
+            None,
+        ),
+    ),
+    (
+        StaticNode::U128(u128::MAX),
+        (ValueType::U128, None, Some(u128::MAX), None),
+    ),
+];
+
+/// Whether the tape of a scalar is read so.
+fn is_read(alloc: Global, node: StaticNode, told: Told) -> Result<bool, Fail> {
+    let tape = tape_of(alloc, &[Node::Static(node)])?;
+    let value = tape.as_value();
+    let kind = [told.0 == ValueType::Null, told.0 == ValueType::Bool, false];
+    Ok(reads(&value) == told && kinds(value) == kind)
 }
 
 #[test]
 fn scalars(rt: HostRuntime) -> Result<(), Fail> {
-    let rows = [
-        (StaticNode::Null, ValueType::Null, None, None),
-        (StaticNode::Bool(true), ValueType::Bool, None, None),
-        (StaticNode::I64(-1), ValueType::I64, Some(-1), None),
-        (StaticNode::I64(5), ValueType::I64, Some(5), Some(5)),
-        (StaticNode::U64(7), ValueType::U64, Some(7), Some(7)),
-        (
-            StaticNode::I128(i128::MIN),
-            ValueType::I128,
-            Some(i128::MIN),
-            None,
-        ),
-        (
-            StaticNode::I128(i128::MAX),
-            ValueType::I128,
-            Some(i128::MAX),
-            Some(i128::MAX as u128),
-        ),
-        (
-            StaticNode::U128(u128::MAX),
-            ValueType::U128,
-            None,
-            Some(u128::MAX),
-        ),
-    ];
-    for (scalar, kind, signed, unsigned) in rows {
-        let tape = tape(rt.alloc(), &[Node::Static(scalar)])?;
-        let value = tape.as_value();
-        assert_eq!(rt; value.value_type(), kind);
-        assert_eq!(rt; value.as_i128(), signed);
-        assert_eq!(rt; value.as_u128(), unsigned);
-        assert_eq!(rt; value.as_null().is_some(), kind == ValueType::Null);
-        assert_eq!(rt; value.as_bool() == Some(true), kind == ValueType::Bool);
-        assert!(rt; value.into_string().is_none());
+    for &(node, told) in &SCALARS {
+        assert!(rt; is_read(rt.alloc(), node, told)?, "{node:?}");
     }
     assert!(rt; Value::null().as_null().is_some());
     Ok(())
@@ -185,7 +220,7 @@ fn scalars(rt: HostRuntime) -> Result<(), Fail> {
 #[test]
 fn texts(rt: HostRuntime) -> Result<(), Fail> {
     let text = {
-        let tape = tape(rt.alloc(), &[KEY])?;
+        let tape = tape_of(rt.alloc(), &[KEY])?;
         assert_eq!(rt; tape.as_value().value_type(), ValueType::String);
         tape.as_value().into_string()
     };
@@ -201,18 +236,16 @@ fn counted<L: Ledger>(tape: &Tape<'_>, blank: Blank) -> [Option<u128>; 3]
 {
     let mut steps = Steps::<L>::new(blank);
     let whole = tape.as_value();
-    let first = whole.get_steps("k", &mut steps).and_then(|v| v.as_u128());
-    let second = whole.get_steps("y", &mut steps).and_then(|v| v.as_u128());
-    let third = Value::null()
-        .get_steps("k", &mut steps)
-        .and_then(|v| v.as_u128());
+    let first = number_of(whole.get_steps("k", &mut steps));
+    let second = number_of(whole.get_steps("y", &mut steps));
+    let third = number_of(Value::null().get_steps("k", &mut steps));
     [first, second, third]
 }
 
 #[test]
 fn counted_lookups(rt: HostRuntime) -> Result<(), Fail> {
     let nodes = [object(2, 4), Node::String("x"), number(1), KEY, number(2)];
-    let tape = tape(rt.alloc(), &nodes)?;
+    let tape = tape_of(rt.alloc(), &nodes)?;
     assert_eq!(rt;
         counted::<Brand>(&tape, Blank::new(1)),
         [Some(2), None, None]
@@ -220,17 +253,23 @@ fn counted_lookups(rt: HostRuntime) -> Result<(), Fail> {
     Ok(())
 }
 
+/// By which choice the value goes, and what `k` is in it and in its part `x`.
+fn chosen(whole: Value<'_, '_>) -> Option<([Repeats; 2], [Option<u128>; 2], usize)> {
+    let part = whole.get("x")?;
+    let numbers = [number_of(whole.get("k")), number_of(part.get("k"))];
+    let object = whole.as_object()?;
+    Some(([whole.repeats(), part.repeats()], numbers, object.len()))
+}
+
 #[test]
 fn last_members(rt: HostRuntime) -> Result<(), Fail> {
     // {"k":1,"x":{"k":4,"k":5},"k":3}
-    let x = Node::String("x");
-    let inner = object(2, 4);
     let nodes = [
         object(3, 10),
         KEY,
         number(1),
-        x,
-        inner,
+        Node::String("x"),
+        object(2, 4),
         KEY,
         number(4),
         KEY,
@@ -238,16 +277,14 @@ fn last_members(rt: HostRuntime) -> Result<(), Fail> {
         KEY,
         number(3),
     ];
-    let tape = tape(rt.alloc(), &nodes)?;
-    for (choice, outer, nested) in [(Repeats::First, 1, 4), (Repeats::Last, 3, 5)] {
-        let whole = tape.as_value_repeats(choice);
-        assert_eq!(rt; whole.repeats(), choice);
-        assert_eq!(rt; whole.get("k").and_then(|v| v.as_u128()), Some(outer));
-        let part = whole.get("x").ok_or("x")?;
-        assert_eq!(rt; part.repeats(), choice);
-        assert_eq!(rt; part.get("k").and_then(|v| v.as_u128()), Some(nested));
-        assert_eq!(rt; whole.as_object().ok_or("an object")?.len(), 3);
-    }
-    assert_eq!(rt; tape.as_value().repeats(), Repeats::First);
+    let tape = tape_of(rt.alloc(), &nodes)?;
+    let first = ([Repeats::First; 2], [Some(1), Some(4)], 3);
+    let last = ([Repeats::Last; 2], [Some(3), Some(5)], 3);
+    let told = [
+        chosen(tape.as_value()),
+        chosen(tape.as_value_repeats(Repeats::First)),
+        chosen(tape.as_value_repeats(Repeats::Last)),
+    ];
+    assert_eq!(rt; told, [Some(first), Some(first), Some(last)]);
     Ok(())
 }

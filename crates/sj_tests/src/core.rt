@@ -1,4 +1,4 @@
-//! What no clause says, and each public call once.
+//! Scalars, kinds and faults.
 
 mod comparisons;
 mod faults;

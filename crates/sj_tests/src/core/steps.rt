@@ -2,7 +2,7 @@
 
 ghost use Rattle.std.specs.Prelude.{◌≡◌, ◌<◌};
 
-use crate::Steps;
+use sj_text_core::Steps;
 use std::marker::Brand;
 use std::sync::ledger::{Blank, Ledger};
 

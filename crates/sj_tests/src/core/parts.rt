@@ -1,0 +1,110 @@
+//! Texts, arrays and objects, which no scalar node is.
+
+use sj_text_core::{Meaning, SameAs, TryTypeError, TypedValue, ValueAsScalar, ValueType};
+use std::alloc::{AllocError, Global};
+
+/// A text, an empty array or an empty object.
+#[derive(Clone, Copy)]
+enum Part<'t> {
+    Text(&'t str),
+    Array,
+    Object,
+}
+
+impl Meaning for Part<'_> {
+    ghost use Rattle.sj_text_core.specs.Tree.{text, list, obj, no_items, no_members};
+    ghost use Rattle.sj_tests.specs.declared.core.parts.Part.TheVariants.{Text, Array, Object};
+
+    ghost tree = { elim [ Text s ↦ text s.now | Array ↦ list no_items | Object ↦ obj no_members ] };
+}
+
+impl TypedValue for Part<'_> {
+    fn value_type(&self) -> ValueType {
+        match self {
+            Part::Text(_) => ValueType::String,
+            Part::Array => ValueType::Array,
+            Part::Object => ValueType::Object,
+        }
+    }
+}
+
+impl ValueAsScalar for Part<'_> {
+    fn as_bool(&self) -> Option<bool> {
+        None
+    }
+
+    fn as_str(&self) -> Option<&str> {
+        match *self {
+            Part::Text(text) => Some(text),
+            _ => None,
+        }
+    }
+
+    fn as_i128(&self) -> Option<i128> {
+        None
+    }
+
+    fn as_u128(&self) -> Option<u128> {
+        None
+    }
+}
+
+/// Whether the part is a text, an array, an object, or any scalar.
+fn kinds(part: Part<'_>) -> [bool; 7] {
+    [
+        part.is_str(),
+        part.is_array(),
+        part.is_object(),
+        part.is_null(),
+        part.is_bool(),
+        part.is_i128(),
+        part.is_u128(),
+    ]
+}
+
+#[test]
+fn parts_are_told(rt: HostRuntime) {
+    let (yes, no) = (true, false);
+    let (text, array, object) = (Part::Text("null"), Part::Array, Part::Object);
+    let types = [text.value_type(), array.value_type(), object.value_type()];
+    assert_eq!(rt;
+        types,
+        [ValueType::String, ValueType::Array, ValueType::Object]
+    );
+    let wanted = [
+        [yes, no, no, no, no, no, no],
+        [no, yes, no, no, no, no, no],
+        [no, no, yes, no, no, no, no],
+    ];
+    assert_eq!(rt; [kinds(text), kinds(array), kinds(object)], wanted);
+}
+
+#[test]
+fn texts_are_read(rt: HostRuntime) {
+    let part = Part::Text("null");
+    let fault = TryTypeError {
+        expected: ValueType::String,
+        got: ValueType::Object,
+    };
+    let told = [
+        part.as_str() == Some("null"),
+        part.try_as_str() == Ok("null"),
+        Part::Array.as_str().is_none(),
+        Part::Object.try_as_str().err() == Some(fault),
+    ];
+    assert_eq!(rt; told, [true; 4]);
+}
+
+/// Whether the text `null` is another, lent and owned.
+fn same_texts(alloc: Global, other: &str) -> Result<[bool; 2], AllocError> {
+    let part = Part::Text("null");
+    let text = String::from_str(alloc, other)?;
+    Ok([part.same_as(&other), part.same_as(&text)])
+}
+
+#[test]
+fn texts_are_compared(rt: HostRuntime) {
+    for &(other, same) in &[("null", true), ("nul", false), ("nulL", false), ("", false)] {
+        assert!(rt; same_texts(rt.alloc(), other) == Ok([same; 2]), "{other}");
+    }
+}
