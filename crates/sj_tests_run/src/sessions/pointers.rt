@@ -1,12 +1,11 @@
 //! Pointers as paths of command lines, and tokens as steps.
 
+use super::repeats::is_answered;
 use super::{SERVED, check};
 use sj_document::{BorrowedValue, OwnedValue};
 use sj_lazy::Value;
 use sj_object::deserialize;
-use sj_run::{
-    BorrowedDoc, Command, Document, LazyDoc, OwnedDoc, Reply, Step, Way, session_repeats,
-};
+use sj_run::{BorrowedDoc, Command, Document, LazyDoc, OwnedDoc, Reply, Step, Way};
 use sj_tape::to_tape;
 use sj_text_core::Repeats;
 use std::alloc::Global;
@@ -141,29 +140,19 @@ fn tokens_find_among_many(rt: HostRuntime) -> Result<(), Fail> {
     check(&rt, alloc, given.as_str(), want)
 }
 
-/// What the sessions of each form answer to the text.
-fn answers(alloc: Global, repeats: Repeats, input: &str, want: &str) -> Result<[bool; 5], Fail> {
-    let mut told = [false; 5];
-    for (place, served) in SERVED.into_iter().enumerate() {
-        let (form, way) = served;
-        let mut bytes = input.as_bytes().to_vec(alloc)?;
-        let mut out = Vec::new(alloc);
-        let answer = session_repeats(alloc, form, way, repeats, bytes.as_mut_slice(), &mut out);
-        told[place] = answer == Ok(()) && out.as_slice() == want.as_bytes();
-    }
-    Ok(told)
-}
-
 /// Before a lazy document's first write a token finds the member that counts.
 #[test]
 fn tokens_go_by_the_choice(rt: HostRuntime) -> Result<(), Fail> {
     let given =
         "{\"a\":1,\"b\":2,\"a\":[3,{\"c\":4,\"c\":5}]}\n---\n[\"encode\",\"/a/1/c\"]\n[\"put\",\"/b\",0]\n[\"encode\",\"\"]";
     for (repeats, want) in [
-        (Repeats::First, "missing\n2\n{\"a\":1,\"b\":0}\n"),
-        (Repeats::Last, "5\n2\n{\"a\":[3,{\"c\":5}],\"b\":0}\n"),
+        (Repeats::First, "> missing\n2\n{\"a\":1,\"b\":0}\n"),
+        (Repeats::Last, "> 5\n2\n{\"a\":[3,{\"c\":5}],\"b\":0}\n"),
     ] {
-        assert_eq!(rt; answers(rt.alloc(), repeats, given, want)?, [true; 5]);
+        for way in SERVED {
+            let is_so = is_answered(rt.alloc(), way, repeats, given, want)?;
+            assert!(rt; is_so, "{way:?} {repeats:?}");
+        }
     }
     Ok(())
 }

@@ -8,7 +8,7 @@ use std::process::Abort;
 use std::test::Fail;
 
 /// Whether a session answers, and `out`, which held `> ` before, is that.
-fn is_answered(
+pub fn is_answered(
     alloc: Global,
     served: (Form, Way),
     repeats: Repeats,
