@@ -25,7 +25,7 @@ fn the_page_is_right(rt: HostRuntime) -> Result<(), Fail> {
     let alloc = rt.alloc();
     let mut bytes = b"{\"some\":[\"key\",\"value\",2],\"some\":3}".to_vec(alloc)?;
     let mut value = to_value(alloc, bytes.as_mut_slice())?;
-    let is_there = value.contains_key("some");
+    assert!(rt; value.contains_key("some"));
     let is_lent = matches!(
         value["some"].get_idx(0),
         Some(Value::String(CowStr::Borrowed("key")))
@@ -34,7 +34,7 @@ fn the_page_is_right(rt: HostRuntime) -> Result<(), Fail> {
     let is_read = value.get_str("n") == Some("lent");
     let copy = value.clone_static(alloc)?;
     let is_refused = value.pop() == Err(AccessError::NotAnArray);
-    assert_eq!(rt; [is_there, is_lent, is_read, is_refused], [true; 4]);
+    assert_eq!(rt; [is_lent, is_read, is_refused], [true; 3]);
     assert_eq!(rt;
         copy.encode(alloc)?.as_str(),
         "{\"some\":[\"key\",\"value\",2],\"n\":\"lent\"}"

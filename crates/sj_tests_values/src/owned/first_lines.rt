@@ -24,13 +24,13 @@ fn the_page_is_right(rt: HostRuntime) -> Result<(), Fail> {
     let alloc = rt.alloc();
     let mut bytes = b"{\"some\":[\"key\",\"value\",2],\"some\":3}".to_vec(alloc)?;
     let mut value = to_value(alloc, bytes.as_mut_slice())?;
-    let is_there = value.contains_key("some");
+    assert!(rt; value.contains_key("some"));
     let is_small = value["some"].get_idx(2).is_some_and(|item| item.is_u8());
     value.insert(String::from_str(alloc, "n")?, Value::from(true))?;
-    let is_still_there = value.contains_key("some");
+    assert!(rt; value.contains_key("some"));
     value["some"].push(Value::null())?;
     let is_removed = value.remove("n")? == Some(Value::from(true));
-    assert_eq!(rt; [is_there, is_small, is_still_there, is_removed], [true; 4]);
+    assert_eq!(rt; [is_small, is_removed], [true; 2]);
     assert_eq!(rt;
         value.encode(alloc)?.as_str(),
         "{\"some\":[\"key\",\"value\",2,null]}"
