@@ -70,15 +70,20 @@ fn a_part_is_written_by_the_choice(rt: HostRuntime) -> Result<(), Fail> {
     Ok(())
 }
 
+/// A document that was read with a repeat.
+fn repeated(alloc: Global) -> Result<OwnedValue, Fail> {
+    let mut text = *br#"{"q":1,"q":2}"#;
+    owned(alloc, &mut text)
+}
+
 /// What is inserted has its own choice.
 #[test]
 fn the_choice_is_not_that_of_a_new_member(rt: HostRuntime) -> Result<(), Fail> {
     let alloc = rt.alloc();
-    let mut text = *br#"{"q":1,"q":2}"#;
-    let new = BorrowedValue::try_make(alloc, owned(alloc, &mut text)?)?;
     let mut text = TEXT.as_bytes().to_vec(alloc)?;
     let tape = to_tape(alloc, text.as_mut_slice())?;
     let mut value: Value<'_, '_, '_> = Value::from_tape(tape.as_value_repeats(Repeats::Last));
+    let new = BorrowedValue::try_make(alloc, repeated(alloc)?)?;
     assert!(rt; value.insert(alloc, CowStr::Borrowed("z"), new)?.is_none());
     assert!(rt; prints_at(alloc, &value, "z", r#"{"q":1}"#)?);
     Ok(())

@@ -105,10 +105,11 @@ fn each_form_is_made_to_a_document(rt: HostRuntime) -> Result<(), Fail> {
     let mut text = *br#"{"a":[1],"a":2}"#;
     let tape = to_tape(alloc, &mut text)?;
     let mut owned: Value<'_, '_, '_> = Value::from_tape(tape.as_value());
+    let value = owned.clone()?;
     owned.as_mut(alloc)?;
     let told = [
         gives(alloc, owned, r#"{"a":[1]}"#)?,
-        gives(alloc, Value::from_tape(tape.as_value()), r#"{"a":[1]}"#)?,
+        gives(alloc, value, r#"{"a":[1]}"#)?,
     ];
     assert_eq!(rt; told, [true; 2]);
     Ok(())

@@ -138,46 +138,48 @@ fn room_changes_nothing(rt: HostRuntime) -> Result<(), Fail> {
     Ok(())
 }
 
-/// Whether the value is the same as that.
-fn same<'b, 't, 'i, X: Drop>(value: Value<'b, 't, 'i>, other: X) -> bool
-where
-    Value<'b, 't, 'i>: SameAs<X>,
-{
-    value.same_as(&other)
-}
-
-fn scalar_sameness() -> [bool; 12] {
+fn kinds_sameness() -> [bool; 6] {
+    let truth: Value<'_, '_, '_> = Lazy::from(true);
+    let nothing: Value<'_, '_, '_> = Lazy::from(());
+    let text: Value<'_, '_, '_> = Lazy::from("bla");
     [
-        same(Lazy::from(true), true),
-        !same(Lazy::from(true), false),
-        same(Lazy::from(()), ()),
-        !same(Lazy::from(()), true),
-        same(Lazy::from("bla"), "bla"),
-        !same(Lazy::from("bla"), "blubb"),
-        same(Lazy::from(None::<u8>), ()),
-        same(Lazy::from(Some(42_u8)), 42_u8),
-        same(Lazy::from(Some(42_u8)), 42_i128),
-        same(Lazy::from(i64::MIN), i64::MIN),
-        same(Lazy::from(u64::MAX), u64::MAX),
-        same(Lazy::from(usize::MAX), usize::MAX),
+        truth.same_as(&true),
+        !truth.same_as(&false),
+        nothing.same_as(&()),
+        !nothing.same_as(&true),
+        text.same_as(&"bla"),
+        !text.same_as(&"blubb"),
     ]
 }
 
-/// Whether two numbers of different carriers are equal.
-fn equal(one: Value<'_, '_, '_>, other: Value<'_, '_, '_>) -> bool {
-    one == other
+fn numbers_sameness() -> [bool; 6] {
+    let none: Value<'_, '_, '_> = Lazy::from(None::<u8>);
+    let some: Value<'_, '_, '_> = Lazy::from(Some(42_u8));
+    [
+        none.same_as(&()),
+        some.same_as(&42_u8),
+        some.same_as(&42_i128),
+        Value::from(i64::MIN).same_as(&i64::MIN),
+        Value::from(u64::MAX).same_as(&u64::MAX),
+        Value::from(usize::MAX).same_as(&usize::MAX),
+    ]
 }
 
 #[test]
 fn scalars_are_the_same_as_what_they_are_made_of(rt: HostRuntime) {
-    assert_eq!(rt; scalar_sameness(), [true; 12]);
+    assert_eq!(rt; [kinds_sameness(), numbers_sameness()], [[true; 6]; 2]);
+}
+
+#[test]
+fn numbers_are_equal_across_carriers(rt: HostRuntime) {
+    let one: Value<'_, '_, '_> = Lazy::from(1_u64);
     let told = [
-        equal(Lazy::from(1_u64), Lazy::from(1_i64)),
-        equal(Lazy::from(1_u64), Lazy::from(1_u128)),
-        equal(Lazy::from(1_u64), Lazy::from(1_i128)),
-        equal(Lazy::from(1_u64), Lazy::from(2_u64)),
+        one == Lazy::from(1_i64),
+        one == Lazy::from(1_u128),
+        one == Lazy::from(1_i128),
+        one != Lazy::from(2_u64),
     ];
-    assert_eq!(rt; told, [true, true, true, false]);
+    assert_eq!(rt; told, [true; 4]);
 }
 
 #[test]
@@ -185,6 +187,6 @@ fn strings_are_the_same_as_their_texts(rt: HostRuntime) -> Result<(), Fail> {
     let alloc = rt.alloc();
     let text: Value<'_, '_, '_> = Lazy::from("bla");
     let owned: Value<'_, '_, '_> = Lazy::from(String::from_str(alloc, "bla")?);
-    assert!(rt; owned == text && same(owned, String::from_str(alloc, "bla")?));
+    assert!(rt; owned == text && owned.same_as(&String::from_str(alloc, "bla")?));
     Ok(())
 }
