@@ -126,12 +126,12 @@ fn lazy_documents(rt: HostRuntime) -> Result<(), Fail> {
 /// Whether that is found to be written, and the value is a document then.
 fn is_upgraded(
     alloc: Global,
-    mut value: lazy::Value<'_, '_, '_>,
+    value: &mut lazy::Value<'_, '_, '_>,
     text: &str,
     want: Option<&str>,
 ) -> Result<bool, Fail> {
     let pointer = pointer(alloc, text)?;
-    let is_written = is_lent(alloc, lazy::find_mut(&mut value, alloc, &pointer)?, want)?;
+    let is_written = is_lent(alloc, lazy::find_mut(value, alloc, &pointer)?, want)?;
     Ok(is_written && value.is_value())
 }
 
@@ -141,8 +141,8 @@ fn lazy_writes_upgrade_first(rt: HostRuntime) -> Result<(), Fail> {
     let mut bytes = DOCUMENT.as_bytes().to_vec(alloc)?;
     let tape = to_tape(alloc, bytes.as_mut_slice())?;
     for (text, want) in ROWS {
-        let value = lazy::Value::from_tape(tape.as_value());
-        assert!(rt; is_upgraded(alloc, value, text, want)?, "{text}");
+        let mut value: lazy::Value<'_, '_, '_> = lazy::Value::from_tape(tape.as_value());
+        assert!(rt; is_upgraded(alloc, &mut value, text, want)?, "{text}");
     }
     Ok(())
 }

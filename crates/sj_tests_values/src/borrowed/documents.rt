@@ -29,14 +29,17 @@ fn is_made_static(alloc: Global, value: Value<'_>) -> Result<[bool; 3], Fail> {
     ])
 }
 
+/// The copies of the document of a text, and what it is made to.
+fn kept(alloc: Global, text: &str) -> Result<[[bool; 3]; 2], Fail> {
+    let mut bytes = text.as_bytes().to_vec(alloc)?;
+    let value = parsed(&mut bytes)?;
+    Ok([copies(alloc, &value)?, is_made_static(alloc, value)?])
+}
+
 #[test]
 fn copies_keep_the_document(rt: HostRuntime) -> Result<(), Fail> {
-    let alloc = rt.alloc();
     for text in DOCUMENTS {
-        let mut bytes = text.as_bytes().to_vec(alloc)?;
-        let value = parsed(&mut bytes)?;
-        assert_eq!(rt; copies(alloc, &value)?, [true; 3], "{text}");
-        assert_eq!(rt; is_made_static(alloc, value)?, [true; 3], "{text}");
+        assert_eq!(rt; kept(rt.alloc(), text)?, [[true; 3]; 2], "{text}");
     }
     Ok(())
 }
@@ -47,17 +50,20 @@ fn is_read_back(print: String, value: &Value<'_>) -> Result<bool, Fail> {
     Ok(parsed(&mut bytes)?.same_as(value))
 }
 
+/// Whether both prints of a text's document are.
+fn reads_back(alloc: Global, text: &str) -> Result<[bool; 2], Fail> {
+    let mut bytes = text.as_bytes().to_vec(alloc)?;
+    let value = parsed(&mut bytes)?;
+    Ok([
+        is_read_back(value.encode(alloc)?, &value)?,
+        is_read_back(value.encode_pp(alloc)?, &value)?,
+    ])
+}
+
 #[test]
 fn encodings_read_back(rt: HostRuntime) -> Result<(), Fail> {
-    let alloc = rt.alloc();
     for text in DOCUMENTS {
-        let mut bytes = text.as_bytes().to_vec(alloc)?;
-        let value = parsed(&mut bytes)?;
-        let told = [
-            is_read_back(value.encode(alloc)?, &value)?,
-            is_read_back(value.encode_pp(alloc)?, &value)?,
-        ];
-        assert_eq!(rt; told, [true; 2], "{text}");
+        assert_eq!(rt; reads_back(rt.alloc(), text)?, [true; 2], "{text}");
     }
     Ok(())
 }
@@ -123,29 +129,36 @@ fn the_first_of_a_key_is_kept(rt: HostRuntime) -> Result<(), Fail> {
 }
 
 #[test]
-fn the_other_readings(rt: HostRuntime) -> Result<(), Fail> {
-    let alloc = rt.alloc();
-    let mut buffers = Buffers::new(alloc, 13)?;
+fn a_reading_with_buffers(rt: HostRuntime) -> Result<(), Fail> {
+    let mut buffers = Buffers::new(rt.alloc(), 13)?;
     let mut bytes = *b"{\"a\":1,\"a\":2}";
-    let value = to_borrowed_value_with_buffers(alloc, &mut bytes, &mut buffers)?;
-    assert_eq!(rt; value.encode(alloc)?.as_str(), "{\"a\":1}");
-    let mut bytes = *b"{\"a\":1,\"a\":2}";
-    let value = to_borrowed_value(alloc, &mut bytes)?;
-    assert_eq!(rt; value.encode(alloc)?.as_str(), "{\"a\":1}");
+    let value = to_borrowed_value_with_buffers(rt.alloc(), &mut bytes, &mut buffers)?;
+    assert_eq!(rt; value.encode(rt.alloc())?.as_str(), "{\"a\":1}");
     Ok(())
 }
 
 #[test]
+fn a_reading_by_its_other_name(rt: HostRuntime) -> Result<(), Fail> {
+    let mut bytes = *b"{\"a\":1,\"a\":2}";
+    let value = to_borrowed_value(rt.alloc(), &mut bytes)?;
+    assert_eq!(rt; value.encode(rt.alloc())?.as_str(), "{\"a\":1}");
+    Ok(())
+}
+
+/// Whether a reading by that choice is printed so.
+fn is_kept(alloc: Global, repeats: Repeats, print: &str) -> Result<bool, Fail> {
+    let mut bytes = *b"{\"a\":1,\"b\":2,\"a\":3}";
+    let value = to_value_repeats(alloc, &mut bytes, repeats)?;
+    Ok(value.encode(alloc)?.as_str() == print)
+}
+
+#[test]
 fn repeats(rt: HostRuntime) -> Result<(), Fail> {
-    let alloc = rt.alloc();
-    for (repeats, print) in [
-        (Repeats::First, "{\"a\":1,\"b\":2}"),
-        (Repeats::Last, "{\"a\":3,\"b\":2}"),
-    ] {
-        let mut bytes = *b"{\"a\":1,\"b\":2,\"a\":3}";
-        let value = to_value_repeats(alloc, &mut bytes, repeats)?;
-        assert_eq!(rt; value.encode(alloc)?.as_str(), print);
-    }
+    let told = [
+        is_kept(rt.alloc(), Repeats::First, "{\"a\":1,\"b\":2}")?,
+        is_kept(rt.alloc(), Repeats::Last, "{\"a\":3,\"b\":2}")?,
+    ];
+    assert_eq!(rt; told, [true; 2]);
     Ok(())
 }
 

@@ -48,6 +48,11 @@ fn pops<K: KeyMade>(value: &mut Document<K>, gone: Option<u8>) -> bool {
     value.pop() == Ok(document(gone))
 }
 
+/// Pushes a number.
+fn pushes<K: KeyMade + Debug>(value: &mut Document<K>, number: u8) -> Result<(), Fail> {
+    Ok(value.push(Document::from(number))?)
+}
+
 fn object_answers<'k, K: KeyOf<'k> + Debug>(alloc: Global) -> Result<[bool; 8], Fail> {
     let mut value: Document<K> = Document::object(alloc)?;
     let is_new = puts(alloc, &mut value, 1, None)?;
@@ -79,10 +84,12 @@ fn objects(rt: HostRuntime) -> Result<(), Fail> {
 
 fn array_answers<K: KeyMade + Debug>(alloc: Global) -> Result<[bool; 4], Fail> {
     let mut value: Document<K> = Document::array_with_capacity(alloc, 2)?;
-    value.push(Document::from(1_u8))?;
-    value.push(Document::from(2_u8))?;
+    pushes(&mut value, 1)?;
+    pushes(&mut value, 2)?;
     let is_there = value.get_idx(0).is_some();
-    value[0] = Document::from(0_u8);
+    if is_there {
+        value[0] = Document::from(0_u8);
+    }
     *value.get_idx_mut(1).ok_or("no such item")? = Document::from(1_u8);
     Ok([
         is_there,
@@ -112,11 +119,13 @@ fn hands_back<K: KeyMade, O: Drop>(
 
 fn null_answers<'k, K: KeyOf<'k> + Debug>(alloc: Global) -> Result<[bool; 7], Fail> {
     let mut value: Document<K> = Document::null();
-    let member = value.insert(K::of(alloc, "key")?, Document::from(1_u8));
-    let item = value.push(Document::from(1_u8));
+    let key = K::of(alloc, "key")?;
     Ok([
-        hands_back(member, AccessError::NotAnObject),
-        hands_back(item, AccessError::NotAnArray),
+        hands_back(
+            value.insert(key, Document::from(1_u8)),
+            AccessError::NotAnObject,
+        ),
+        hands_back(value.push(Document::from(1_u8)), AccessError::NotAnArray),
         tries(alloc, &mut value, "key", 1)?,
         value.remove("key") == Err(AccessError::NotAnObject),
         value.pop() == Err(AccessError::NotAnArray),
@@ -172,11 +181,11 @@ fn array_of_two<K: KeyMade + Debug>(
 ) -> Result<[bool; 3], Fail> {
     let mut value: Document<K> = Document::array(alloc)?;
     value.push(text)?;
-    value.push(Document::from(1_u8))?;
+    pushes(&mut value, 1)?;
     Ok([
         value.pop() == Ok(Some(Document::from(1_u64))),
         value.pop() == Ok(Some(same)),
-        value.pop() == Ok(None),
+        pops(&mut value, None),
     ])
 }
 

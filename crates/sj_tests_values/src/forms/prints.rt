@@ -31,15 +31,24 @@ fn shows<K: KeyMade>(
     Ok(is_printed && format!(in alloc; "{value}")?.as_str() == shown)
 }
 
+/// Whether the value is, and is let go.
+fn is_shown<K: KeyMade>(
+    alloc: Global,
+    value: Document<K>,
+    print: &str,
+    shown: &str,
+) -> Result<bool, Fail> {
+    shows(alloc, &value, print, shown)
+}
+
 #[test]
 fn texts(rt: HostRuntime) -> Result<(), Fail> {
-    let alloc = rt.alloc();
     for (text, print) in TEXTS {
-        let owned: Document<String> = Document::try_make(alloc, text)?;
+        let owned: Document<String> = Document::try_make(rt.alloc(), text)?;
         let borrowed: Document<CowStr<'static>> = Document::from(text);
         let told = [
-            shows(alloc, &owned, print, text)?,
-            shows(alloc, &borrowed, print, text)?,
+            is_shown(rt.alloc(), owned, print, text)?,
+            is_shown(rt.alloc(), borrowed, print, text)?,
         ];
         assert_eq!(rt; told, [true; 2], "{text}");
     }
@@ -48,10 +57,10 @@ fn texts(rt: HostRuntime) -> Result<(), Fail> {
 
 fn scalar_prints<K: KeyMade>(alloc: Global) -> Result<[bool; 4], Fail> {
     Ok([
-        shows::<K>(alloc, &Document::null(), "null", "null")?,
-        shows::<K>(alloc, &Document::from(true), "true", "true")?,
-        shows::<K>(alloc, &Document::from(false), "false", "false")?,
-        shows::<K>(alloc, &Document::from(-0_i8), "0", "0")?,
+        is_shown::<K>(alloc, Document::null(), "null", "null")?,
+        is_shown::<K>(alloc, Document::from(true), "true", "true")?,
+        is_shown::<K>(alloc, Document::from(false), "false", "false")?,
+        is_shown::<K>(alloc, Document::from(-0_i8), "0", "0")?,
     ])
 }
 
@@ -64,7 +73,7 @@ fn scalars(rt: HostRuntime) -> Result<(), Fail> {
 }
 
 /// Whether the pretty print is that.
-fn is_pretty<K: KeyMade>(alloc: Global, value: &Document<K>, print: &str) -> Result<bool, Fail> {
+fn is_pretty<K: KeyMade>(alloc: Global, value: Document<K>, print: &str) -> Result<bool, Fail> {
     Ok(value.encode_pp(alloc)?.as_str() == print)
 }
 
@@ -107,8 +116,8 @@ fn spaces_are_not_printed(rt: HostRuntime) -> Result<(), Fail> {
     let mut bytes = SPACES.as_bytes().to_vec(alloc)?;
     let print = "{\"k\":null}";
     let told = [
-        shows(alloc, &owned::parsed(alloc, SPACES)?, print, print)?,
-        shows(alloc, &borrowed::parsed(&mut bytes)?, print, print)?,
+        is_shown(alloc, owned::parsed(alloc, SPACES)?, print, print)?,
+        is_shown(alloc, borrowed::parsed(&mut bytes)?, print, print)?,
     ];
     assert_eq!(rt; told, [true; 2]);
     Ok(())
@@ -120,8 +129,8 @@ fn pretty_prints(rt: HostRuntime) -> Result<(), Fail> {
     let mut bytes = LINES.as_bytes().to_vec(alloc)?;
     let print = "{\n  \"a\": [\n    1,\n    {}\n  ]\n}";
     let told = [
-        is_pretty(alloc, &owned::parsed(alloc, LINES)?, print)?,
-        is_pretty(alloc, &borrowed::parsed(&mut bytes)?, print)?,
+        is_pretty(alloc, owned::parsed(alloc, LINES)?, print)?,
+        is_pretty(alloc, borrowed::parsed(&mut bytes)?, print)?,
     ];
     assert_eq!(rt; told, [true; 2]);
     Ok(())
