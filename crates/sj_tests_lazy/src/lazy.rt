@@ -5,8 +5,9 @@ mod forms;
 mod makes;
 mod reads;
 mod scalars;
+mod writes;
 
-use sj_lazy::Value;
+use sj_lazy::{Value, Writable};
 use std::alloc::Global;
 use std::test::Fail;
 
@@ -18,4 +19,19 @@ fn keys_of(alloc: Global, value: &Value) -> Result<String, Fail> {
         keys.push(' ')?;
     }
     Ok(keys)
+}
+
+/// Whether it is printed so.
+fn prints(alloc: Global, value: &Value, print: &str) -> Result<bool, Fail> {
+    Ok(value.encode(alloc)?.as_str() == print)
+}
+
+/// Whether the member is printed so.
+fn prints_at(alloc: Global, value: &Value, key: &str, print: &str) -> Result<bool, Fail> {
+    prints(alloc, &value.get(key).ok_or("a member")?, print)
+}
+
+/// How many members an object has.
+fn members(value: &Value) -> Option<usize> {
+    Some(value.as_object()?.len())
 }

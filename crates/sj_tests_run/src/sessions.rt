@@ -27,17 +27,19 @@ const SERVED: [(Form, Way); 5] = [
     (Form::Lazy, Way::ByText),
 ];
 
-/// What a session answers, and what `out` has then, which held `> ` before.
-fn answered(
+/// Whether a session answers so, and `out`, which held `> ` before, is that.
+fn is_answered(
     alloc: Global,
-    form: Form,
-    way: Way,
+    served: (Form, Way),
     input: &[u8],
-) -> Result<(Result<(), SessionFault>, String), Fail> {
+    answer: Result<(), SessionFault>,
+    want: &str,
+) -> Result<bool, Fail> {
+    let (form, way) = served;
     let mut bytes = input.to_vec(alloc)?;
     let mut out = b"> ".to_vec(alloc)?;
-    let answer = session(alloc, form, way, bytes.as_mut_slice(), &mut out);
-    Ok((answer, String::from_utf8(out)?))
+    let told = session(alloc, form, way, bytes.as_mut_slice(), &mut out);
+    Ok(told == answer && out.as_slice() == want.as_bytes())
 }
 
 /// These forms and ways answer so.
@@ -48,10 +50,9 @@ fn check_in(
     input: &str,
     want: &str,
 ) -> Result<(), Fail> {
-    for (form, way) in served {
-        let (answer, out) = answered(alloc, *form, *way, input.as_bytes())?;
-        assert_eq!(rt; answer, Ok(()), "{form:?} {way:?} on {input:?}");
-        assert_eq!(rt; out.as_str(), want, "{form:?} {way:?} on {input:?}");
+    for way in served {
+        let is_so = is_answered(alloc, *way, input.as_bytes(), Ok(()), want)?;
+        assert!(rt; is_so, "{way:?} on {input:?}, not {want:?}");
     }
     Ok(())
 }
@@ -66,10 +67,10 @@ fn refuse(rt: &impl Abort, alloc: Global, text: &[u8], kind: ErrorKind) -> Resul
     for lines in ["", "\n---\n[\"encode\",[]]\n"] {
         let mut input = text.to_vec(alloc)?;
         input.extend_from_slice(lines.as_bytes())?;
-        for (form, way) in SERVED {
-            let (answer, out) = answered(alloc, form, way, input.as_slice())?;
-            assert_eq!(rt; answer, Err(SessionFault::Refused(kind)), "on {text:?}");
-            assert_eq!(rt; out.as_str(), "> ", "on {text:?}");
+        for way in SERVED {
+            let fault = Err(SessionFault::Refused(kind));
+            let is_so = is_answered(alloc, way, input.as_slice(), fault, "> ")?;
+            assert!(rt; is_so, "{way:?} on {text:?}");
         }
     }
     Ok(())
@@ -252,10 +253,10 @@ fn counts_levels(rt: HostRuntime) -> Result<(), Fail> {
 /// A line that is no UTF-8 is a bad command.
 #[test]
 fn answers_any_bytes(rt: HostRuntime) -> Result<(), Fail> {
-    for (form, way) in SERVED {
-        let (answer, out) = answered(rt.alloc(), form, way, b"1\n---\n\xff\n[\"encode\",[]]")?;
-        assert_eq!(rt; answer, Ok(()));
-        assert_eq!(rt; out.as_str(), "> bad command\n1\n");
+    for way in SERVED {
+        let input = b"1\n---\n\xff\n[\"encode\",[]]";
+        let is_so = is_answered(rt.alloc(), way, input, Ok(()), "> bad command\n1\n")?;
+        assert!(rt; is_so, "{way:?}");
     }
     Ok(())
 }

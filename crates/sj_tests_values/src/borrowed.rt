@@ -1,13 +1,13 @@
-use sj_borrowed::*;
+use sj_borrowed::to_value;
 use std::test::Fail;
 
-mod calls;
 mod documents;
 mod first_lines;
 mod known_keys;
-mod serialize;
+
+pub use sj_borrowed::Value;
 
 /// The document of a text.
-fn parsed<'v>(bytes: &'v mut Vec<u8>) -> Result<Value<'v>, Fail> {
+pub fn parsed<'v>(bytes: &'v mut Vec<u8>) -> Result<Value<'v>, Fail> {
     Ok(to_value(*bytes.allocator(), bytes.as_mut_slice())?)
 }

@@ -4,4 +4,6 @@
 #[cfg(test)]
 mod borrowed;
 #[cfg(test)]
+mod forms;
+#[cfg(test)]
 mod owned;

@@ -1,6 +1,6 @@
 //! Comparisons of lazy values, by what they mean and not by their form.
 
-use sj_document::owned_from_tape;
+use sj_document::{OwnedValue, owned_from_tape};
 use sj_lazy::Value;
 use sj_tape::to_tape;
 use sj_text_core::{Repeats, SameAs};
@@ -25,6 +25,29 @@ const ROWS: [(&str, &str, bool); 9] = [
     (r#""a""#, r#""\u0061""#, true),
 ];
 
+/// Whether the values are the same, the second in each form.
+fn is_same(alloc: Global, first: &Value, second: &Value) -> Result<[bool; 4], Fail> {
+    let mut written = second.clone()?;
+    written.as_mut(alloc)?;
+    let borrowed = second.clone()?.into_value(alloc)?;
+    Ok([
+        first.same_as(second),
+        first.same_as(&written),
+        written.same_as(first),
+        first.same_as(&borrowed),
+    ])
+}
+
+/// The same with the first in each form.
+fn compared(alloc: Global, first: &Value, second: &Value) -> Result<[[bool; 4]; 2], Fail> {
+    let mut upgraded = first.clone()?;
+    upgraded.as_mut(alloc)?;
+    Ok([
+        is_same(alloc, first, second)?,
+        is_same(alloc, &upgraded, second)?,
+    ])
+}
+
 #[test]
 fn forms_are_compared(rt: HostRuntime) -> Result<(), Fail> {
     let alloc = rt.alloc();
@@ -35,21 +58,49 @@ fn forms_are_compared(rt: HostRuntime) -> Result<(), Fail> {
         let right = to_tape(alloc, right.as_mut_slice())?;
         let first: Value<'_, '_, '_> = Value::from_tape(left.as_value());
         let second: Value<'_, '_, '_> = Value::from_tape(right.as_value());
+        assert_eq!(rt; compared(alloc, &first, &second)?, [[same; 4]; 2]);
+    }
+    Ok(())
+}
+
+/// Whether it is the same as an owned document, before and after its upgrade.
+fn is_owned(
+    alloc: Global,
+    value: &mut Value<'_, '_, '_>,
+    owned: &OwnedValue,
+) -> Result<[bool; 2], Fail> {
+    let before = value.same_as(owned);
+    value.as_mut(alloc)?;
+    Ok([before, value.same_as(owned)])
+}
+
+#[test]
+fn owned_documents_are_compared(rt: HostRuntime) -> Result<(), Fail> {
+    let alloc = rt.alloc();
+    for (left, right, same) in ROWS {
+        let mut left = left.as_bytes().to_vec(alloc)?;
+        let mut right = right.as_bytes().to_vec(alloc)?;
+        let left = to_tape(alloc, left.as_mut_slice())?;
+        let right = to_tape(alloc, right.as_mut_slice())?;
         let owned = owned_from_tape(alloc, right.as_value_repeats(Repeats::First))?;
-        let mut written = second.clone()?;
-        written.as_mut(alloc)?;
-        let borrowed = second.clone()?.into_value(alloc)?;
-        let mut upgraded = first.clone()?;
-        upgraded.as_mut(alloc)?;
-        assert_eq!(rt; first.same_as(&second), same);
-        assert_eq!(rt; first.same_as(&written), same);
-        assert_eq!(rt; written.same_as(&first), same);
-        assert_eq!(rt; upgraded.same_as(&written), same);
-        assert!(rt; first == first.clone()?);
-        assert_eq!(rt; first.same_as(&owned), same);
-        assert_eq!(rt; upgraded.same_as(&owned), same);
-        assert_eq!(rt; first.same_as(&borrowed), same);
-        assert_eq!(rt; upgraded.same_as(&borrowed), same);
+        let mut value: Value<'_, '_, '_> = Value::from_tape(left.as_value());
+        assert_eq!(rt; is_owned(alloc, &mut value, &owned)?, [same; 2]);
+    }
+    Ok(())
+}
+
+fn is_its_copy(value: &Value) -> Result<bool, Fail> {
+    Ok(*value == value.clone()?)
+}
+
+#[test]
+fn copies_are_equal(rt: HostRuntime) -> Result<(), Fail> {
+    let alloc = rt.alloc();
+    for (text, _, _) in ROWS {
+        let mut bytes = text.as_bytes().to_vec(alloc)?;
+        let tape = to_tape(alloc, bytes.as_mut_slice())?;
+        let value: Value<'_, '_, '_> = Value::from_tape(tape.as_value());
+        assert!(rt; is_its_copy(&value)?, "{text}");
     }
     Ok(())
 }
@@ -63,13 +114,24 @@ fn map_of(alloc: Global, entries: &[(&str, u8)]) -> Result<HashMap<String, u8>, 
     Ok(map)
 }
 
+type Map = HashMap<String, u8>;
+
+/// Whether a text is the same as each map, before and after its upgrade.
+fn is_map(alloc: Global, text: &str, one: &Map, two: &Map) -> Result<[[bool; 2]; 2], Fail> {
+    let mut bytes = text.as_bytes().to_vec(alloc)?;
+    let tape = to_tape(alloc, bytes.as_mut_slice())?;
+    let mut value: Value<'_, '_, '_> = Value::from_tape(tape.as_value());
+    let before = [value.same_as(one), value.same_as(two)];
+    value.as_mut(alloc)?;
+    Ok([before, [value.same_as(one), value.same_as(two)]])
+}
+
 #[test]
 fn maps_are_compared_key_by_key(rt: HostRuntime) -> Result<(), Fail> {
     let alloc = rt.alloc();
     let one = map_of(alloc, &[("a", 1)])?;
     let two = map_of(alloc, &[("a", 1), ("b", 2)])?;
-    let last = map_of(alloc, &[("a", 2)])?;
-    let rows = [
+    for (text, same_as_one, same_as_two) in [
         (r#"{"a":1,"a":2}"#, true, false),
         (r#"{"a":1}"#, true, false),
         (r#"{"b":2,"a":1}"#, false, true),
@@ -77,20 +139,21 @@ fn maps_are_compared_key_by_key(rt: HostRuntime) -> Result<(), Fail> {
         (r#"{"a":2}"#, false, false),
         ("{}", false, false),
         ("[1]", false, false),
-    ];
-    for (text, same_as_one, same_as_two) in rows {
-        let mut bytes = text.as_bytes().to_vec(alloc)?;
-        let tape = to_tape(alloc, bytes.as_mut_slice())?;
-        let mut value: Value<'_, '_, '_> = Value::from_tape(tape.as_value());
-        for _ in 0..2 {
-            assert_eq!(rt; value.same_as(&one), same_as_one, "{text}");
-            assert_eq!(rt; value.same_as(&two), same_as_two, "{text}");
-            value.as_mut(alloc)?;
-        }
+    ] {
+        let told = is_map(alloc, text, &one, &two)?;
+        assert_eq!(rt; told, [[same_as_one, same_as_two]; 2], "{text}");
     }
-    let mut bytes = br#"{"a":1,"a":2}"#.to_vec(alloc)?;
-    let tape = to_tape(alloc, bytes.as_mut_slice())?;
+    Ok(())
+}
+
+#[test]
+fn maps_are_compared_by_the_choice(rt: HostRuntime) -> Result<(), Fail> {
+    let alloc = rt.alloc();
+    let one = map_of(alloc, &[("a", 1)])?;
+    let last = map_of(alloc, &[("a", 2)])?;
+    let mut text = *br#"{"a":1,"a":2}"#;
+    let tape = to_tape(alloc, &mut text)?;
     let value: Value<'_, '_, '_> = Value::from_tape(tape.as_value_repeats(Repeats::Last));
-    assert!(rt; value.same_as(&last) && !value.same_as(&one));
+    assert_eq!(rt; [value.same_as(&last), value.same_as(&one)], [true, false]);
     Ok(())
 }

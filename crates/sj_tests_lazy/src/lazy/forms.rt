@@ -1,10 +1,10 @@
 //! What each call makes of the form.
 
-use super::keys_of;
+use super::{keys_of, prints};
 use sj_document::Document;
 use sj_lazy::{Shared, Value};
 use sj_tape::to_tape;
-use sj_text_core::{AccessError, StaticNode, TryMake, ValueAsScalar, Writable};
+use sj_text_core::{StaticNode, TryMake, ValueAsScalar, Writable};
 use std::alloc::Global;
 use std::borrow::CowStr;
 use std::test::Fail;
@@ -16,204 +16,191 @@ fn number<'i>(n: u64) -> Document<CowStr<'i>> {
 #[test]
 fn a_number_is_upgraded_by_a_write_that_finds_no_array(rt: HostRuntime) -> Result<(), Fail> {
     let alloc = rt.alloc();
-    let mut text = b"5".to_vec(alloc)?;
-    let tape = to_tape(alloc, text.as_mut_slice())?;
+    let mut text = *b"5";
+    let tape = to_tape(alloc, &mut text)?;
     let mut value: Value<'_, '_, '_> = Value::from_tape(tape.as_value());
-    assert!(rt; value.is_tape());
-    assert!(rt; value.as_array_mut(alloc)?.is_none());
-    assert!(rt; value.is_value());
-    assert_eq!(rt; value.as_u64(), Some(5));
+    let is_tape = value.is_tape();
+    let is_none = value.as_array_mut(alloc)?.is_none();
+    let told = [
+        is_tape,
+        is_none,
+        value.is_value(),
+        value.as_u64() == Some(5),
+    ];
+    assert_eq!(rt; told, [true; 4]);
     Ok(())
+}
+
+fn is_lent(value: &Value) -> bool {
+    matches!(value, Value::Value(Shared::Borrowed(_)))
+}
+
+fn is_owned(value: &Value) -> bool {
+    matches!(value, Value::Value(Shared::Owned(_)))
 }
 
 #[test]
 fn a_part_is_copied_before_it_is_written(rt: HostRuntime) -> Result<(), Fail> {
     let alloc = rt.alloc();
-    let mut text = b"[1,[2]]".to_vec(alloc)?;
-    let tape = to_tape(alloc, text.as_mut_slice())?;
+    let mut text = *b"[1,[2]]";
+    let tape = to_tape(alloc, &mut text)?;
     let mut value: Value<'_, '_, '_> = Value::from_tape(tape.as_value());
     value.as_mut(alloc)?;
     let mut part = value.get_idx(1).ok_or("an item")?;
-    assert!(rt; matches!(&part, Value::Value(Shared::Borrowed(_))));
+    let was_lent = is_lent(&part);
     part.push(alloc, number(3))?;
-    assert!(rt; matches!(&part, Value::Value(Shared::Owned(_))));
-    assert_eq!(rt; part.encode(alloc)?.as_str(), "[2,3]");
-    assert_eq!(rt; value.encode(alloc)?.as_str(), "[1,[2]]");
+    let told = [
+        was_lent,
+        is_owned(&part),
+        prints(alloc, &part, "[2,3]")?,
+        prints(alloc, &value, "[1,[2]]")?,
+    ];
+    assert_eq!(rt; told, [true; 4]);
     Ok(())
 }
 
 #[test]
-fn copies_keep_the_form(rt: HostRuntime) -> Result<(), Fail> {
+fn copies_of_a_tape_are_tapes(rt: HostRuntime) -> Result<(), Fail> {
     let alloc = rt.alloc();
-    let mut text = br#"{"a":[1],"a":2}"#.to_vec(alloc)?;
-    let tape = to_tape(alloc, text.as_mut_slice())?;
+    let mut text = *br#"{"a":[1],"a":2}"#;
+    let tape = to_tape(alloc, &mut text)?;
     let value: Value<'_, '_, '_> = Value::from_tape(tape.as_value());
-    assert!(rt; value.clone()?.is_tape());
-    assert!(rt; value.clone()?.into_owned(alloc)?.is_tape());
-    let mut owned = value.clone()?;
+    let null: Value<'_, '_, '_> = Value::null();
+    let told = [
+        value.clone()?.is_tape(),
+        value.clone()?.into_owned(alloc)?.is_tape(),
+        null.is_tape(),
+        null.clone()?.is_tape(),
+        null == Value::default(),
+    ];
+    assert_eq!(rt; told, [true; 5]);
+    Ok(())
+}
+
+#[test]
+fn copies_of_a_document_are_documents(rt: HostRuntime) -> Result<(), Fail> {
+    let alloc = rt.alloc();
+    let mut text = *br#"{"a":[1],"a":2}"#;
+    let tape = to_tape(alloc, &mut text)?;
+    let mut owned: Value<'_, '_, '_> = Value::from_tape(tape.as_value());
     owned.as_mut(alloc)?;
     let part = owned.get("a").ok_or("a member")?;
-    assert!(rt; matches!(part.clone()?, Value::Value(Shared::Borrowed(_))));
-    assert!(rt; matches!(part.into_owned(alloc)?, Value::Value(Shared::Owned(_))));
-    assert!(rt; matches!(owned.clone()?, Value::Value(Shared::Owned(_))));
-    assert_eq!(rt;
-        owned.into_value(alloc)?.encode(alloc)?.as_str(),
-        r#"{"a":[1]}"#
-    );
-    assert_eq!(rt;
-        value.into_value(alloc)?.encode(alloc)?.as_str(),
-        r#"{"a":[1]}"#
-    );
-    let null: Value<'_, '_, '_> = Value::null();
-    assert!(rt; null.is_tape() && null.clone()?.is_tape());
-    assert!(rt; null == Value::default());
+    let told = [
+        is_lent(&part.clone()?),
+        is_owned(&part.into_owned(alloc)?),
+        is_owned(&owned.clone()?),
+    ];
+    assert_eq!(rt; told, [true; 3]);
     Ok(())
+}
+
+/// Whether the document that it is made to is printed so.
+fn gives(alloc: Global, value: Value<'_, '_, '_>, print: &str) -> Result<bool, Fail> {
+    Ok(value.into_value(alloc)?.encode(alloc)?.as_str() == print)
+}
+
+#[test]
+fn each_form_is_made_to_a_document(rt: HostRuntime) -> Result<(), Fail> {
+    let alloc = rt.alloc();
+    let mut text = *br#"{"a":[1],"a":2}"#;
+    let tape = to_tape(alloc, &mut text)?;
+    let mut owned: Value<'_, '_, '_> = Value::from_tape(tape.as_value());
+    let value = owned.clone()?;
+    owned.as_mut(alloc)?;
+    let told = [
+        gives(alloc, owned, r#"{"a":[1]}"#)?,
+        gives(alloc, value, r#"{"a":[1]}"#)?,
+    ];
+    assert_eq!(rt; told, [true; 2]);
+    Ok(())
+}
+
+/// Whether the item is that text, or is no text where there is none.
+fn is_text(value: &Value, place: usize, text: Option<&str>) -> Result<bool, Fail> {
+    let taken = value.get_idx(place).ok_or("an item")?.into_string()?;
+    Ok(match (&taken, text) {
+        (Some(taken), Some(text)) => taken.as_str() == text,
+        (None, None) => true,
+        _ => false,
+    })
 }
 
 #[test]
 fn texts_are_taken_out_of_each_form(rt: HostRuntime) -> Result<(), Fail> {
     let alloc = rt.alloc();
-    let mut text = br#"["a",1]"#.to_vec(alloc)?;
-    let tape = to_tape(alloc, text.as_mut_slice())?;
+    let mut text = *br#"["a",1]"#;
+    let tape = to_tape(alloc, &mut text)?;
     let mut value: Value<'_, '_, '_> = Value::from_tape(tape.as_value());
     for _ in 0..2 {
-        let first = value.get_idx(0).ok_or("an item")?;
-        let taken = first.into_string()?.ok_or("a text")?;
-        assert_eq!(rt; taken.as_str(), "a");
-        let second = value.get_idx(1).ok_or("an item")?;
-        assert!(rt; second.into_string()?.is_none());
+        let told = [is_text(&value, 0, Some("a"))?, is_text(&value, 1, None)?];
+        assert_eq!(rt; told, [true; 2]);
         value.as_mut(alloc)?;
     }
+    Ok(())
+}
+
+#[test]
+fn texts_are_taken_out_of_what_is_made(rt: HostRuntime) -> Result<(), Fail> {
+    let alloc = rt.alloc();
     let words = vec![in alloc; String::from_str(alloc, "b")?]?;
     let words: Value<'_, '_, '_> = Value::try_make(alloc, words)?;
-    let word = words.get_idx(0).ok_or("an item")?;
-    assert_eq!(rt; word.into_string()?.ok_or("a text")?.as_str(), "b");
+    assert!(rt; is_text(&words, 0, Some("b"))?);
     Ok(())
 }
 
 #[test]
 fn the_first_write_upgrades(rt: HostRuntime) -> Result<(), Fail> {
     let alloc = rt.alloc();
-    let mut text = br#"{"key": "value", "snot": 42}"#.to_vec(alloc)?;
-    let tape = to_tape(alloc, text.as_mut_slice())?;
+    let mut text = *br#"{"key": "value", "snot": 42}"#;
+    let tape = to_tape(alloc, &mut text)?;
     let mut value: Value<'_, '_, '_> = Value::from_tape(tape.as_value());
-    assert_eq!(rt; value.get_str("key"), Some("value"));
-    assert!(rt; value.is_tape());
-    assert!(rt;
-        value
-            .insert(alloc, CowStr::Borrowed("new"), number(42))?
-            .is_none()
-    );
-    assert!(rt; value.is_value());
-    assert_eq!(rt; value.get_str("key"), Some("value"));
-    assert_eq!(rt; keys_of(alloc, &value)?.as_str(), "key snot new ");
-    assert_eq!(rt; value.get_i8("snot"), Some(42));
+    let is_tape = value.get_str("key") == Some("value") && value.is_tape();
+    let before = value.insert(alloc, CowStr::Borrowed("new"), number(42))?;
+    let told = [
+        is_tape,
+        before.is_none(),
+        value.is_value(),
+        value.get_str("key") == Some("value"),
+        keys_of(alloc, &value)?.as_str() == "key snot new ",
+        value.get_i8("snot") == Some(42),
+    ];
+    assert_eq!(rt; told, [true; 6]);
+    Ok(())
+}
+
+#[test]
+fn members_are_removed(rt: HostRuntime) -> Result<(), Fail> {
+    let alloc = rt.alloc();
+    let mut text = *br#"{"key":"value","snot":42,"new":42}"#;
+    let tape = to_tape(alloc, &mut text)?;
+    let mut value: Value<'_, '_, '_> = Value::from_tape(tape.as_value());
+    value.as_mut(alloc)?;
     let gone = value.remove(alloc, "snot")?.ok_or("a member")?;
     assert_eq!(rt; gone.as_u64(), Some(42));
-    assert_eq!(rt;
-        value.encode(alloc)?.as_str(),
-        r#"{"key":"value","new":42}"#
-    );
-    Ok(())
-}
-
-#[test]
-fn repeats_are_gone_once_it_is_written(rt: HostRuntime) -> Result<(), Fail> {
-    let alloc = rt.alloc();
-    let mut text = br#"{"a":1,"a":2}"#.to_vec(alloc)?;
-    let tape = to_tape(alloc, text.as_mut_slice())?;
-
-    let mut value: Value<'_, '_, '_> = Value::from_tape(tape.as_value());
-    assert_eq!(rt; value.get_u8("a"), Some(1));
-    assert_eq!(rt; value.encode(alloc)?.as_str(), r#"{"a":1,"a":2}"#);
-    assert!(rt; value.as_object_mut(alloc)?.is_some());
-    assert_eq!(rt; value.get_u8("a"), Some(1));
-    assert_eq!(rt; value.encode(alloc)?.as_str(), r#"{"a":1}"#);
-
-    let mut value: Value<'_, '_, '_> = Value::from_tape(tape.as_value());
-    let gone = value.remove(alloc, "a")?.ok_or("a member")?;
-    assert_eq!(rt; gone.as_u64(), Some(1));
-    assert_eq!(rt; value.encode(alloc)?.as_str(), "{}");
-
-    // A write that finds no array upgrades too.
-    let mut value: Value<'_, '_, '_> = Value::from_tape(tape.as_value());
-    assert_eq!(rt; value.as_object().ok_or("an object")?.len(), 2);
-    assert!(rt; matches!(value.pop(alloc), Err(AccessError::NotAnArray)));
-    assert!(rt; value.is_value());
-    assert_eq!(rt; value.encode(alloc)?.as_str(), r#"{"a":1}"#);
-    Ok(())
-}
-
-#[test]
-fn refused_writes_hand_the_value_back(rt: HostRuntime) -> Result<(), Fail> {
-    let alloc = rt.alloc();
-    let mut text = b"null".to_vec(alloc)?;
-    let tape = to_tape(alloc, text.as_mut_slice())?;
-    let mut value: Value<'_, '_, '_> = Value::from_tape(tape.as_value());
-    let Err(refused) = value.insert(alloc, CowStr::Borrowed("k"), number(7)) else {
-        return Err("a refusal".into());
-    };
-    assert_eq!(rt; refused.why, AccessError::NotAnObject);
-    assert_eq!(rt; refused.value.as_u8(), Some(7));
-    let Err(refused) = value.push(alloc, number(8)) else {
-        return Err("a refusal".into());
-    };
-    assert_eq!(rt; refused.why, AccessError::NotAnArray);
-    assert_eq!(rt; refused.value.as_u8(), Some(8));
-    assert!(rt; matches!(value.remove(alloc, "k"), Err(AccessError::NotAnObject)));
-    assert!(rt; matches!(value.pop(alloc), Err(AccessError::NotAnArray)));
-    let nothing = value.try_insert(alloc, CowStr::Borrowed("k"), number(9))?;
-    assert!(rt; nothing.is_none());
-    assert!(rt; value.get_mut(alloc, "k")?.is_none());
-    assert!(rt; matches!(value.object_mut(alloc), Err(AccessError::NotAnObject)));
-    assert!(rt; matches!(value.array_mut(alloc), Err(AccessError::NotAnArray)));
-    assert_eq!(rt; value.encode(alloc)?.as_str(), "null");
-    Ok(())
-}
-
-#[test]
-fn parts_are_written_in_place(rt: HostRuntime) -> Result<(), Fail> {
-    let alloc = rt.alloc();
-    let mut text = br#"{"a":[1],"b":2}"#.to_vec(alloc)?;
-    let tape = to_tape(alloc, text.as_mut_slice())?;
-    let mut value: Value<'_, '_, '_> = Value::from_tape(tape.as_value());
-    if let Some(part) = value.get_mut(alloc, "a")? {
-        part.push(number(3))?;
-    }
-    let members = value.object_mut(alloc)?;
-    members.insert(CowStr::Borrowed("b"), number(4))?;
-    assert!(rt;
-        value
-            .try_insert(alloc, CowStr::Borrowed("c"), number(5))?
-            .is_none()
-    );
-    assert_eq!(rt; value.encode(alloc)?.as_str(), r#"{"a":[1,3],"b":4,"c":5}"#);
-    let mut items = value.get("a").ok_or("a member")?;
-    items.array_mut(alloc)?.push(number(6))?;
-    assert_eq!(rt; items.encode(alloc)?.as_str(), "[1,3,6]");
-    let last = items.pop(alloc)?.ok_or("an item")?;
-    assert_eq!(rt; last.as_u64(), Some(6));
-    assert_eq!(rt; items.encode_pp(alloc)?.as_str(), "[\n  1,\n  3\n]");
+    assert!(rt; prints(alloc, &value, r#"{"key":"value","new":42}"#)?);
     Ok(())
 }
 
 /// What an item is displayed as.
-fn displayed(alloc: Global, value: &Value, place: usize) -> Result<String, Fail> {
+fn is_displayed(alloc: Global, value: &Value, place: usize, shown: &str) -> Result<bool, Fail> {
     let item = value.get_idx(place).ok_or("an item")?;
-    Ok(format!(in alloc; "{item}")?)
+    Ok(format!(in alloc; "{item}")?.as_str() == shown)
 }
 
 #[test]
 fn values_are_displayed(rt: HostRuntime) -> Result<(), Fail> {
     let alloc = rt.alloc();
-    let mut text = br#"[null,-5,"a\"b",{"k":[]}]"#.to_vec(alloc)?;
-    let tape = to_tape(alloc, text.as_mut_slice())?;
+    let mut text = *br#"[null,-5,"a\"b",{"k":[]}]"#;
+    let tape = to_tape(alloc, &mut text)?;
     let mut value: Value<'_, '_, '_> = Value::from_tape(tape.as_value());
     for _ in 0..2 {
-        assert_eq!(rt; displayed(alloc, &value, 0)?.as_str(), "null");
-        assert_eq!(rt; displayed(alloc, &value, 1)?.as_str(), "-5");
-        assert_eq!(rt; displayed(alloc, &value, 2)?.as_str(), "a\"b");
-        assert_eq!(rt; displayed(alloc, &value, 3)?.as_str(), r#"{"k":[]}"#);
+        let told = [
+            is_displayed(alloc, &value, 0, "null")?,
+            is_displayed(alloc, &value, 1, "-5")?,
+            is_displayed(alloc, &value, 2, "a\"b")?,
+            is_displayed(alloc, &value, 3, r#"{"k":[]}"#)?,
+        ];
+        assert_eq!(rt; told, [true; 4]);
         value.as_mut(alloc)?;
     }
     Ok(())

@@ -1,56 +1,75 @@
 //! What pointers find in each form.
 
 use super::DOCUMENT;
+use sj_document::Document;
+use sj_object::KeyMade;
 use sj_path::{borrowed, lazy, owned, pointer};
 use sj_tape::to_tape;
 use sj_text_core::{Repeats, Writable};
+use std::alloc::Global;
 use std::test::Fail;
 
 /// Pointers, and the compact prints of what they find.
-const FOUND: [(&str, &str); 13] = [
-    ("", DOCUMENT),
-    ("/foo", r#"["bar","baz"]"#),
-    ("/foo/0", r#""bar""#),
-    ("/foo/1", r#""baz""#),
-    ("/", "0"),
-    ("/a~1b", "1"),
-    ("/c%d", "2"),
-    ("/e^f", "3"),
-    ("/g|h", "4"),
-    (r"/i\j", "5"),
-    ("/k\"l", "6"),
-    ("/ ", "7"),
-    ("/m~0n", "8"),
+const ROWS: [(&str, Option<&str>); 22] = [
+    ("", Some(DOCUMENT)),
+    ("/foo", Some(r#"["bar","baz"]"#)),
+    ("/foo/0", Some(r#""bar""#)),
+    ("/foo/1", Some(r#""baz""#)),
+    ("/", Some("0")),
+    ("/a~1b", Some("1")),
+    ("/c%d", Some("2")),
+    ("/e^f", Some("3")),
+    ("/g|h", Some("4")),
+    (r"/i\j", Some("5")),
+    ("/k\"l", Some("6")),
+    ("/ ", Some("7")),
+    ("/m~0n", Some("8")),
+    ("/foo/2", None),
+    ("/foo/00", None),
+    ("/foo/-", None),
+    ("/foo/18446744073709551616", None),
+    ("/foo/0/x", None),
+    ("/foo/", None),
+    ("/m~01n", None),
+    ("/bar", None),
+    ("//", None),
 ];
 
-const MISSING: [&str; 9] = [
-    "/foo/2",
-    "/foo/00",
-    "/foo/-",
-    "/foo/18446744073709551616",
-    "/foo/0/x",
-    "/foo/",
-    "/m~01n",
-    "/bar",
-    "//",
-];
+/// Whether that is found.
+fn is_found<K: KeyMade>(
+    alloc: Global,
+    found: Option<&Document<K>>,
+    want: Option<&str>,
+) -> Result<bool, Fail> {
+    match (found, want) {
+        (Some(found), Some(want)) => Ok(found.encode(alloc)?.as_str() == want),
+        (None, None) => Ok(true),
+        _ => Ok(false),
+    }
+}
+
+/// Whether that is found to be written.
+fn is_lent<K: KeyMade>(
+    alloc: Global,
+    found: Option<&mut Document<K>>,
+    want: Option<&str>,
+) -> Result<bool, Fail> {
+    match found {
+        Some(found) => is_found(alloc, Some(found), want),
+        None => Ok(want.is_none()),
+    }
+}
 
 #[test]
 fn owned_documents(rt: HostRuntime) -> Result<(), Fail> {
     let alloc = rt.alloc();
     let mut bytes = DOCUMENT.as_bytes().to_vec(alloc)?;
     let mut value = sj_owned::to_value(alloc, bytes.as_mut_slice())?;
-    for (text, want) in FOUND {
+    for (text, want) in ROWS {
         let pointer = pointer(alloc, text)?;
-        let found = owned::find(&value, &pointer).ok_or("a value")?;
-        assert_eq!(rt; found.encode(alloc)?.as_str(), want, "{text}");
-        let found = owned::find_mut(&mut value, &pointer).ok_or("a value")?;
-        assert_eq!(rt; found.encode(alloc)?.as_str(), want, "{text}");
-    }
-    for text in MISSING {
-        let pointer = pointer(alloc, text)?;
-        assert!(rt; owned::find(&value, &pointer).is_none(), "{text}");
-        assert!(rt; owned::find_mut(&mut value, &pointer).is_none(), "{text}");
+        let is_read = is_found(alloc, owned::find(&value, &pointer), want)?;
+        let is_written = is_lent(alloc, owned::find_mut(&mut value, &pointer), want)?;
+        assert!(rt; is_read && is_written, "{text}");
     }
     Ok(())
 }
@@ -60,22 +79,30 @@ fn borrowed_documents(rt: HostRuntime) -> Result<(), Fail> {
     let alloc = rt.alloc();
     let mut bytes = DOCUMENT.as_bytes().to_vec(alloc)?;
     let mut value = sj_borrowed::to_value(alloc, bytes.as_mut_slice())?;
-    for (text, want) in FOUND {
+    for (text, want) in ROWS {
         let pointer = pointer(alloc, text)?;
-        let found = borrowed::find(&value, &pointer).ok_or("a value")?;
-        assert_eq!(rt; found.encode(alloc)?.as_str(), want, "{text}");
-        let found = borrowed::find_mut(&mut value, &pointer).ok_or("a value")?;
-        assert_eq!(rt; found.encode(alloc)?.as_str(), want, "{text}");
-    }
-    for text in MISSING {
-        let pointer = pointer(alloc, text)?;
-        assert!(rt; borrowed::find(&value, &pointer).is_none(), "{text}");
-        assert!(rt;
-            borrowed::find_mut(&mut value, &pointer).is_none(),
-            "{text}"
-        );
+        let is_read = is_found(alloc, borrowed::find(&value, &pointer), want)?;
+        let is_written = is_lent(alloc, borrowed::find_mut(&mut value, &pointer), want)?;
+        assert!(rt; is_read && is_written, "{text}");
     }
     Ok(())
+}
+
+/// Whether that is found, in the form of the whole.
+fn is_found_as(
+    alloc: Global,
+    value: &lazy::Value,
+    text: &str,
+    want: Option<&str>,
+) -> Result<bool, Fail> {
+    let pointer = pointer(alloc, text)?;
+    match (lazy::find(value, &pointer), want) {
+        (Some(found), Some(want)) => {
+            Ok(found.is_value() == value.is_value() && found.encode(alloc)?.as_str() == want)
+        }
+        (None, None) => Ok(true),
+        _ => Ok(false),
+    }
 }
 
 #[test]
@@ -84,24 +111,28 @@ fn lazy_documents(rt: HostRuntime) -> Result<(), Fail> {
     let mut bytes = DOCUMENT.as_bytes().to_vec(alloc)?;
     let tape = to_tape(alloc, bytes.as_mut_slice())?;
     let mut value: lazy::Value<'_, '_, '_> = lazy::Value::from_tape(tape.as_value());
-    for owned in [false, true] {
-        if owned {
-            value.as_mut(alloc)?;
-        }
-        for (text, want) in FOUND {
-            let found = lazy::find(&value, &pointer(alloc, text)?).ok_or("a value")?;
-            assert_eq!(rt; found.encode(alloc)?.as_str(), want, "{text}");
-            assert_eq!(rt; found.is_value(), owned);
-        }
-        for text in MISSING {
-            assert!(rt;
-                lazy::find(&value, &pointer(alloc, text)?).is_none(),
-                "{text}"
-            );
-        }
-        assert_eq!(rt; value.is_value(), owned);
+    for (text, want) in ROWS {
+        assert!(rt; is_found_as(alloc, &value, text, want)?, "{text}");
     }
+    assert!(rt; value.is_tape());
+    value.as_mut(alloc)?;
+    for (text, want) in ROWS {
+        assert!(rt; is_found_as(alloc, &value, text, want)?, "{text}");
+    }
+    assert!(rt; value.is_value());
     Ok(())
+}
+
+/// Whether that is found to be written, and the value is a document then.
+fn is_upgraded(
+    alloc: Global,
+    value: &mut lazy::Value<'_, '_, '_>,
+    text: &str,
+    want: Option<&str>,
+) -> Result<bool, Fail> {
+    let pointer = pointer(alloc, text)?;
+    let is_written = is_lent(alloc, lazy::find_mut(value, alloc, &pointer)?, want)?;
+    Ok(is_written && value.is_value())
 }
 
 #[test]
@@ -109,19 +140,9 @@ fn lazy_writes_upgrade_first(rt: HostRuntime) -> Result<(), Fail> {
     let alloc = rt.alloc();
     let mut bytes = DOCUMENT.as_bytes().to_vec(alloc)?;
     let tape = to_tape(alloc, bytes.as_mut_slice())?;
-    for (text, want) in FOUND {
+    for (text, want) in ROWS {
         let mut value: lazy::Value<'_, '_, '_> = lazy::Value::from_tape(tape.as_value());
-        let found = lazy::find_mut(&mut value, alloc, &pointer(alloc, text)?)?.ok_or("a value")?;
-        assert_eq!(rt; found.encode(alloc)?.as_str(), want, "{text}");
-        assert!(rt; value.is_value());
-    }
-    for text in MISSING {
-        let mut value: lazy::Value<'_, '_, '_> = lazy::Value::from_tape(tape.as_value());
-        assert!(rt;
-            lazy::find_mut(&mut value, alloc, &pointer(alloc, text)?)?.is_none(),
-            "{text}"
-        );
-        assert!(rt; value.is_value());
+        assert!(rt; is_upgraded(alloc, &mut value, text, want)?, "{text}");
     }
     Ok(())
 }
@@ -129,16 +150,15 @@ fn lazy_writes_upgrade_first(rt: HostRuntime) -> Result<(), Fail> {
 #[test]
 fn tapes_go_by_their_choice(rt: HostRuntime) -> Result<(), Fail> {
     let alloc = rt.alloc();
-    let mut bytes = br#"{"a":[1],"b":2,"a":[3,{"c":4,"c":5}]}"#.to_vec(alloc)?;
-    let tape = to_tape(alloc, bytes.as_mut_slice())?;
+    let mut bytes = *br#"{"a":[1],"b":2,"a":[3,{"c":4,"c":5}]}"#;
+    let tape = to_tape(alloc, &mut bytes)?;
     for (repeats, text, want) in [
         (Repeats::First, "/a", "[1]"),
         (Repeats::Last, "/a", r#"[3,{"c":4,"c":5}]"#),
         (Repeats::Last, "/a/1/c", "5"),
     ] {
         let value: lazy::Value<'_, '_, '_> = lazy::Value::from_tape(tape.as_value_repeats(repeats));
-        let found = lazy::find(&value, &pointer(alloc, text)?).ok_or("a value")?;
-        assert_eq!(rt; found.encode(alloc)?.as_str(), want);
+        assert!(rt; is_found_as(alloc, &value, text, Some(want))?, "{text}");
     }
     Ok(())
 }

@@ -20,69 +20,99 @@ const WRITES: [(&str, &str, &str); 5] = [
 
 const MISSING: [&str; 6] = ["/a/2", "/a/-", "/a/01", "/d", "/c/0", "/a/1/b"];
 
-#[test]
-fn owned_documents(rt: HostRuntime) -> Result<(), Fail> {
-    let alloc = rt.alloc();
-    for (text, before, after) in WRITES {
-        let mut bytes = SMALL.as_bytes().to_vec(alloc)?;
-        let mut value = sj_owned::to_value(alloc, bytes.as_mut_slice())?;
-        let Ok(old) = owned::replace(&mut value, &pointer(alloc, text)?, Document::null()) else {
-            return Err(Fail::from("a value"));
-        };
-        assert_eq!(rt; old.encode(alloc)?.as_str(), before);
-        assert_eq!(rt; value.encode(alloc)?.as_str(), after);
-    }
+/// Whether both are printed so.
+fn prints<A: Writable, B: Writable>(
+    alloc: Global,
+    one: &A,
+    first: &str,
+    other: &B,
+    second: &str,
+) -> Result<bool, Fail> {
+    Ok(one.encode(alloc)?.as_str() == first && other.encode(alloc)?.as_str() == second)
+}
+
+/// Whether a null is put there, and what stood there comes out.
+fn owned_is_replaced(alloc: Global, text: &str, before: &str, after: &str) -> Result<bool, Fail> {
     let mut bytes = SMALL.as_bytes().to_vec(alloc)?;
     let mut value = sj_owned::to_value(alloc, bytes.as_mut_slice())?;
-    for text in MISSING {
-        let new = Document::Static(StaticNode::U64(7));
-        let Err(back) = owned::replace(&mut value, &pointer(alloc, text)?, new) else {
-            return Err(Fail::from("none"));
-        };
-        assert_eq!(rt; back.encode(alloc)?.as_str(), "7");
-        assert_eq!(rt; value.encode(alloc)?.as_str(), SMALL);
+    match owned::replace(&mut value, &pointer(alloc, text)?, Document::null()) {
+        Ok(old) => prints(alloc, &old, before, &value, after),
+        Err(_) => Ok(false),
     }
-    Ok(())
 }
 
-#[test]
-fn borrowed_documents(rt: HostRuntime) -> Result<(), Fail> {
-    let alloc = rt.alloc();
-    for (text, before, after) in WRITES {
-        let mut bytes = SMALL.as_bytes().to_vec(alloc)?;
-        let mut value = sj_borrowed::to_value(alloc, bytes.as_mut_slice())?;
-        let Ok(old) = borrowed::replace(&mut value, &pointer(alloc, text)?, Document::null()) else {
-            return Err(Fail::from("a value"));
-        };
-        assert_eq!(rt; old.encode(alloc)?.as_str(), before);
-        assert_eq!(rt; value.encode(alloc)?.as_str(), after);
+/// The same of a borrowed document.
+fn borrowed_is_replaced(
+    alloc: Global,
+    text: &str,
+    before: &str,
+    after: &str,
+) -> Result<bool, Fail> {
+    let mut bytes = SMALL.as_bytes().to_vec(alloc)?;
+    let mut value = sj_borrowed::to_value(alloc, bytes.as_mut_slice())?;
+    match borrowed::replace(&mut value, &pointer(alloc, text)?, Document::null()) {
+        Ok(old) => prints(alloc, &old, before, &value, after),
+        Err(_) => Ok(false),
     }
-    Ok(())
 }
 
-#[test]
-fn lazy_documents(rt: HostRuntime) -> Result<(), Fail> {
-    let alloc = rt.alloc();
+/// The same of a lazy one.
+fn lazy_is_replaced(alloc: Global, text: &str, before: &str, after: &str) -> Result<bool, Fail> {
     let mut bytes = SMALL.as_bytes().to_vec(alloc)?;
     let tape = to_tape(alloc, bytes.as_mut_slice())?;
-    for (text, before, after) in WRITES {
-        let mut value: lazy::Value<'_, '_, '_> = lazy::Value::from_tape(tape.as_value());
-        let pointer = pointer(alloc, text)?;
-        let Ok(Ok(old)) = lazy::replace(&mut value, alloc, &pointer, Document::null()) else {
-            return Err(Fail::from("a value"));
-        };
-        assert_eq!(rt; old.encode(alloc)?.as_str(), before);
-        assert_eq!(rt; value.encode(alloc)?.as_str(), after);
+    let mut value: lazy::Value<'_, '_, '_> = lazy::Value::from_tape(tape.as_value());
+    let pointer = pointer(alloc, text)?;
+    match lazy::replace(&mut value, alloc, &pointer, Document::null())? {
+        Ok(old) => prints(alloc, &old, before, &value, after),
+        Err(_) => Ok(false),
     }
+}
+
+#[test]
+fn documents_are_replaced(rt: HostRuntime) -> Result<(), Fail> {
+    let alloc = rt.alloc();
+    for (text, before, after) in WRITES {
+        let told = [
+            owned_is_replaced(alloc, text, before, after)?,
+            borrowed_is_replaced(alloc, text, before, after)?,
+            lazy_is_replaced(alloc, text, before, after)?,
+        ];
+        assert_eq!(rt; told, [true; 3], "{text}");
+    }
+    Ok(())
+}
+
+/// Whether the number comes back, and the document stays.
+fn owned_is_left(alloc: Global, text: &str) -> Result<bool, Fail> {
+    let mut bytes = SMALL.as_bytes().to_vec(alloc)?;
+    let mut value = sj_owned::to_value(alloc, bytes.as_mut_slice())?;
+    let new = Document::Static(StaticNode::U64(7));
+    match owned::replace(&mut value, &pointer(alloc, text)?, new) {
+        Ok(_) => Ok(false),
+        Err(back) => prints(alloc, &back, "7", &value, SMALL),
+    }
+}
+
+/// The same of a null and a lazy document, which is upgraded.
+fn lazy_is_left(alloc: Global, text: &str) -> Result<bool, Fail> {
+    let mut bytes = SMALL.as_bytes().to_vec(alloc)?;
+    let tape = to_tape(alloc, bytes.as_mut_slice())?;
+    let mut value: lazy::Value<'_, '_, '_> = lazy::Value::from_tape(tape.as_value());
+    let pointer = pointer(alloc, text)?;
+    match lazy::replace(&mut value, alloc, &pointer, Document::null())? {
+        Ok(_) => Ok(false),
+        Err(back) => Ok(value.is_value() && prints(alloc, &back, "null", &value, SMALL)?),
+    }
+}
+
+#[test]
+fn documents_are_left(rt: HostRuntime) -> Result<(), Fail> {
     for text in MISSING {
-        let mut value: lazy::Value<'_, '_, '_> = lazy::Value::from_tape(tape.as_value());
-        let pointer = pointer(alloc, text)?;
-        let Ok(Err(back)) = lazy::replace(&mut value, alloc, &pointer, Document::null()) else {
-            return Err(Fail::from("none"));
-        };
-        assert_eq!(rt; back.encode(alloc)?.as_str(), "null");
-        assert_eq!(rt; value.encode(alloc)?.as_str(), SMALL);
-        assert!(rt; value.is_value());
+        let told = [
+            owned_is_left(rt.alloc(), text)?,
+            lazy_is_left(rt.alloc(), text)?,
+        ];
+        assert_eq!(rt; told, [true; 2], "{text}");
     }
     Ok(())
 }
@@ -117,9 +147,12 @@ fn references_are_written_through(rt: HostRuntime) -> Result<(), Fail> {
     let alloc = rt.alloc();
     for (text, _, after) in WRITES {
         let pointer = pointer(alloc, text)?;
-        assert_eq!(rt; owned_with_null(alloc, &pointer)?.as_str(), after);
-        assert_eq!(rt; borrowed_with_null(alloc, &pointer)?.as_str(), after);
-        assert_eq!(rt; lazy_with_null(alloc, &pointer)?.as_str(), after);
+        let told = [
+            owned_with_null(alloc, &pointer)?.as_str() == after,
+            borrowed_with_null(alloc, &pointer)?.as_str() == after,
+            lazy_with_null(alloc, &pointer)?.as_str() == after,
+        ];
+        assert_eq!(rt; told, [true; 3], "{text}");
     }
     Ok(())
 }

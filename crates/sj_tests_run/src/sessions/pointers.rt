@@ -1,12 +1,11 @@
 //! Pointers as paths of command lines, and tokens as steps.
 
+use super::repeats::is_answered;
 use super::{SERVED, check};
 use sj_document::{BorrowedValue, OwnedValue};
 use sj_lazy::Value;
 use sj_object::deserialize;
-use sj_run::{
-    BorrowedDoc, Command, Document, LazyDoc, OwnedDoc, Reply, Step, Way, session_repeats,
-};
+use sj_run::{BorrowedDoc, Command, Document, LazyDoc, OwnedDoc, Reply, Step, Way};
 use sj_tape::to_tape;
 use sj_text_core::Repeats;
 use std::alloc::Global;
@@ -76,10 +75,10 @@ fn pointers_find_in_lines(rt: HostRuntime) -> Result<(), Fail> {
     let alloc = rt.alloc();
     for (pointer, print) in FOUND {
         let want = reply(alloc, print)?;
-        let read = input(alloc, "encode", pointer, "")?;
-        check(&rt, alloc, read.as_str(), want.as_str())?;
-        let write = input(alloc, "put", pointer, ",null")?;
-        check(&rt, alloc, write.as_str(), want.as_str())?;
+        for (name, behind) in [("encode", ""), ("put", ",null")] {
+            let given = input(alloc, name, pointer, behind)?;
+            check(&rt, alloc, given.as_str(), want.as_str())?;
+        }
     }
     Ok(())
 }
@@ -88,14 +87,16 @@ fn pointers_find_in_lines(rt: HostRuntime) -> Result<(), Fail> {
 #[test]
 fn pointers_miss_in_lines(rt: HostRuntime) -> Result<(), Fail> {
     let alloc = rt.alloc();
+    let left = format!(in alloc; "> missing\n{DOCUMENT}\n")?;
     for pointer in MISSING {
         let path = format!(in alloc; "\"{pointer}\"")?;
-        let read = input(alloc, "encode", path.as_str(), "")?;
-        check(&rt, alloc, read.as_str(), "> missing\n")?;
-        let mut write = input(alloc, "put", path.as_str(), ",null")?;
-        write.push_str("\n[\"encode\",\"\"]")?;
-        let want = format!(in alloc; "> missing\n{DOCUMENT}\n")?;
-        check(&rt, alloc, write.as_str(), want.as_str())?;
+        for (name, behind, want) in [
+            ("encode", "", "> missing\n"),
+            ("put", ",null]\n[\"encode\",\"\"", left.as_str()),
+        ] {
+            let given = input(alloc, name, path.as_str(), behind)?;
+            check(&rt, alloc, given.as_str(), want)?;
+        }
     }
     Ok(())
 }
@@ -114,6 +115,17 @@ fn other_texts_are_bad(rt: HostRuntime) -> Result<(), Fail> {
     Ok(())
 }
 
+const LINES: &str = r#"---
+["encode","/0"]
+["encode","/39/v"]
+["encode","/l/0/v"]
+["put","/33/v",[8]]
+["push","/33/v",9]
+["encode","/33"]
+["pop","/40"]
+["insert","/l/0","w",1]
+["encode","/l"]"#;
+
 /// An object with more members than a plain list holds, the last of them an array.
 #[test]
 fn tokens_find_among_many(rt: HostRuntime) -> Result<(), Fail> {
@@ -122,10 +134,8 @@ fn tokens_find_among_many(rt: HostRuntime) -> Result<(), Fail> {
     for i in 0u8..40 {
         given.push_str(format!(in alloc; "\"{i}\":{{\"v\":{i}}},")?.as_str())?;
     }
-    given.push_str("\"l\":[{\"v\":7}]}\n---\n")?;
-    given.push_str("[\"encode\",\"/0\"]\n[\"encode\",\"/39/v\"]\n[\"encode\",\"/l/0/v\"]\n")?;
-    given.push_str("[\"put\",\"/33/v\",[8]]\n[\"push\",\"/33/v\",9]\n[\"encode\",\"/33\"]\n")?;
-    given.push_str("[\"pop\",\"/40\"]\n[\"insert\",\"/l/0\",\"w\",1]\n[\"encode\",\"/l\"]")?;
+    given.push_str("\"l\":[{\"v\":7}]}\n")?;
+    given.push_str(LINES)?;
     let want = "> {\"v\":0}\n39\n7\n33\nok\n{\"v\":[8,9]}\nmissing\nnone\n[{\"v\":7,\"w\":1}]\n";
     check(&rt, alloc, given.as_str(), want)
 }
@@ -133,95 +143,96 @@ fn tokens_find_among_many(rt: HostRuntime) -> Result<(), Fail> {
 /// Before a lazy document's first write a token finds the member that counts.
 #[test]
 fn tokens_go_by_the_choice(rt: HostRuntime) -> Result<(), Fail> {
-    let alloc = rt.alloc();
     let given =
         "{\"a\":1,\"b\":2,\"a\":[3,{\"c\":4,\"c\":5}]}\n---\n[\"encode\",\"/a/1/c\"]\n[\"put\",\"/b\",0]\n[\"encode\",\"\"]";
     for (repeats, want) in [
-        (Repeats::First, "missing\n2\n{\"a\":1,\"b\":0}\n"),
-        (Repeats::Last, "5\n2\n{\"a\":[3,{\"c\":5}],\"b\":0}\n"),
+        (Repeats::First, "> missing\n2\n{\"a\":1,\"b\":0}\n"),
+        (Repeats::Last, "> 5\n2\n{\"a\":[3,{\"c\":5}],\"b\":0}\n"),
     ] {
-        for (form, way) in SERVED {
-            let mut bytes = given.as_bytes().to_vec(alloc)?;
-            let mut out = Vec::new(alloc);
-            let answer = session_repeats(alloc, form, way, repeats, bytes.as_mut_slice(), &mut out);
-            assert_eq!(rt; answer, Ok(()));
-            assert_eq!(rt;
-                String::from_utf8(out)?.as_str(),
-                want,
-                "{form:?} {way:?} {repeats:?}"
-            );
+        for way in SERVED {
+            let is_so = is_answered(rt.alloc(), way, repeats, given, want)?;
+            assert!(rt; is_so, "{way:?} {repeats:?}");
         }
     }
     Ok(())
 }
 
-fn path(alloc: Global, steps: [Step; 2]) -> Result<Vec<Step>, Fail> {
-    let mut path = Vec::new(alloc);
-    for step in steps {
-        path.push(step)?;
+/// Pairs of steps, each a key (`k`), a token (`t`) or the place 0 (`i`), and what is printed of what
+/// they find. A token may name a position, and a key may not.
+const STEPS: [(char, &str, char, &str, &str); 13] = [
+    ('k', "foo", 't', "1", "\"baz\""),
+    ('t', "foo", 't', "1", "\"baz\""),
+    ('t', "foo", 'k', "1", "missing"),
+    ('k', "foo", 't', "01", "missing"),
+    ('t', "foo", 't', "01", "missing"),
+    ('t', "foo", 'k', "01", "missing"),
+    ('k', "foo", 't', "foo", "missing"),
+    ('t', "foo", 't', "foo", "missing"),
+    ('t', "foo", 'k', "foo", "missing"),
+    ('k', "a/b", 't', "0", "missing"),
+    ('t', "a/b", 't', "0", "missing"),
+    ('t', "a/b", 'k', "0", "missing"),
+    ('t', "foo", 'i', "", "\"bar\""),
+];
+
+fn step(alloc: Global, kind: char, name: &str) -> Result<Step, Fail> {
+    if kind == 'i' {
+        return Ok(Step::Idx(0));
     }
+    let name = String::from_str(alloc, name)?;
+    Ok(if kind == 'k' {
+        Step::Key(name)
+    } else {
+        Step::Token(name)
+    })
+}
+
+/// The path of these two steps.
+fn path(alloc: Global, kinds: [char; 2], names: [&str; 2]) -> Result<Vec<Step>, Fail> {
+    let mut path = Vec::new(alloc);
+    path.push(step(alloc, kinds[0], names[0])?)?;
+    path.push(step(alloc, kinds[1], names[1])?)?;
     Ok(path)
 }
 
-fn text(alloc: Global, text: &str) -> Result<String, Fail> {
-    Ok(String::from_str(alloc, text)?)
-}
-
-/// The print of what the steps find, or `missing`.
-fn encoded<D: Document>(alloc: Global, document: &mut D, steps: [Step; 2]) -> Result<String, Fail> {
-    match document.apply(alloc, Command::Encode(path(alloc, steps)?)) {
-        Ok(Reply::Printed(print)) => Ok(print),
-        Ok(Reply::Missing) => text(alloc, "missing"),
-        _ => Err("another reply".into()),
+/// Whether the print of what the steps find is that, or `missing`.
+fn is_encoded<D: Document>(alloc: Global, document: &mut D, path: Vec<Step>, want: &str) -> bool {
+    match document.apply(alloc, Command::Encode(path)) {
+        Ok(Reply::Printed(print)) => print.as_str() == want,
+        Ok(Reply::Missing) => want == "missing",
+        _ => false,
     }
 }
 
-/// Keys, places and tokens go together. A token may name a position, and a key may not.
+/// Whether a null is put where the steps lead; where they lead nowhere, none.
+fn is_put<D: Document>(alloc: Global, document: &mut D, path: Vec<Step>) -> Option<bool> {
+    match document.apply(alloc, Command::Put(path, OwnedValue::null())) {
+        Ok(reply) => Some(reply != Reply::Missing),
+        Err(_) => None,
+    }
+}
+
+/// Keys, places and tokens go together.
 fn check_steps<D: Document>(rt: &impl Abort, alloc: Global, document: &mut D) -> Result<(), Fail> {
-    for (first, second, want) in [
-        ("foo", "1", "\"baz\""),
-        ("foo", "01", "missing"),
-        ("foo", "foo", "missing"),
-        ("a/b", "0", "missing"),
-    ] {
-        let steps = [
-            Step::Key(text(alloc, first)?),
-            Step::Token(text(alloc, second)?),
-        ];
-        assert_eq!(rt; encoded(alloc, document, steps)?.as_str(), want);
-        let steps = [
-            Step::Token(text(alloc, first)?),
-            Step::Token(text(alloc, second)?),
-        ];
-        assert_eq!(rt; encoded(alloc, document, steps)?.as_str(), want);
-        let steps = [
-            Step::Token(text(alloc, first)?),
-            Step::Key(text(alloc, second)?),
-        ];
-        assert_eq!(rt; encoded(alloc, document, steps)?.as_str(), "missing");
+    for (first, name, second, key, want) in STEPS {
+        let path = path(alloc, [first, second], [name, key])?;
+        assert!(rt;
+            is_encoded(alloc, document, path, want),
+            "{first} {name}, {second} {key}"
+        );
     }
-    let steps = [Step::Token(text(alloc, "foo")?), Step::Idx(0)];
-    assert_eq!(rt; encoded(alloc, document, steps)?.as_str(), "\"bar\"");
-    let steps = path(
-        alloc,
-        [
-            Step::Token(text(alloc, "foo")?),
-            Step::Token(text(alloc, "0")?),
-        ],
-    )?;
-    let put = document.apply(alloc, Command::Put(steps, OwnedValue::null()));
-    assert!(rt; put.is_ok());
-    let steps = [Step::Key(text(alloc, "foo")?), Step::Idx(0)];
-    assert_eq!(rt; encoded(alloc, document, steps)?.as_str(), "null");
-    let steps = path(
-        alloc,
-        [
-            Step::Token(text(alloc, "foo")?),
-            Step::Key(text(alloc, "0")?),
-        ],
-    )?;
-    let missed = document.apply(alloc, Command::Put(steps, OwnedValue::null()));
-    assert!(rt; missed.is_ok_and(|reply| reply == Reply::Missing));
+    check_puts(rt, alloc, document)
+}
+
+/// A token leads to a place that is written, and a key does not.
+fn check_puts<D: Document>(rt: &impl Abort, alloc: Global, document: &mut D) -> Result<(), Fail> {
+    let by_token = path(alloc, ['t', 't'], ["foo", "0"])?;
+    let is_written = is_put(alloc, document, by_token) == Some(true);
+    let place = path(alloc, ['k', 'i'], ["foo", ""])?;
+    let is_read = is_encoded(alloc, document, place, "null");
+    let by_key = path(alloc, ['t', 'k'], ["foo", "0"])?;
+    let is_missed = is_put(alloc, document, by_key) == Some(false);
+    assert_eq!(rt; [is_written, is_read, is_missed], [true; 3]);
     Ok(())
 }
 
@@ -232,10 +243,24 @@ fn tokens_are_steps(rt: HostRuntime) -> Result<(), Fail> {
         let mut bytes = DOCUMENT.as_bytes().to_vec(alloc)?;
         let value = deserialize::<OwnedValue, String>(alloc, bytes.as_mut_slice())?;
         check_steps(&rt, alloc, &mut OwnedDoc { way, value })?;
+    }
+    Ok(())
+}
+
+#[test]
+fn tokens_are_steps_of_borrowed_documents(rt: HostRuntime) -> Result<(), Fail> {
+    let alloc = rt.alloc();
+    for way in [Way::ByText, Way::ByKnownKey] {
         let mut bytes = DOCUMENT.as_bytes().to_vec(alloc)?;
         let value = deserialize::<BorrowedValue<'_>, CowStr<'_>>(alloc, bytes.as_mut_slice())?;
         check_steps(&rt, alloc, &mut BorrowedDoc { way, value })?;
     }
+    Ok(())
+}
+
+#[test]
+fn tokens_are_steps_of_lazy_documents(rt: HostRuntime) -> Result<(), Fail> {
+    let alloc = rt.alloc();
     let mut bytes = DOCUMENT.as_bytes().to_vec(alloc)?;
     let tape = to_tape(alloc, bytes.as_mut_slice())?;
     let value: Value<'_, '_, '_> = Value::from_tape(tape.as_value());

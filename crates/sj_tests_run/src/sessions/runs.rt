@@ -37,65 +37,100 @@ fn key(alloc: Global, key: &str) -> Result<Vec<Step>, Fail> {
     Ok(path)
 }
 
-/// With memory the command is answered so.
-fn check<D: Document>(
-    rt: &impl Abort,
+/// Whether, with memory, the command is answered so.
+fn is_answered<D: Document>(
     alloc: Global,
     document: &mut D,
     command: Command,
-    want: &Reply,
-) -> Result<(), Fail> {
-    let Ok(reply) = document.apply(alloc, command) else {
-        return Err("refused".into());
-    };
-    assert!(rt; reply == *want);
-    Ok(())
+    want: Reply,
+) -> bool {
+    match document.apply(alloc, command) {
+        Ok(reply) => reply == want,
+        Err(_) => false,
+    }
+}
+
+/// A command that reads, and its reply.
+fn read(alloc: Global, number: usize) -> Result<(Command, Reply), Fail> {
+    Ok(match number {
+        0 => (Command::Kind(key(alloc, "a")?), Reply::Kind(ValueType::I64)),
+        1 => (
+            Command::Fits(key(alloc, "a")?, Width::U8),
+            Reply::Truth(false),
+        ),
+        2 => (
+            Command::Str(key(alloc, "k")?),
+            Reply::Text(text(alloc, "t")?),
+        ),
+        3 => (Command::Len(inside(alloc)?), Reply::Count(2)),
+        _ => {
+            let print = text(alloc, "{\"k\":\"t\",\"a\":-5}")?;
+            (Command::Encode(inside(alloc)?), Reply::Printed(print))
+        }
+    })
 }
 
 fn check_reads<D: Document>(rt: &impl Abort, alloc: Global, document: &mut D) -> Result<(), Fail> {
-    let kind = Command::Kind(key(alloc, "a")?);
-    check(rt, alloc, document, kind, &Reply::Kind(ValueType::I64))?;
-    let fits = Command::Fits(key(alloc, "a")?, Width::U8);
-    check(rt, alloc, document, fits, &Reply::Truth(false))?;
-    let str = Command::Str(key(alloc, "k")?);
-    check(rt, alloc, document, str, &Reply::Text(text(alloc, "t")?))?;
-    let len = Command::Len(inside(alloc)?);
-    check(rt, alloc, document, len, &Reply::Count(2))?;
-    let print = Reply::Printed(text(alloc, "{\"k\":\"t\",\"a\":-5}")?);
-    check(rt, alloc, document, Command::Encode(inside(alloc)?), &print)
+    for number in 0..5 {
+        let (command, want) = read(alloc, number)?;
+        assert!(rt;
+            is_answered(alloc, document, command, want),
+            "read {number}"
+        );
+    }
+    Ok(())
+}
+
+/// A command that sets the member k or n of the object.
+fn set(alloc: Global, is_new: bool) -> Result<Command, Fail> {
+    if is_new {
+        let truths = owned(alloc, "[true]")?;
+        return Ok(Command::Insert(inside(alloc)?, text(alloc, "n")?, truths));
+    }
+    let object = owned(alloc, "{\"x\":\"y\"}")?;
+    Ok(Command::Put(key(alloc, "k")?, object))
+}
+
+/// A command that writes, and its reply.
+fn write(alloc: Global, number: usize) -> Result<(Command, Reply), Fail> {
+    Ok(match number {
+        0 => (set(alloc, true)?, Reply::Nothing),
+        1 => (set(alloc, false)?, Reply::Old(owned(alloc, "\"t\"")?)),
+        2 => {
+            let old = Reply::Old(owned(alloc, "{\"x\":\"y\"}")?);
+            (Command::Remove(inside(alloc)?, text(alloc, "k")?), old)
+        }
+        _ => (Command::Pop(key(alloc, "zz")?), Reply::Missing),
+    })
 }
 
 fn check_writes<D: Document>(rt: &impl Abort, alloc: Global, document: &mut D) -> Result<(), Fail> {
-    let insert = Command::Insert(inside(alloc)?, text(alloc, "n")?, owned(alloc, "[true]")?);
-    check(rt, alloc, document, insert, &Reply::Nothing)?;
-    let put = Command::Put(key(alloc, "k")?, owned(alloc, "{\"x\":\"y\"}")?);
-    check(
-        rt,
-        alloc,
-        document,
-        put,
-        &Reply::Old(owned(alloc, "\"t\"")?),
-    )?;
-    let remove = Command::Remove(inside(alloc)?, text(alloc, "k")?);
-    check(
-        rt,
-        alloc,
-        document,
-        remove,
-        &Reply::Old(owned(alloc, "{\"x\":\"y\"}")?),
-    )?;
-    let pop = Command::Pop(key(alloc, "zz")?);
-    check(rt, alloc, document, pop, &Reply::Missing)
+    for number in 0..4 {
+        let (command, want) = write(alloc, number)?;
+        assert!(rt;
+            is_answered(alloc, document, command, want),
+            "write {number}"
+        );
+    }
+    Ok(())
 }
 
 #[test]
-fn both_forms_answer(rt: HostRuntime) -> Result<(), Fail> {
+fn owned_documents_answer(rt: HostRuntime) -> Result<(), Fail> {
     let alloc = rt.alloc();
     for way in [Way::ByText, Way::ByKnownKey] {
         let value = owned(alloc, TEXT)?;
         let mut document = OwnedDoc { way, value };
         check_reads(&rt, alloc, &mut document)?;
         check_writes(&rt, alloc, &mut document)?;
+    }
+    Ok(())
+}
+
+#[test]
+fn borrowed_documents_answer(rt: HostRuntime) -> Result<(), Fail> {
+    let alloc = rt.alloc();
+    for way in [Way::ByText, Way::ByKnownKey] {
         let mut bytes = TEXT.as_bytes().to_vec(alloc)?;
         let value = deserialize::<BorrowedValue<'_>, CowStr<'_>>(alloc, bytes.as_mut_slice())?;
         let mut document = BorrowedDoc { way, value };
@@ -115,59 +150,70 @@ fn lazy_documents_answer(rt: HostRuntime) -> Result<(), Fail> {
     let value: Value<'_, '_, '_> = Value::from_tape(tape.as_value());
     let mut document = LazyDoc { value };
     check_reads(&rt, alloc, &mut document)?;
-    assert!(rt; document.value.is_tape());
+    let is_tape = document.value.is_tape();
     let pop = Command::Pop(key(alloc, "zz")?);
-    check(&rt, alloc, &mut document, pop, &Reply::Missing)?;
-    assert!(rt; document.value.is_value());
+    let is_missed = is_answered(alloc, &mut document, pop, Reply::Missing);
+    assert_eq!(rt; [is_tape, is_missed, document.value.is_value()], [true; 3]);
     check_reads(&rt, alloc, &mut document)?;
     check_writes(&rt, alloc, &mut document)
+}
+
+/// A command at a document with repeats whose last member counts, and its reply.
+fn by_choice(alloc: Global, number: usize) -> Result<(Command, Reply), Fail> {
+    Ok(match number {
+        0 => {
+            let mut path = Vec::new(alloc);
+            path.push(Step::Key(text(alloc, "a")?))?;
+            (Command::Encode(path), Reply::Printed(text(alloc, "3")?))
+        }
+        1 => (Command::Len(Vec::new(alloc)), Reply::Count(3)),
+        2 => (Command::Pop(Vec::new(alloc)), Reply::NotAnArray),
+        _ => {
+            let kept = text(alloc, "{\"a\":3,\"b\":2}")?;
+            (Command::Encode(Vec::new(alloc)), Reply::Printed(kept))
+        }
+    })
 }
 
 /// Where the last member of a key counts, reads find it, and a write keeps it.
 #[test]
 fn lazy_documents_answer_by_their_choice(rt: HostRuntime) -> Result<(), Fail> {
     let alloc = rt.alloc();
-    let mut bytes = b"{\"a\":1,\"b\":2,\"a\":3}".to_vec(alloc)?;
-    let tape = to_tape(alloc, bytes.as_mut_slice())?;
+    let mut bytes = *b"{\"a\":1,\"b\":2,\"a\":3}";
+    let tape = to_tape(alloc, &mut bytes)?;
     let value: Value<'_, '_, '_> = Value::from_tape(tape.as_value_repeats(Repeats::Last));
     let mut document = LazyDoc { value };
-    let mut path = Vec::new(alloc);
-    path.push(Step::Key(text(alloc, "a")?))?;
-    let three = Reply::Printed(text(alloc, "3")?);
-    check(&rt, alloc, &mut document, Command::Encode(path), &three)?;
-    let all = Command::Len(Vec::new(alloc));
-    check(&rt, alloc, &mut document, all, &Reply::Count(3))?;
-    let pop = Command::Pop(Vec::new(alloc));
-    check(&rt, alloc, &mut document, pop, &Reply::NotAnArray)?;
-    let kept = Reply::Printed(text(alloc, "{\"a\":3,\"b\":2}")?);
-    check(
-        &rt,
-        alloc,
-        &mut document,
-        Command::Encode(Vec::new(alloc)),
-        &kept,
-    )
+    for number in 0..4 {
+        let (command, want) = by_choice(alloc, number)?;
+        assert!(rt;
+            is_answered(alloc, &mut document, command, want),
+            "{number}"
+        );
+    }
+    Ok(())
+}
+
+/// A push, a bad command and a look at the length.
+fn commands(alloc: Global) -> Result<Vec<Command>, Fail> {
+    let mut commands = Vec::new(alloc);
+    commands.push(Command::Push(Vec::new(alloc), owned(alloc, "1")?))?;
+    commands.push(Command::Bad)?;
+    commands.push(Command::Len(Vec::new(alloc)))?;
+    Ok(commands)
 }
 
 /// A run answers its commands in order.
 #[test]
 fn runs_answer_in_order(rt: HostRuntime) -> Result<(), Fail> {
     let alloc = rt.alloc();
-    let value = owned(alloc, "[]")?;
-    let mut commands = Vec::new(alloc);
-    commands.push(Command::Push(Vec::new(alloc), owned(alloc, "1")?))?;
-    commands.push(Command::Bad)?;
-    commands.push(Command::Len(Vec::new(alloc)))?;
     let mut document = OwnedDoc {
         way: Way::ByText,
-        value,
+        value: owned(alloc, "[]")?,
     };
-    let Ok(replies) = run(alloc, &mut document, commands) else {
-        return Err("refused".into());
-    };
-    assert_eq!(rt; replies.len(), 3);
-    assert!(rt; replies[0] == Reply::Done);
-    assert!(rt; replies[1] == Reply::BadCommand);
-    assert!(rt; replies[2] == Reply::Count(1));
+    let replies = run(alloc, &mut document, commands(alloc)?)
+        .ok()
+        .ok_or("refused")?;
+    let wanted = [Reply::Done, Reply::BadCommand, Reply::Count(1)];
+    assert!(rt; replies.as_slice() == wanted.as_slice());
     Ok(())
 }

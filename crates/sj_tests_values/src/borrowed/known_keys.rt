@@ -7,7 +7,7 @@ ghost use Rattle.sj_borrowed.specs.Loans.{IsInserted};
 
 use sj_borrowed::KnownKey;
 use sj_borrowed::known_key::Error;
-use sj_document::{BorrowedValue, Document, borrowed_from_tape, owned_from_tape};
+use sj_document::{BorrowedValue, Document, OwnedValue, borrowed_from_tape, owned_from_tape};
 use sj_object::{HashMap, KeyText, ObjectHasher};
 use sj_tape::to_tape;
 use sj_text_core::{Refused, SameAs, StaticNode, TypedValue, ValueType, Writable};
@@ -40,54 +40,75 @@ fn roomy<'v>(alloc: Global, capacity: usize) -> Result<BorrowedValue<'v>, Fail> 
     Ok(value)
 }
 
+/// Inserts by two keys into an object with the member `key` of 1.
+fn inserted(alloc: Global, mut value: BorrowedValue<'_>) -> Result<[bool; 4], Fail> {
+    let first = KnownKey::from("key");
+    let second = KnownKey::from("cake");
+    let before = first.insert(&mut value, number(2))?;
+    let is_new = second.insert(&mut value, number(3))?.is_none();
+    Ok([
+        is(before.as_ref(), 1),
+        is_new,
+        value.encode(alloc)?.as_str() == "{\"key\":2,\"cake\":3}",
+        is(second.lookup(&value), 3),
+    ])
+}
+
 #[test]
 fn inserts(rt: HostRuntime) -> Result<(), Fail> {
     let alloc = rt.alloc();
     let mut text = *b"{\"key\":1}";
-    let values = [
-        read(alloc, &mut text)?,
-        roomy(alloc, 0)?,
-        roomy(alloc, 128)?,
+    let told = [
+        inserted(alloc, read(alloc, &mut text)?)?,
+        inserted(alloc, roomy(alloc, 0)?)?,
+        inserted(alloc, roomy(alloc, 128)?)?,
     ];
-    for mut value in values {
-        let first = KnownKey::from("key");
-        let second = KnownKey::from(String::from_str(alloc, "cake")?);
-        let before = first.insert(&mut value, number(2))?;
-        assert!(rt; is(before.as_ref(), 1));
-        assert!(rt; second.insert(&mut value, number(3))?.is_none());
-        assert_eq!(rt; value.encode(alloc)?.as_str(), "{\"key\":2,\"cake\":3}");
-        assert!(rt; is(second.lookup(&value), 3));
-    }
+    assert_eq!(rt; told, [[true; 4]; 3]);
     Ok(())
+}
+
+/// A key of a string is inserted as one of a text is.
+#[test]
+fn inserts_a_string(rt: HostRuntime) -> Result<(), Fail> {
+    let mut value = roomy(rt.alloc(), 0)?;
+    let cake = KnownKey::from(String::from_str(rt.alloc(), "cake")?);
+    assert!(rt; cake.insert(&mut value, number(3))?.is_none() && is(cake.lookup(&value), 3));
+    Ok(())
+}
+
+/// Whether the value of the key is that one, or else made of 3; and whether the closure was called.
+fn is_called<'k>(
+    value: &mut BorrowedValue<'k>,
+    key: &KnownKey<'k>,
+    want: u64,
+) -> Result<(bool, bool), Fail> {
+    let mut called = false;
+    let found = KnownKey::lookup_or_insert_mut(value, key, || {
+        called = true;
+        number(3)
+    })?;
+    Ok((found.same_as(&want), called))
+}
+
+/// Looks for two keys in an object with the member `key` of 1, which get the other where absent.
+fn inserted_where_absent(alloc: Global, mut value: BorrowedValue<'_>) -> Result<[bool; 3], Fail> {
+    Ok([
+        is_called(&mut value, &KnownKey::from("key"), 1)? == (true, false),
+        is_called(&mut value, &KnownKey::from("cake"), 3)? == (true, true),
+        value.encode(alloc)?.as_str() == "{\"key\":1,\"cake\":3}",
+    ])
 }
 
 #[test]
 fn inserts_where_absent(rt: HostRuntime) -> Result<(), Fail> {
     let alloc = rt.alloc();
     let mut text = *b"{\"key\":1}";
-    let values = [
-        read(alloc, &mut text)?,
-        roomy(alloc, 0)?,
-        roomy(alloc, 128)?,
+    let told = [
+        inserted_where_absent(alloc, read(alloc, &mut text)?)?,
+        inserted_where_absent(alloc, roomy(alloc, 0)?)?,
+        inserted_where_absent(alloc, roomy(alloc, 128)?)?,
     ];
-    for mut value in values {
-        let first = KnownKey::from("key");
-        let second = KnownKey::from("cake");
-        let mut called = false;
-        let found = KnownKey::lookup_or_insert_mut(&mut value, &first, || {
-            called = true;
-            number(2)
-        })?;
-        assert!(rt; found.same_as(&1_u64));
-        assert!(rt; !called);
-        let made = KnownKey::lookup_or_insert_mut(&mut value, &second, || {
-            called = true;
-            number(3)
-        })?;
-        assert!(rt; made.same_as(&3_u64));
-        assert!(rt; called);
-        assert_eq!(rt; value.encode(alloc)?.as_str(), "{\"key\":1,\"cake\":3}");
-    }
+    assert_eq!(rt; told, [[true; 3]; 3]);
     Ok(())
 }
 
@@ -98,32 +119,41 @@ fn found<'v>(value: &mut BorrowedValue<'v>, key: &KnownKey<'v>) -> bool
     KnownKey::lookup_or_insert_mut(value, key, || unreachable!()).is_ok()
 }
 
-#[test]
-fn refuses_what_is_no_object(rt: HostRuntime) -> Result<(), Fail> {
-    let alloc = rt.alloc();
-    let key = KnownKey::from("key");
-    let mut null: BorrowedValue<'_> = Document::Static(StaticNode::Null);
-    assert!(rt; key.lookup(&null).is_none());
-    assert!(rt; KnownKey::lookup_mut(&mut null, &key).is_none());
-    match key.insert(&mut null, number(2)) {
-        Ok(_) => return Err("null took a member".into()),
+/// Whether an insert into the value is refused, with the number handed back.
+fn is_refused<'k>(value: &mut BorrowedValue<'k>, key: &KnownKey<'k>) -> bool {
+    match key.insert(value, number(2)) {
+        Ok(_) => false,
         Err(Refused { why, value }) => {
-            assert_eq!(rt; why, Error::NotAnObject(ValueType::Null));
-            assert!(rt; value.same_as(&2_u64));
+            why == Error::NotAnObject(ValueType::Null) && value.same_as(&2_u64)
         }
     }
+}
+
+#[test]
+fn refuses_what_is_no_object(rt: HostRuntime) {
+    let key = KnownKey::from("key");
+    let mut null: BorrowedValue<'_> = Document::Static(StaticNode::Null);
     let refused = KnownKey::lookup_or_insert_mut(&mut null, &key, || number(2)).err();
-    assert_eq!(rt; refused, Some(Error::NotAnObject(ValueType::Null)));
-    assert_eq!(rt; null.value_type(), ValueType::Null);
-    let texts = [
+    let told = [
+        key.lookup(&null).is_none(),
+        KnownKey::lookup_mut(&mut null, &key).is_none(),
+        is_refused(&mut null, &key),
+        refused == Some(Error::NotAnObject(ValueType::Null)),
+        null.value_type() == ValueType::Null,
+    ];
+    assert_eq!(rt; told, [true; 5]);
+}
+
+#[test]
+fn faults_have_texts(rt: HostRuntime) -> Result<(), Fail> {
+    for (fault, text) in [
         (
             Error::NotAnObject(ValueType::Null),
             "not an object but Null",
         ),
         (Error::OutOfMemory, "out of memory"),
-    ];
-    for (fault, text) in texts {
-        assert_eq!(rt; format!(in alloc; "{fault}")?.as_str(), text);
+    ] {
+        assert_eq!(rt; format!(in rt.alloc(); "{fault}")?.as_str(), text);
     }
     Ok(())
 }
@@ -134,61 +164,88 @@ fn tells_texts_of_one_hash_apart(rt: HostRuntime) -> Result<(), Fail> {
     let mut text = *b"{\"Aa\":1}";
     let mut value = read(alloc, &mut text)?;
     let key = KnownKey::from("BB");
-    assert!(rt; key.lookup(&value).is_none());
-    assert!(rt; key.insert(&mut value, number(2))?.is_none());
+    let told = [
+        key.lookup(&value).is_none(),
+        key.insert(&mut value, number(2))?.is_none(),
+        key != KnownKey::from("Aa"),
+    ];
+    assert_eq!(rt; told, [true; 3]);
     assert_eq!(rt; value.encode(alloc)?.as_str(), "{\"Aa\":1,\"BB\":2}");
-    assert!(rt; key != KnownKey::from("Aa"));
     Ok(())
+}
+
+/// The owned document of a text.
+fn read_owned(alloc: Global, text: &mut [u8]) -> Result<OwnedValue, Fail> {
+    let tape = to_tape(alloc, text)?;
+    Ok(owned_from_tape(alloc, tape.as_value())?)
+}
+
+/// Whether there is a value, and it is that number.
+fn is_owned(value: Option<&OwnedValue>, n: u64) -> bool {
+    value.is_some_and(|v| v.same_as(&n))
 }
 
 #[test]
 fn writes_to_owned_documents(rt: HostRuntime) -> Result<(), Fail> {
-    let alloc = rt.alloc();
     let mut text = *b"{\"key\":1}";
-    let tape = to_tape(alloc, &mut text)?;
-    let mut value = owned_from_tape(alloc, tape.as_value())?;
+    let mut value = read_owned(rt.alloc(), &mut text)?;
     let key = KnownKey::from("key");
     let cake = KnownKey::from("cake");
-    assert!(rt; key.lookup(&value).is_some_and(|v| v.same_as(&1_u64)));
-    assert!(rt; cake.lookup(&value).is_none());
-    let Some(place) = KnownKey::lookup_mut(&mut value, &key) else {
-        return Err("the key is absent".into());
-    };
-    *place = Document::Static(StaticNode::U64(42));
-    assert!(rt; KnownKey::lookup_mut(&mut value, &cake).is_none());
-    let Document::Object(members) = &mut value else {
-        return Err("no object".into());
-    };
-    assert!(rt; key.map_lookup(members).is_some_and(|v| v.same_as(&42_u64)));
-    assert!(rt; cake.map_lookup(members).is_none());
-    let Some(place) = KnownKey::map_lookup_mut(members, &key) else {
-        return Err("the key is absent".into());
-    };
-    *place = Document::Static(StaticNode::U64(84));
-    assert!(rt; KnownKey::map_lookup_mut(members, &cake).is_none());
-    assert!(rt; key.lookup(&value).is_some_and(|v| v.same_as(&84_u64)));
+    let is_read = is_owned(key.lookup(&value), 1);
+    *KnownKey::lookup_mut(&mut value, &key).ok_or("the key is absent")? = Document::from(42_u64);
+    let told = [
+        is_read,
+        is_owned(key.lookup(&value), 42),
+        cake.lookup(&value).is_none(),
+        KnownKey::lookup_mut(&mut value, &cake).is_none(),
+    ];
+    assert_eq!(rt; told, [true; 4]);
     Ok(())
+}
+
+#[test]
+fn writes_to_owned_members(rt: HostRuntime) -> Result<(), Fail> {
+    let mut text = *b"{\"key\":42}";
+    let mut value = read_owned(rt.alloc(), &mut text)?;
+    let key = KnownKey::from("key");
+    let cake = KnownKey::from("cake");
+    let members = value.as_object_mut().ok_or("no object")?;
+    let is_read = is_owned(key.map_lookup(members), 42);
+    *KnownKey::map_lookup_mut(members, &key).ok_or("the key is absent")? = Document::from(84_u64);
+    let told = [
+        is_read,
+        cake.map_lookup(members).is_none(),
+        KnownKey::map_lookup_mut(members, &cake).is_none(),
+        is_owned(key.lookup(&value), 84),
+    ];
+    assert_eq!(rt; told, [true; 4]);
+    Ok(())
+}
+
+/// Whether a copy of the key has its text, its sameness and its look.
+fn is_shown(alloc: Global, key: KnownKey<'_>) -> Result<[bool; 5], Fail> {
+    let copy = key.clone()?;
+    let shown = format!(in alloc; "{copy:?}")?;
+    Ok([
+        copy.key().text() == "snot",
+        copy == key,
+        copy == KnownKey::from("snot"),
+        copy != KnownKey::from("snots"),
+        shown.as_str() == "KnownKey { key: \"snot\", hash: 3535232 }",
+    ])
 }
 
 #[test]
 fn shows_its_key(rt: HostRuntime) -> Result<(), Fail> {
     let alloc = rt.alloc();
     let name = String::from_str(alloc, "snot")?;
-    let keys = [
-        KnownKey::from("snot"),
-        KnownKey::from(&name),
-        KnownKey::from(String::from_str(alloc, "snot")?),
-        KnownKey::from(CowStr::Borrowed("snot")),
+    let told = [
+        is_shown(alloc, KnownKey::from("snot"))?,
+        is_shown(alloc, KnownKey::from(&name))?,
+        is_shown(alloc, KnownKey::from(String::from_str(alloc, "snot")?))?,
+        is_shown(alloc, KnownKey::from(CowStr::Borrowed("snot")))?,
     ];
-    for key in keys {
-        let copy = key.clone()?;
-        assert_eq!(rt; copy.key().text(), "snot");
-        assert!(rt; copy == key);
-        assert!(rt; copy == KnownKey::from("snot"));
-        assert!(rt; copy != KnownKey::from("snots"));
-        let shown = format!(in alloc; "{copy:?}")?;
-        assert_eq!(rt; shown.as_str(), "KnownKey { key: \"snot\", hash: 3535232 }");
-    }
+    assert_eq!(rt; told, [[true; 5]; 4]);
     Ok(())
 }
 
@@ -239,11 +296,8 @@ fn finds_among_buckets(rt: HostRuntime) -> Result<(), Fail> {
         let key = KnownKey::from(colliding(alloc, i)?);
         assert!(rt; finds(&mut value, &key, i)?);
     }
-    let Document::Object(members) = &value else {
-        return Err("no object".into());
-    };
-    assert_eq!(rt; members.len(), 41);
-    assert_eq!(rt; members.buckets(), Some(64));
+    let members = value.as_object().ok_or("no object")?;
+    assert_eq!(rt; (members.len(), members.buckets()), (41, Some(64)));
     Ok(())
 }
 

@@ -1,58 +1,58 @@
 use super::{owned, parsed};
+use crate::forms::DOCUMENTS;
 use sj_document::BorrowedValue;
 use sj_owned::*;
+use std::alloc::Global;
 use std::collections;
 use std::test::Fail;
 
-const DOCUMENTS: [&str; 7] = [
-    "null",
-    "\"a\\u0041\\\"\"",
-    "[-5,5,0,-9223372036854775809,18446744073709551616]",
-    "{\"snot\":{\"foo\":[1,2,3]},\"badger\":true}",
-    "[[],{},[{}],{\"a\":[]}]",
-    "{\"a\":null,\"\":{\"\":\"\"}}",
-    "[\"\\ud83d\\ude00\",\"\u{e9}\"]",
-];
+/// Whether the document is made to a borrowed one that is the same, and back.
+fn goes_round(alloc: Global, text: &str) -> Result<[bool; 3], Fail> {
+    let value = parsed(alloc, text)?;
+    let borrowed = BorrowedValue::try_make(alloc, value.clone()?)?;
+    Ok([
+        value.same_as(&borrowed),
+        borrowed.same_as(&value),
+        Value::try_make(alloc, borrowed)? == value,
+    ])
+}
+
+/// Whether both prints are read as the same document.
+fn reads_back(alloc: Global, text: &str) -> Result<[bool; 2], Fail> {
+    let value = parsed(alloc, text)?;
+    let compact = value.encode(alloc)?;
+    let pretty = value.encode_pp(alloc)?;
+    Ok([
+        parsed(alloc, compact.as_str())? == value,
+        parsed(alloc, pretty.as_str())? == value,
+    ])
+}
 
 #[test]
 fn owned_and_borrowed_are_made_of_each_other(rt: HostRuntime) -> Result<(), Fail> {
-    let alloc = rt.alloc();
     for text in DOCUMENTS {
-        let value = parsed(alloc, text)?;
-        let borrowed = BorrowedValue::try_make(alloc, value.clone()?)?;
-        assert!(rt;
-            value.same_as(&borrowed) && borrowed.same_as(&value),
-            "{text}"
-        );
-        let back = Value::try_make(alloc, borrowed)?;
-        assert_eq!(rt; back, value, "{text}");
-    }
-    let pair = parsed(alloc, "[-5,5]")?;
-    let back = Value::try_make(alloc, BorrowedValue::try_make(alloc, pair)?)?;
-    for (place, carrier) in [(0, ValueType::I64), (1, ValueType::U64)] {
-        let Some(item) = back.get_idx(place) else {
-            return Err("no such item".into());
-        };
-        assert_eq!(rt; item.value_type(), carrier);
+        assert_eq!(rt; goes_round(rt.alloc(), text)?, [true; 3], "{text}");
     }
     Ok(())
 }
 
 #[test]
-fn encodings_read_back(rt: HostRuntime) -> Result<(), Fail> {
+fn carriers_are_kept(rt: HostRuntime) -> Result<(), Fail> {
     let alloc = rt.alloc();
+    let pair = BorrowedValue::try_make(alloc, parsed(alloc, "[-5,5]")?)?;
+    let back = Value::try_make(alloc, pair)?;
+    let carriers = [
+        back.get_idx(0).map(|item| item.value_type()),
+        back.get_idx(1).map(|item| item.value_type()),
+    ];
+    assert_eq!(rt; carriers, [Some(ValueType::I64), Some(ValueType::U64)]);
+    Ok(())
+}
+
+#[test]
+fn encodings_read_back(rt: HostRuntime) -> Result<(), Fail> {
     for text in DOCUMENTS {
-        let value = parsed(alloc, text)?;
-        assert_eq!(rt;
-            parsed(alloc, value.encode(alloc)?.as_str())?,
-            value,
-            "{text}"
-        );
-        assert_eq!(rt;
-            parsed(alloc, value.encode_pp(alloc)?.as_str())?,
-            value,
-            "{text}"
-        );
+        assert_eq!(rt; reads_back(rt.alloc(), text)?, [true; 2], "{text}");
     }
     Ok(())
 }
@@ -66,6 +66,12 @@ fn pairs_are_put_in_turn(rt: HostRuntime) -> Result<(), Fail> {
     }
     let value = Value::try_from_pairs(alloc, pairs.into_iter())?;
     assert_eq!(rt; value.encode(alloc)?.as_str(), "{\"a\":3,\"b\":2}");
+    Ok(())
+}
+
+#[test]
+fn items_are_put_in_turn(rt: HostRuntime) -> Result<(), Fail> {
+    let alloc = rt.alloc();
     let mut items = Vec::new(alloc);
     items.push(Value::from(true))?;
     let value = Value::try_from_items(alloc, items.into_iter())?;
@@ -73,47 +79,60 @@ fn pairs_are_put_in_turn(rt: HostRuntime) -> Result<(), Fail> {
     Ok(())
 }
 
-/// An array of 1025 arrays inside one another is printed, and its text is not read.
-#[test]
-fn deeper_than_the_reader(rt: HostRuntime) -> Result<(), Fail> {
-    let alloc = rt.alloc();
+/// So many arrays inside one another.
+fn nested(alloc: Global, count: usize) -> Result<Value, Fail> {
     let mut value = Value::array(alloc)?;
-    for _ in 1..1025 {
+    for _ in 1..count {
         let mut outer = Value::array(alloc)?;
         outer.push(value)?;
         value = outer;
     }
-    let mut text = value.encode(alloc)?.into_bytes();
+    Ok(value)
+}
+
+/// An array of 1025 arrays inside one another is printed, and its text is not read.
+#[test]
+fn deeper_than_the_reader(rt: HostRuntime) -> Result<(), Fail> {
+    let alloc = rt.alloc();
+    let mut text = nested(alloc, 1025)?.encode(alloc)?.into_bytes();
     assert_eq!(rt; text.len(), 2050);
     let refused = to_value(alloc, text.as_mut_slice());
     assert!(rt; matches!(refused, Err(ErrorKind::TooDeep)));
     Ok(())
 }
 
+/// Whether a reading by that choice is printed so.
+fn is_kept(alloc: Global, repeats: Repeats, print: &str) -> Result<bool, Fail> {
+    let mut bytes = *b"{\"a\":1,\"b\":2,\"a\":3}";
+    let value = to_value_repeats(alloc, &mut bytes, repeats)?;
+    Ok(value.encode(alloc)?.as_str() == print)
+}
+
 /// The last of each key by choice, else the first.
 #[test]
 fn repeats(rt: HostRuntime) -> Result<(), Fail> {
-    let alloc = rt.alloc();
-    let rows = [
-        (Repeats::First, "{\"a\":1,\"b\":2}"),
-        (Repeats::Last, "{\"a\":3,\"b\":2}"),
+    let told = [
+        is_kept(rt.alloc(), Repeats::First, "{\"a\":1,\"b\":2}")?,
+        is_kept(rt.alloc(), Repeats::Last, "{\"a\":3,\"b\":2}")?,
     ];
-    for (repeats, print) in rows {
-        let mut bytes = b"{\"a\":1,\"b\":2,\"a\":3}".to_vec(alloc)?;
-        let value = to_value_repeats(alloc, bytes.as_mut_slice(), repeats)?;
-        assert_eq!(rt; value.encode(alloc)?.as_str(), print);
-    }
-    let mut bytes = b"{\"a\":1,\"a\":2}".to_vec(alloc)?;
-    let mut buffers = Buffers::new(alloc, bytes.len())?;
-    let value = to_owned_value_with_buffers(alloc, bytes.as_mut_slice(), &mut buffers)?;
-    assert_eq!(rt; value.encode(alloc)?.as_str(), "{\"a\":1}");
-    let mut bytes = b"{\"a\":1,\"a\":2}".to_vec(alloc)?;
-    assert_eq!(rt; to_owned_value(alloc, bytes.as_mut_slice())?, value);
+    assert_eq!(rt; told, [true; 2]);
     Ok(())
 }
 
 #[test]
-fn made_of_lists_and_maps(rt: HostRuntime) -> Result<(), Fail> {
+fn the_other_readings(rt: HostRuntime) -> Result<(), Fail> {
+    let alloc = rt.alloc();
+    let mut buffers = Buffers::new(alloc, 13)?;
+    let mut bytes = *b"{\"a\":1,\"a\":2}";
+    let value = to_owned_value_with_buffers(alloc, &mut bytes, &mut buffers)?;
+    assert_eq!(rt; value.encode(alloc)?.as_str(), "{\"a\":1}");
+    let mut bytes = *b"{\"a\":1,\"a\":2}";
+    assert_eq!(rt; to_owned_value(alloc, &mut bytes)?, value);
+    Ok(())
+}
+
+#[test]
+fn made_of_lists(rt: HostRuntime) -> Result<(), Fail> {
     let alloc = rt.alloc();
     let value = Value::try_make(alloc, vec![in alloc; true]?)?;
     assert_eq!(rt; value.encode(alloc)?.as_str(), "[true]");
@@ -121,6 +140,12 @@ fn made_of_lists_and_maps(rt: HostRuntime) -> Result<(), Fail> {
     let numbers = vec![in alloc; Some(1_u8), None, Some(3)]?;
     let value = Value::try_make(alloc, numbers)?;
     assert_eq!(rt; value.encode(alloc)?.as_str(), "[1,null,3]");
+    Ok(())
+}
+
+#[test]
+fn made_of_maps(rt: HostRuntime) -> Result<(), Fail> {
+    let alloc = rt.alloc();
     let mut map = collections::HashMap::new(alloc);
     for (key, number) in [("b", 1_u8), ("a", 2), ("", 3), ("\u{e9}", 4), ("aa", 5)] {
         map.insert(owned(alloc, key)?, Value::from(number))?;

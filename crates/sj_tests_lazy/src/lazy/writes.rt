@@ -1,0 +1,151 @@
+//! Writes, refused and not.
+
+use super::{members, prints};
+use sj_document::{BorrowedValue, Document};
+use sj_lazy::Value;
+use sj_tape::to_tape;
+use sj_text_core::{AccessError, Refused, StaticNode, ValueAsScalar, Writable};
+use std::alloc::Global;
+use std::borrow::CowStr;
+use std::test::Fail;
+
+const REPEATED: &str = r#"{"a":1,"a":2}"#;
+
+fn number<'i>(n: u64) -> Document<CowStr<'i>> {
+    Document::Static(StaticNode::U64(n))
+}
+
+#[test]
+fn repeats_are_gone_once_it_is_lent_for_writes(rt: HostRuntime) -> Result<(), Fail> {
+    let alloc = rt.alloc();
+    let mut text = REPEATED.as_bytes().to_vec(alloc)?;
+    let tape = to_tape(alloc, text.as_mut_slice())?;
+    let mut value: Value<'_, '_, '_> = Value::from_tape(tape.as_value());
+    let is_first = value.get_u8("a") == Some(1);
+    let is_printed = prints(alloc, &value, REPEATED)?;
+    let is_lent = value.as_object_mut(alloc)?.is_some();
+    let told = [
+        is_first,
+        is_printed,
+        is_lent,
+        value.get_u8("a") == Some(1),
+        prints(alloc, &value, r#"{"a":1}"#)?,
+    ];
+    assert_eq!(rt; told, [true; 5]);
+    Ok(())
+}
+
+#[test]
+fn repeats_are_gone_once_one_is_removed(rt: HostRuntime) -> Result<(), Fail> {
+    let alloc = rt.alloc();
+    let mut text = REPEATED.as_bytes().to_vec(alloc)?;
+    let tape = to_tape(alloc, text.as_mut_slice())?;
+    let mut value: Value<'_, '_, '_> = Value::from_tape(tape.as_value());
+    let gone = value.remove(alloc, "a")?.ok_or("a member")?;
+    assert_eq!(rt; gone.as_u64(), Some(1));
+    assert!(rt; prints(alloc, &value, "{}")?);
+    Ok(())
+}
+
+/// A write that finds no array upgrades too.
+#[test]
+fn repeats_are_gone_once_a_write_is_refused(rt: HostRuntime) -> Result<(), Fail> {
+    let alloc = rt.alloc();
+    let mut text = REPEATED.as_bytes().to_vec(alloc)?;
+    let tape = to_tape(alloc, text.as_mut_slice())?;
+    let mut value: Value<'_, '_, '_> = Value::from_tape(tape.as_value());
+    let told = [
+        members(&value) == Some(2),
+        matches!(value.pop(alloc), Err(AccessError::NotAnArray)),
+        value.is_value(),
+        prints(alloc, &value, r#"{"a":1}"#)?,
+    ];
+    assert_eq!(rt; told, [true; 4]);
+    Ok(())
+}
+
+/// Whether it is refused for that, and the number comes back.
+fn hands_back<'i, O: Drop>(
+    answer: Result<O, Refused<AccessError, BorrowedValue<'i>>>,
+    why: AccessError,
+    number: u8,
+) -> bool {
+    match answer {
+        Ok(_) => false,
+        Err(refused) => refused.why == why && refused.value.as_u8() == Some(number),
+    }
+}
+
+#[test]
+fn refused_writes_hand_the_value_back(rt: HostRuntime) -> Result<(), Fail> {
+    let alloc = rt.alloc();
+    let mut text = *b"null";
+    let tape = to_tape(alloc, &mut text)?;
+    let mut value: Value<'_, '_, '_> = Value::from_tape(tape.as_value());
+    let member = value.insert(alloc, CowStr::Borrowed("k"), number(7));
+    let is_member_back = hands_back(member, AccessError::NotAnObject, 7);
+    let item = value.push(alloc, number(8));
+    let is_item_back = hands_back(item, AccessError::NotAnArray, 8);
+    let told = [
+        is_member_back,
+        is_item_back,
+        matches!(value.remove(alloc, "k"), Err(AccessError::NotAnObject)),
+        matches!(value.pop(alloc), Err(AccessError::NotAnArray)),
+    ];
+    assert_eq!(rt; told, [true; 4]);
+    Ok(())
+}
+
+#[test]
+fn writes_find_nothing_in_a_null(rt: HostRuntime) -> Result<(), Fail> {
+    let alloc = rt.alloc();
+    let mut text = *b"null";
+    let tape = to_tape(alloc, &mut text)?;
+    let mut value: Value<'_, '_, '_> = Value::from_tape(tape.as_value());
+    let nothing = value.try_insert(alloc, CowStr::Borrowed("k"), number(9))?;
+    let told = [
+        nothing.is_none(),
+        value.get_mut(alloc, "k")?.is_none(),
+        matches!(value.object_mut(alloc), Err(AccessError::NotAnObject)),
+        matches!(value.array_mut(alloc), Err(AccessError::NotAnArray)),
+        prints(alloc, &value, "null")?,
+    ];
+    assert_eq!(rt; told, [true; 5]);
+    Ok(())
+}
+
+/// Writes to a part, to the members and to the value.
+fn written(alloc: Global, value: &mut Value<'_, '_, '_>) -> Result<bool, Fail> {
+    let part = value.get_mut(alloc, "a")?.ok_or("a member")?;
+    part.push(number(3))?;
+    let members = value.object_mut(alloc)?;
+    members.insert(CowStr::Borrowed("b"), number(4))?;
+    let before = value.try_insert(alloc, CowStr::Borrowed("c"), number(5))?;
+    Ok(before.is_none())
+}
+
+/// Writes to a part that is copied first.
+fn part_is_written(alloc: Global, value: &Value) -> Result<[bool; 3], Fail> {
+    let mut items = value.get("a").ok_or("a member")?;
+    items.array_mut(alloc)?.push(number(6))?;
+    let is_pushed = prints(alloc, &items, "[1,3,6]")?;
+    let last = items.pop(alloc)?.ok_or("an item")?;
+    let pretty = items.encode_pp(alloc)?;
+    Ok([
+        is_pushed,
+        last.as_u64() == Some(6),
+        pretty.as_str() == "[\n  1,\n  3\n]",
+    ])
+}
+
+#[test]
+fn parts_are_written_in_place(rt: HostRuntime) -> Result<(), Fail> {
+    let alloc = rt.alloc();
+    let mut text = *br#"{"a":[1],"b":2}"#;
+    let tape = to_tape(alloc, &mut text)?;
+    let mut value: Value<'_, '_, '_> = Value::from_tape(tape.as_value());
+    assert!(rt; written(alloc, &mut value)?);
+    assert!(rt; prints(alloc, &value, r#"{"a":[1,3],"b":4,"c":5}"#)?);
+    assert_eq!(rt; part_is_written(alloc, &value)?, [true; 3]);
+    Ok(())
+}
