@@ -3,9 +3,9 @@ use Rattle.std.proofs.Common.{◌≡◌, ℕ, Bool, true, false, ◌&&◌, if◌
 use Rattle.std.proofs.lemmas.List.{map-append}
 use Rattle.sj_text_core.specs.Tree.{Tree, items_from}
 use Rattle.sj_text_core.specs.Paths.{Step as PlainStep, by_token}
-use Rattle.sj_path.specs.Pointed.{path_of}
-use Rattle.sj_path.specs.Syntax.{is_begun, is_escaped}
-use Rattle.sj_path.specs.Tokens.{tokens_of}
+use Rattle.sj_pointer.specs.Pointed.{path_of}
+use Rattle.sj_pointer.specs.Syntax.{is_begun, is_escaped}
+use Rattle.sj_pointer.specs.Tokens.{tokens_of}
 use Rattle.sj_run.specs.CommandLines.{pointer_in, step_in, steps_in}
 use Rattle.sj_run.specs.Meant.{step_meant, path_meant}
 use Rattle.sj_run.specs.declared.command.Step.{Step}

@@ -5,9 +5,9 @@ use Rattle.sj_text_core.specs.Grammar.{Spells, IsReadable}
 use Rattle.sj_text_core.specs.Keep.{keep}
 use Rattle.sj_text_core.specs.Paths.{Step, by_key, by_place}
 use Rattle.sj_text_core.specs.Reads.{as_unsigned}
-use Rattle.sj_path.specs.Syntax.{is_begun, is_escaped}
-use Rattle.sj_path.specs.Tokens.{tokens_of}
-use Rattle.sj_path.specs.Pointed.{path_of}
+use Rattle.sj_pointer.specs.Syntax.{is_begun, is_escaped}
+use Rattle.sj_pointer.specs.Tokens.{tokens_of}
+use Rattle.sj_pointer.specs.Pointed.{path_of}
 use Rattle.sj_run.specs.Commands.{Width, signed, unsigned, kind, fits, str, len, keys, has, encode, encode_pp, insert, remove, push, pop, put, PlainCommand, read, write, bad}
 
 -- the integer type of that name

@@ -19,7 +19,7 @@ use crate::reply::Reply;
 use crate::runs::Why;
 use found::Found;
 pub(crate) use place::Place;
-use sj_path::position;
+use sj_pointer::position;
 use sj_text_core::{TypedValue, ValueAsScalar};
 use std::alloc::Global;
 

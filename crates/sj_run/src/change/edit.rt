@@ -16,7 +16,7 @@ use crate::document::Way;
 use crate::keys::member_mut;
 use sj_document::{Document, Object};
 use sj_object::KeyText;
-use sj_path::position;
+use sj_pointer::position;
 use std::alloc::AllocError;
 
 /// Changes the value at the path in its place; where nothing stands there, it changes nothing.

@@ -4,7 +4,7 @@ ghost use Rattle.std.specs.Prelude.{◌≡◌, IfOk, option_map, unwrap_or, map,
 ghost use Rattle.std.specs.Vec.Iter.{into_iter_items};
 ghost use Rattle.sj_text_core.specs.Tree.{list, items_from};
 ghost use Rattle.sj_document.specs.Document.{tree};
-ghost use Rattle.sj_path.specs.Pointed.{path_of};
+ghost use Rattle.sj_pointer.specs.Pointed.{path_of};
 ghost use Rattle.sj_run.specs.Commands.{PlainCommand, bad};
 ghost use Rattle.sj_run.specs.CommandLines.{IsCommandOf, command_in as command_in_tree, command_with, command_with_path, command_with_text, command_with_value, command_with_member, path_in as path_in_tree, pointer_in as pointer_in_text, step_in as step_in_tree, steps_in as steps_in_items, width_named as width_of_name};
 ghost use Rattle.sj_run.specs.Meant.{command_meant, step_meant, path_meant, width_meant};
@@ -12,7 +12,7 @@ ghost use Rattle.sj_run.specs.Meant.{command_meant, step_meant, path_meant, widt
 use super::{Command, Step, Width};
 use sj_document::{Document, OwnedValue};
 use sj_object::deserialize;
-use sj_path::{PointerError, pointer};
+use sj_pointer::{PointerError, pointer};
 use sj_text_core::{ErrorKind, ValueAsScalar};
 use std::alloc::{AllocError, Global};
 use std::vec::IntoIter;

@@ -1,6 +1,6 @@
 use Rattle.std.proofs.Common.{◌≡◌, ◌++◌, map, string_bytes}
 use Rattle.std.specs.Vec.Iter.{into_iter_items}
-use Rattle.sj_path.specs.Pointed.{path_of}
+use Rattle.sj_pointer.specs.Pointed.{path_of}
 use Rattle.sj_run.specs.Meant.{path_meant}
 use Rattle.sj_run.proofs.command.line.token_steps.Given as goal
 
