@@ -1,6 +1,1 @@
-pub mod Texts
-pub mod Numbers
-pub mod Spellings
-pub mod Numerals
 pub mod Replacing
-pub mod rows

@@ -7,7 +7,7 @@ use Rattle.sj_text_core.specs.declared.repeats.Repeats.TheVariants.{First}
 use Rattle.sj_text_core.proofs.Paths.{found_same}
 use Rattle.sj_document.specs.Document.{tree}
 use Rattle.sj_document.specs.declared.value.Document.{Document}
-use Rattle.sj_path.specs.Pointed.{token_into, pointed, set_pointed}
+use Rattle.sj_pointer.specs.Pointed.{token_into, pointed, set_pointed}
 use Rattle.sj_path.specs.Replaced.{Replaces}
 
 module _ {T : Type 0} (t : T → List ℕ) where

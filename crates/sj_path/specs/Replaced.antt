@@ -4,7 +4,7 @@ use Rattle.std.specs.Result.{result_ok, IfErr, OnErr}
 use Rattle.sj_text_core.specs.Tree.{Tree}
 use Rattle.sj_document.specs.Document.{tree}
 use Rattle.sj_document.specs.declared.value.Document.{Document}
-use Rattle.sj_path.specs.Pointed.{pointed, set_pointed}
+use Rattle.sj_pointer.specs.Pointed.{pointed, set_pointed}
 
 module _ {T : Type 0} (t : T → List ℕ) where
   -- what stood there is answered, or else the new value; the tree afterwards has its tree in that place

@@ -6,15 +6,14 @@ ghost use Rattle.std.specs.Result.{result_ok};
 ghost use Rattle.sj_document.specs.Document.{tree as document_tree};
 ghost use Rattle.sj_tape.specs.Value.{tree as tape_tree, choice as tape_choice};
 ghost use Rattle.sj_lazy.specs.Value.{tree, choice, kept, lazy_kept, owned};
-ghost use Rattle.sj_path.specs.Pointed.{token_into, pointed, pointed_by, set_pointed};
+ghost use Rattle.sj_pointer.specs.Pointed.{token_into, pointed, pointed_by, set_pointed};
 
-use crate::place::position;
-use crate::tokens::Pointer;
 use crate::{walk, write};
 use sj_document::{BorrowedValue, Document};
 pub use sj_lazy::Value;
 use sj_lazy::{Lazy, Lent, Shared, Upgrade};
 use sj_object::KeyText;
+use sj_pointer::{Pointer, position};
 use sj_tape::Value as TapeValue;
 use sj_text_core::{Refused, TypedValue};
 use std::alloc::{AllocError, Global};

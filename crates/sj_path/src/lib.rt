@@ -17,17 +17,9 @@
 #![tactic(auto)]
 
 pub mod borrowed;
-mod error;
-pub mod laws;
 pub mod lazy;
 pub mod owned;
-mod parse;
-mod place;
-mod tokens;
 mod walk;
 mod write;
 
-pub use error::PointerError;
-pub use parse::pointer;
-pub use place::position;
-pub use tokens::Pointer;
+pub use sj_pointer::{Pointer, PointerError, laws, pointer, position};

@@ -3,12 +3,11 @@
 ghost use Rattle.std.specs.Prelude.{◌≡◌, map, option_map, string_bytes};
 ghost use Rattle.sj_document.specs.Document.{tree};
 ghost use Rattle.sj_text_core.specs.declared.repeats.Repeats.TheVariants.{First};
-ghost use Rattle.sj_path.specs.Pointed.{token_into, pointed};
+ghost use Rattle.sj_pointer.specs.Pointed.{token_into, pointed};
 
-use crate::place::position;
-use crate::tokens::Pointer;
 use sj_document::Document;
 use sj_object::KeyText;
+use sj_pointer::{Pointer, position};
 use sj_text_core::TypedValue;
 
 /// What one token finds.

@@ -5,13 +5,12 @@ ghost use Rattle.std.specs.Result.{result_ok};
 ghost use Rattle.sj_text_core.specs.Tree.{list, obj, items_from};
 ghost use Rattle.sj_object.specs.Members.{entry_members};
 ghost use Rattle.sj_document.specs.Document.{tree};
-ghost use Rattle.sj_path.specs.Pointed.{pointed, set_pointed};
+ghost use Rattle.sj_pointer.specs.Pointed.{pointed, set_pointed};
 ghost use Rattle.sj_path.specs.Replaced.{Replaces};
 
-use crate::place::position;
-use crate::tokens::Pointer;
 use sj_document::{Document, Object};
 use sj_object::KeyText;
+use sj_pointer::{Pointer, position};
 use std::mem;
 
 /// Puts the value in the place of what the tokens find.

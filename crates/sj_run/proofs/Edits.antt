@@ -6,7 +6,7 @@ use Rattle.sj_text_core.specs.Find.{find, nth}
 use Rattle.sj_text_core.specs.Places.{place_of}
 use Rattle.sj_text_core.specs.Paths.{Step, by_key, by_place, by_token, step_into, tree_at, set_placed, set_found, change_found, set_at}
 use Rattle.sj_text_core.proofs.Paths.{found_same}
-use Rattle.sj_run.specs.Commands.{Write}
+use Rattle.sj_commands.specs.Commands.{Write}
 use Rattle.sj_run.specs.Replies.{PlainReply, missing}
 use Rattle.sj_run.specs.Answers.{edit, edit_found, changed}
 use Rattle.sj_run.specs.Changed.{Edits, changed_meant}

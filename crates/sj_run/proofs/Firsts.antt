@@ -5,7 +5,7 @@ use Rattle.sj_text_core.specs.Tree.{Tree}
 use Rattle.sj_text_core.specs.Keep.{keep}
 use Rattle.sj_text_core.specs.Paths.{tree_at}
 use Rattle.sj_text_core.specs.declared.repeats.Repeats.TheVariants.{First}
-use Rattle.sj_run.specs.Commands.{Read, kind, fits, str, len, keys, has, encode, encode_pp, PlainCommand, read, write, bad}
+use Rattle.sj_commands.specs.Commands.{Read, kind, fits, str, len, keys, has, encode, encode_pp, PlainCommand, read, write, bad}
 use Rattle.sj_run.specs.Replies.{PlainReply}
 use Rattle.sj_run.specs.Answers.{reply_to, read_found, answer, replies_of, start}
 use Rattle.sj_run.specs.Repeats.{reply_to_by, read_found_by, answer_by, replies_by, start_by}

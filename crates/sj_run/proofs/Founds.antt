@@ -4,8 +4,8 @@ use Rattle.std.proofs.lemmas.List.{map-append}
 use Rattle.sj_text_core.specs.Paths.{step_into_by, tree_at_by}
 use Rattle.sj_text_core.specs.Tree.{Tree, items_len, members_len, items_from, members_from, keys_of}
 use Rattle.sj_text_core.specs.declared.repeats.Repeats.{Repeats}
-use Rattle.sj_run.specs.Meant.{step_meant}
-use Rattle.sj_run.specs.declared.command.Step as meant
+use Rattle.sj_commands.specs.Meant.{step_meant}
+use Rattle.sj_commands.specs.declared.command.Step as meant
 use Rattle.sj_text_core.specs.Print.{quoted}
 use Rattle.sj_object.specs.Entries.{Entry}
 use Rattle.sj_object.specs.Members.{entry_members}

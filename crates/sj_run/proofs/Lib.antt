@@ -1,4 +1,3 @@
-mod LineLemmas
 mod Series
 mod Firsts
 mod rows
@@ -6,6 +5,5 @@ mod SessionLemmas
 mod CommandLemmas
 pub mod Edits
 pub mod Founds
-pub mod Ways
 mod Kept
 mod Lazies

@@ -2,15 +2,15 @@
 use Rattle.std.proofs.Common.{◌≡◌, suc, List, [], ◌∷◌, ◌++◌, length, map, Err, inl, refl, sym, ap, ◌∙◌, append_assoc, subst}
 use Rattle.std.specs.Prelude.{IsErrOf}
 use Rattle.std.proofs.lemmas.List.{map-append}
-use Rattle.sj_run.specs.Commands.{PlainCommand, read, write, bad}
+use Rattle.sj_commands.specs.Commands.{PlainCommand, read, write, bad}
 use Rattle.sj_run.specs.Replies.{PlainReply}
 use Rattle.sj_text_core.specs.Tree.{Tree}
 use Rattle.sj_text_core.specs.declared.repeats.Repeats.{Repeats}
 use Rattle.sj_run.specs.Answers.{IsLong}
 use Rattle.sj_run.specs.Repeats.{answer_by, replies_by, part_after}
-use Rattle.sj_run.specs.Meant.{command_meant}
+use Rattle.sj_commands.specs.Meant.{command_meant}
 use Rattle.sj_run.specs.Run.{Leaves, MayRefuse}
-use Rattle.sj_run.specs.declared.command.Command.{Command}
+use Rattle.sj_commands.specs.declared.command.Command.{Command}
 use Rattle.sj_run.specs.declared.reply.Reply.{Reply}
 use Rattle.sj_run.specs.declared.runs.Why.{Why}
 use Rattle.sj_run.specs.declared.runs.Why.TheVariants.{OutOfMemory, TooLong}

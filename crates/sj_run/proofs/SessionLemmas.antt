@@ -9,8 +9,8 @@ use borrow.Rule.Slice.PartMut.{put_mid}
 use Rattle.std.proofs.lemmas.List.{take_all, take-take, length-drop, length-take-le, drop-drop}
 use Rattle.sj_text_core.specs.Tree.{Tree, IsWithin}
 use Rattle.sj_text_core.specs.Grammar.{Spells}
-use Rattle.sj_run.specs.Commands.{PlainCommand}
-use Rattle.sj_run.specs.CommandLines.{AreCommandsOf}
+use Rattle.sj_commands.specs.Commands.{PlainCommand}
+use Rattle.sj_commands.specs.CommandLines.{AreCommandsOf}
 use Rattle.sj_text_core.specs.declared.repeats.Repeats.{Repeats}
 use Rattle.sj_run.specs.Repeats.{answer_by, replies_by, part_after, start_by}
 use Rattle.sj_run.specs.Answered.{AnswersLine, AnswersLines, IsBegunBy, PassesLine, PassesLines}
@@ -26,8 +26,8 @@ use Rattle.sj_run.specs.declared.runs.Why.TheVariants as why
 use Rattle.sj_text_core.specs.declared.error.ErrorKind.{ErrorKind}
 use Rattle.sj_text_core.specs.declared.error.ErrorKind.TheVariants.{InvalidUtf8, Syntax, LoneSurrogate, Float, NumberTooLarge, TooDeep, OutOfMemory}
 use Rattle.std.proofs.Math.Seq.{take-append_seam}
-use Rattle.sj_run.specs.Lines.{document, lines, after_mark, full_lines, line_text, line_texts, is_empty}
-use Rattle.sj_run.proofs.LineLemmas.{LineAt}
+use Rattle.sj_commands.specs.Lines.{document, lines, after_mark, full_lines, line_text, line_texts, is_empty}
+use Rattle.sj_commands.proofs.LineLemmas.{LineAt}
 
 -- lines answered in turn
 pub answers-none : (t : Repeats × Tree) (old : List ℕ) → AnswersLines t [] t old old

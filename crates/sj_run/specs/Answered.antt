@@ -4,8 +4,8 @@ use Rattle.sj_text_core.specs.Tree.{Tree, IsWithin}
 use Rattle.sj_text_core.specs.Grammar.{Spells}
 use Rattle.sj_text_core.specs.Repeats.{keep_by}
 use Rattle.sj_text_core.specs.declared.repeats.Repeats.{Repeats}
-use Rattle.sj_run.specs.Commands.{PlainCommand}
-use Rattle.sj_run.specs.CommandLines.{IsCommandOf, AreCommandsOf}
+use Rattle.sj_commands.specs.Commands.{PlainCommand}
+use Rattle.sj_commands.specs.CommandLines.{IsCommandOf, AreCommandsOf}
 use Rattle.sj_run.specs.Repeats.{answer_by, replies_by, part_after}
 use Rattle.sj_run.specs.Shown.{reply_text, shown, shown_all}
 

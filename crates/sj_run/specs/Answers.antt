@@ -7,8 +7,8 @@ use Rattle.sj_text_core.specs.Edits.{put as put_member, cut, push as push_item, 
 use Rattle.sj_text_core.specs.Paths.{Step, tree_at, set_at}
 use Rattle.sj_text_core.specs.Print.{compact, pretty}
 use Rattle.sj_text_core.specs.Reads.{kind_of, as_signed, as_unsigned, as_text, as_members}
-use Rattle.sj_run.specs.Commands.{Width, signed, unsigned, Read, Write, PlainCommand, read, write, bad}
-use Rattle.sj_run.specs.Commands as command
+use Rattle.sj_commands.specs.Commands.{Width, signed, unsigned, Read, Write, PlainCommand, read, write, bad}
+use Rattle.sj_commands.specs.Commands as command
 use Rattle.sj_run.specs.Replies.{PlainReply}
 use Rattle.sj_run.specs.Replies as reply
 use Rattle.sj_run.specs.declared.sessions.Form.{Form}

@@ -1,14 +1,14 @@
 -- What a command that is taken apart means. Only private clauses cite it.
 use Rattle.std.specs.Prelude.{ℕ, List, string_bytes}
 use Rattle.sj_document.specs.Document.{tree}
-use Rattle.sj_run.specs.Commands as plain
-use Rattle.sj_run.specs.Meant.{path_meant, width_meant}
+use Rattle.sj_commands.specs.Commands as plain
+use Rattle.sj_commands.specs.Meant.{path_meant, width_meant}
 use Rattle.sj_run.specs.declared.change.Write.{Write}
 use Rattle.sj_run.specs.declared.change.Write.TheVariants as write
-use Rattle.sj_run.specs.declared.command.asked.Asked.{Asked}
-use Rattle.sj_run.specs.declared.command.asked.Asked.TheVariants as asked
-use Rattle.sj_run.specs.declared.command.asked.Read.{Read}
-use Rattle.sj_run.specs.declared.command.asked.Read.TheVariants as read
+use Rattle.sj_run.specs.declared.asked.Asked.{Asked}
+use Rattle.sj_run.specs.declared.asked.Asked.TheVariants as asked
+use Rattle.sj_run.specs.declared.asked.Read.{Read}
+use Rattle.sj_run.specs.declared.asked.Read.TheVariants as read
 
 abbrev pub read_meant : Read → plain.Read
 read_meant read.Kind = plain.kind

@@ -5,7 +5,7 @@ use Rattle.std.specs.declared.alloc.AllocError.{AllocError}
 use Rattle.sj_text_core.specs.Tree.{Tree}
 use Rattle.sj_text_core.specs.Paths.{Step}
 use Rattle.sj_document.specs.Document.{tree}
-use Rattle.sj_run.specs.Commands.{Write}
+use Rattle.sj_commands.specs.Commands.{Write}
 use Rattle.sj_run.specs.Replies.{PlainReply, old, nothing, done, missing, not_an_object, not_an_array}
 use Rattle.sj_run.specs.Answers.{edit}
 use Rattle.sj_run.specs.declared.change.Changed.{Changed}

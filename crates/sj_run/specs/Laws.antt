@@ -1,19 +1,9 @@
--- What holds of sessions and their lines.
-use Rattle.std.specs.Prelude.{◌≡◌, ℕ, List, ◌++◌, length}
-use Rattle.std.specs.List.{concat}
+-- What holds of runs of commands.
+use Rattle.std.specs.Prelude.{◌≡◌, List, ◌++◌, length}
 use Rattle.sj_text_core.specs.Tree.{Tree}
-use Rattle.sj_run.specs.Commands.{PlainCommand}
+use Rattle.sj_commands.specs.Commands.{PlainCommand}
 use Rattle.sj_run.specs.Repeats.{replies_by, part_after}
 use Rattle.sj_text_core.specs.declared.repeats.Repeats.{Repeats}
-use Rattle.sj_run.specs.Lines.{full_lines, document}
-
--- the lines, one behind another, are the input
-abbrev pub LinesJoin : Type 0
-LinesJoin = (b : List ℕ) → concat (full_lines b) ≡ b
-
--- the document is the beginning of the input
-abbrev pub DocumentBegins : Type 0
-DocumentBegins = (b : List ℕ) → (rest : List ℕ) × (b ≡ document b ++ rest)
 
 -- each command gives one reply
 abbrev pub RepliesAreMany : Type 0

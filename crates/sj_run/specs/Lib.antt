@@ -1,10 +1,7 @@
-pub mod Commands
 pub mod Replies
 pub mod Answers
 pub mod Repeats
 pub mod Run
-pub mod Lines
-pub mod CommandLines
 pub mod Shown
 pub mod Session
 pub mod Meant
@@ -13,3 +10,8 @@ pub mod Asked
 pub mod Found
 pub mod Changed
 pub mod Answered
+pub use Rattle.sj_commands.specs.Commands
+pub use Rattle.sj_commands.specs.Meant as CommandMeant
+pub use Rattle.sj_commands.specs.Lines
+pub use Rattle.sj_commands.specs.CommandLines
+pub use Rattle.sj_commands.specs.Laws as LineLaws

@@ -1,54 +1,9 @@
--- What steps, commands and replies of the code mean.
-use Rattle.std.specs.Prelude.{List, map, string_bytes}
-use Rattle.sj_text_core.specs.Paths.{Step as PlainStep, by_key, by_place, by_token}
+-- What replies of the code mean.
+use Rattle.std.specs.Prelude.{map, string_bytes}
 use Rattle.sj_document.specs.Document.{tree}
-use Rattle.sj_run.specs.Commands as plain
 use Rattle.sj_run.specs.Replies as said
-use Rattle.sj_run.specs.declared.command.Command.{Command}
-use Rattle.sj_run.specs.declared.command.Command.TheVariants as command
-use Rattle.sj_run.specs.declared.command.Step.{Step}
-use Rattle.sj_run.specs.declared.command.Step.TheVariants.{Key, Idx, Token}
-use Rattle.sj_run.specs.declared.command.Width.{Width}
-use Rattle.sj_run.specs.declared.command.Width.TheVariants as width
 use Rattle.sj_run.specs.declared.reply.Reply.{Reply}
 use Rattle.sj_run.specs.declared.reply.Reply.TheVariants as reply
-
-abbrev pub step_meant : Step → PlainStep
-step_meant (Key k) = by_key (string_bytes k)
-step_meant (Idx i) = by_place i
-step_meant (Token k) = by_token (string_bytes k)
-
-abbrev pub path_meant : List Step → List PlainStep
-path_meant p = map step_meant p
-
-abbrev pub width_meant : Width → plain.Width
-width_meant width.I8 = plain.signed 8
-width_meant width.I16 = plain.signed 16
-width_meant width.I32 = plain.signed 32
-width_meant width.I64 = plain.signed 64
-width_meant width.I128 = plain.signed 128
-width_meant width.U8 = plain.unsigned 8
-width_meant width.U16 = plain.unsigned 16
-width_meant width.U32 = plain.unsigned 32
-width_meant width.U64 = plain.unsigned 64
-width_meant width.U128 = plain.unsigned 128
-width_meant width.Usize = plain.unsigned 64
-
-abbrev pub command_meant : Command → plain.PlainCommand
-command_meant (command.Kind p) = plain.read (path_meant p.items) plain.kind
-command_meant (command.Fits p w) = plain.read (path_meant p.items) (plain.fits (width_meant w))
-command_meant (command.Str p) = plain.read (path_meant p.items) plain.str
-command_meant (command.Len p) = plain.read (path_meant p.items) plain.len
-command_meant (command.Keys p) = plain.read (path_meant p.items) plain.keys
-command_meant (command.Has p k) = plain.read (path_meant p.items) (plain.has (string_bytes k))
-command_meant (command.Encode p) = plain.read (path_meant p.items) plain.encode
-command_meant (command.EncodePp p) = plain.read (path_meant p.items) plain.encode_pp
-command_meant command.Bad = plain.bad
-command_meant (command.Insert p k v) = plain.write (path_meant p.items) (plain.insert (string_bytes k) (tree string_bytes v))
-command_meant (command.Remove p k) = plain.write (path_meant p.items) (plain.remove (string_bytes k))
-command_meant (command.Push p v) = plain.write (path_meant p.items) (plain.push (tree string_bytes v))
-command_meant (command.Pop p) = plain.write (path_meant p.items) plain.pop
-command_meant (command.Put p v) = plain.write (path_meant p.items) (plain.put (tree string_bytes v))
 
 abbrev pub reply_meant : Reply → said.PlainReply
 reply_meant (reply.Kind k) = said.kind k

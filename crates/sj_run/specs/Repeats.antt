@@ -6,8 +6,8 @@ use Rattle.sj_text_core.specs.Paths.{tree_at_by}
 use Rattle.sj_text_core.specs.Repeats.{find_by, keep_by}
 use Rattle.sj_text_core.specs.declared.repeats.Repeats.{Repeats}
 use Rattle.sj_text_core.specs.declared.repeats.Repeats.TheVariants.{First}
-use Rattle.sj_run.specs.Commands.{Read, PlainCommand, read, write, bad}
-use Rattle.sj_run.specs.Commands as command
+use Rattle.sj_commands.specs.Commands.{Read, PlainCommand, read, write, bad}
+use Rattle.sj_commands.specs.Commands as command
 use Rattle.sj_run.specs.Replies.{PlainReply}
 use Rattle.sj_run.specs.Replies as reply
 use Rattle.sj_run.specs.Answers.{reply_to, edit}

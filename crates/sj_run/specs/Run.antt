@@ -6,7 +6,7 @@ use Rattle.sj_text_core.specs.declared.repeats.Repeats.{Repeats}
 use Rattle.sj_text_core.specs.declared.repeats.Repeats.TheVariants.{First}
 use Rattle.sj_text_core.specs.declared.error.WriteError.{WriteError}
 use Rattle.sj_text_core.specs.declared.error.WriteError.TheVariants as write_error
-use Rattle.sj_run.specs.Commands.{PlainCommand, read, write, bad}
+use Rattle.sj_commands.specs.Commands.{PlainCommand, read, write, bad}
 use Rattle.sj_run.specs.Replies.{PlainReply}
 use Rattle.sj_run.specs.Answers.{IsLong}
 use Rattle.sj_run.specs.Repeats.{answer_by, replies_by, part_after}

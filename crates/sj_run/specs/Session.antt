@@ -3,11 +3,11 @@ use Rattle.std.specs.Prelude.{◌≡◌, ℕ, ◌+◌, ◌^◌, ◌≤◌, List,
 use Rattle.sj_text_core.specs.Tree.{Tree, IsWithin}
 use Rattle.sj_text_core.specs.Grammar.{Spells}
 use Rattle.sj_text_core.specs.declared.repeats.Repeats.{Repeats}
-use Rattle.sj_run.specs.Commands.{PlainCommand}
-use Rattle.sj_run.specs.CommandLines.{AreCommandsOf}
+use Rattle.sj_commands.specs.Commands.{PlainCommand}
+use Rattle.sj_commands.specs.CommandLines.{AreCommandsOf}
 use Rattle.sj_run.specs.Answers.{replies_of, start}
 use Rattle.sj_run.specs.Repeats.{replies_by, start_by}
-use Rattle.sj_run.specs.Lines.{document, lines}
+use Rattle.sj_commands.specs.Lines.{document, lines}
 use Rattle.sj_run.specs.Shown.{shown_all}
 use Rattle.sj_run.specs.declared.document.Way.{Way}
 use Rattle.sj_run.specs.declared.document.Way.TheVariants.{ByText, ByKnownKey}

@@ -2,22 +2,22 @@
 
 ghost use Rattle.std.specs.Prelude.{◌≡◌, [], map, IfOk, OnOk, OnErr};
 ghost use Rattle.sj_document.specs.Document.{tree};
-ghost use Rattle.sj_run.specs.Commands as command;
+ghost use Rattle.sj_commands.specs.Commands as command;
 ghost use Rattle.sj_run.specs.Asked.{write_meant};
 ghost use Rattle.sj_run.specs.Answers.{answer, IsLong};
 ghost use Rattle.sj_run.specs.Changed.{changed_meant, Edits};
-ghost use Rattle.sj_run.specs.Meant.{step_meant};
+ghost use Rattle.sj_commands.specs.Meant.{step_meant};
 
 mod edit;
 mod insert;
 mod lazy;
 mod told;
 
-use crate::command::Step;
 use crate::document::Way;
 use edit::edit_at;
 pub(crate) use insert::Inserts;
 pub(crate) use lazy::change_lazy;
+use sj_commands::Step;
 use sj_document::Document;
 use sj_object::KeyText;
 use sj_text_core::AccessError;

@@ -5,19 +5,21 @@ ghost use Rattle.std.specs.Cow.{cow_str_bytes};
 ghost use Rattle.sj_text_core.specs.Tree.{Tree};
 ghost use Rattle.sj_text_core.specs.declared.repeats.Repeats.{Repeats};
 ghost use Rattle.sj_run.specs.Answers.{IsLong};
-ghost use Rattle.sj_run.specs.Meant.{command_meant, reply_meant};
+ghost use Rattle.sj_commands.specs.Meant.{command_meant};
+ghost use Rattle.sj_run.specs.Meant.{reply_meant};
 ghost use Rattle.sj_run.specs.Repeats.{answer_by};
 ghost use Rattle.sj_run.specs.Run.{Leaves};
 
 mod lazy;
 
+use crate::asked::{Asked, taken_apart};
 use crate::change::{change_at, owned_changed, reply_of};
-use crate::command::{Asked, Command, taken_apart};
 pub use crate::document::lazy::LazyDoc;
 use crate::find::reply_at;
 use crate::reply::Reply;
 use crate::runs::Why;
 use crate::texts::borrowed_write;
+use sj_commands::Command;
 use sj_document::{BorrowedValue, OwnedValue};
 use std::alloc::Global;
 use std::borrow::CowStr;

@@ -5,21 +5,23 @@ ghost use Rattle.sj_text_core.specs.Paths.{step_into_by, token_into_by, tree_at_
 ghost use Rattle.sj_run.specs.Answers.{is_in, IsLong};
 ghost use Rattle.sj_run.specs.Answered.{Answers, IsBegunBy, PassesOne};
 ghost use Rattle.sj_run.specs.Asked.{read_meant};
-ghost use Rattle.sj_run.specs.Commands as command;
+ghost use Rattle.sj_commands.specs.Commands as command;
 ghost use Rattle.sj_run.specs.Found.{found_meant};
-ghost use Rattle.sj_run.specs.Meant.{reply_meant, step_meant, width_meant};
+ghost use Rattle.sj_commands.specs.Meant.{step_meant, width_meant};
+ghost use Rattle.sj_run.specs.Meant.{reply_meant};
 ghost use Rattle.sj_run.specs.Repeats.{answer_by, reply_to_by};
 
 mod found;
 mod place;
 
-use crate::command::{Read, Step, Width};
+use crate::asked::Read;
 use crate::document::Way;
 use crate::reply::Reply;
 use crate::runs::Why;
 use found::Found;
 pub(crate) use place::Place;
-use sj_path::position;
+use sj_commands::{Step, Width};
+use sj_pointer::position;
 use sj_text_core::{TypedValue, ValueAsScalar};
 use std::alloc::Global;
 

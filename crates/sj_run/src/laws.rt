@@ -1,16 +1,8 @@
 //! What holds of sessions: each function's contract is a law, and its body is empty.
 
-ghost use Rattle.sj_run.specs.Laws.{LinesJoin, DocumentBegins, RepliesAreMany, RunsJoin};
+ghost use Rattle.sj_run.specs.Laws.{RepliesAreMany, RunsJoin};
 
-/// The lines of an input, one behind another, are the input.
-pub fn lines_join()
-    ensures { LinesJoin }
-{}
-
-/// The document of an input is its beginning.
-pub fn document_begins()
-    ensures { DocumentBegins }
-{}
+pub use sj_commands::laws::{document_begins, lines_join};
 
 /// Each command gives one reply.
 pub fn replies_are_many()

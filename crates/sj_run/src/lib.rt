@@ -2,20 +2,19 @@
 //! are those that the same commands get on one plain tree.
 #![tactic(auto)]
 
+mod asked;
 mod change;
-mod command;
 mod document;
 mod find;
 mod keys;
 pub mod laws;
-mod lines;
 mod reply;
 mod runs;
 mod sessions;
 mod texts;
 
-pub use command::{Command, Step, Width};
 pub use document::{BorrowedDoc, Document, LazyDoc, OwnedDoc, Way};
 pub use reply::Reply;
 pub use runs::{RunFault, Why, run};
 pub use sessions::{Form, SessionFault, session, session_repeats};
+pub use sj_commands::{Command, Step, Width};

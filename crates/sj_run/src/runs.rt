@@ -2,12 +2,13 @@
 
 ghost use Rattle.std.specs.Prelude.{◌≡◌, IfOk, IfErr, OnOk, map};
 ghost use Rattle.sj_run.specs.Repeats.{replies_by, part_after};
-ghost use Rattle.sj_run.specs.Meant.{command_meant, reply_meant};
+ghost use Rattle.sj_commands.specs.Meant.{command_meant};
+ghost use Rattle.sj_run.specs.Meant.{reply_meant};
 ghost use Rattle.sj_run.specs.Run.{Faults};
 
-use crate::command::Command;
 use crate::document::Document;
 use crate::reply::Reply;
+use sj_commands::Command;
 use sj_text_core::WriteError;
 use std::alloc::{AllocError, AllocFailed, Global};
 use thiserror::Error;

@@ -3,16 +3,16 @@
 ghost use Rattle.std.specs.Prelude.{◌≡◌, ◌≢◌, ◌↔◌, List, ℕ, ◌++◌, IfOk, OnOk, OnErr, IsErrOf, IsUtf8, Ok, Err, length};
 ghost use Rattle.sj_text_core.specs.Grammar.{IsReadable, Spells};
 ghost use Rattle.sj_text_core.specs.Tree.{IsWithin};
-ghost use Rattle.sj_run.specs.Lines.{document as document_of};
+ghost use Rattle.sj_commands.specs.Lines.{document as document_of};
 ghost use Rattle.sj_run.specs.Answered.{ReadsTree};
 ghost use Rattle.sj_run.specs.Session.{IsServed, IsAnswered, IsAnsweredBy, PassesAll, PassesAllBy};
 
 mod answer;
 
 use crate::document::{BorrowedDoc, LazyDoc, OwnedDoc, Way};
-use crate::lines::cut_at_mark;
 use crate::runs::Why;
 use crate::sessions::answer::answer_all;
+use sj_commands::cut_at_mark;
 use sj_document::{BorrowedValue, OwnedValue};
 use sj_lazy::Value;
 use sj_object::{Builder, KeyOf, deserialize_repeats};

@@ -4,7 +4,7 @@ use Rattle.std.specs.Fmt.{digits}
 use Rattle.sj_text_core.specs.Tree.{u64, i64, Tree, null, boolean, int, text, list, obj, no_items, item, no_members, member}
 use Rattle.sj_text_core.specs.Paths.{by_key, by_place}
 use Rattle.sj_run.specs.declared.sessions.Form.TheVariants.{Owned, Borrowed, Lazy}
-use Rattle.sj_run.specs.Commands.{signed, read, write, bad, kind, fits, str, len, keys, has, encode, insert, remove, push, pop, put, PlainCommand}
+use Rattle.sj_commands.specs.Commands.{signed, read, write, bad, kind, fits, str, len, keys, has, encode, insert, remove, push, pop, put, PlainCommand}
 use Rattle.sj_run.specs.Answers.{start, replies_of}
 use Rattle.sj_run.specs.Shown.{shown_all}
 

@@ -7,16 +7,16 @@ ghost use Rattle.sj_object.specs.Members.{entry_members};
 ghost use Rattle.sj_document.specs.Document.{tree};
 ghost use Rattle.sj_run.specs.Asked.{write_meant};
 ghost use Rattle.sj_run.specs.Changed.{Edits};
-ghost use Rattle.sj_run.specs.Meant.{step_meant};
+ghost use Rattle.sj_commands.specs.Meant.{step_meant};
 
 use super::insert::Inserts;
 use super::{Changed, Write, change};
-use crate::command::Step;
 use crate::document::Way;
 use crate::keys::member_mut;
+use sj_commands::Step;
 use sj_document::{Document, Object};
 use sj_object::KeyText;
-use sj_path::position;
+use sj_pointer::position;
 use std::alloc::AllocError;
 
 /// Changes the value at the path in its place; where nothing stands there, it changes nothing.

@@ -3,7 +3,7 @@
 ghost use Rattle.std.specs.Prelude.{[], string_bytes};
 ghost use Rattle.std.specs.Cow.{cow_str_bytes};
 ghost use Rattle.sj_document.specs.Document.{tree};
-ghost use Rattle.sj_run.specs.Commands as command;
+ghost use Rattle.sj_commands.specs.Commands as command;
 ghost use Rattle.sj_run.specs.Changed.{Edits};
 
 use super::Changed;

@@ -5,12 +5,12 @@ ghost use Rattle.sj_lazy.specs.Value.{lazy_kept, owned};
 ghost use Rattle.sj_run.specs.Answers.{edit};
 ghost use Rattle.sj_run.specs.Asked.{write_meant};
 ghost use Rattle.sj_run.specs.Changed.{changed_meant};
-ghost use Rattle.sj_run.specs.Meant.{step_meant};
+ghost use Rattle.sj_commands.specs.Meant.{step_meant};
 
 use super::edit::edit_at;
 use super::{Changed, Inserts, Write};
-use crate::command::Step;
 use crate::document::Way;
+use sj_commands::Step;
 use sj_lazy::{Lazy, Lent, Upgrade};
 use sj_object::KeyText;
 use std::alloc::{AllocError, Global};

@@ -3,16 +3,16 @@
 
 ghost use Rattle.std.specs.Prelude.{◌≡◌, ◌+◌, ◌^◌, ◌≤◌, length, OnOk, OnErr, IsErrOf};
 ghost use Rattle.sj_run.specs.Answered.{Answers, AnswersLine, AnswersLines, IsBegunBy, PassesOne, PassesLine, PassesLines};
-ghost use Rattle.sj_run.specs.Lines.{full_lines, line_texts};
-ghost use Rattle.sj_run.specs.Meant.{command_meant};
+ghost use Rattle.sj_commands.specs.Lines.{full_lines, line_texts};
+ghost use Rattle.sj_commands.specs.Meant.{command_meant};
 
+use crate::asked::{Asked, taken_apart};
 use crate::change::change_at;
-use crate::command::{Asked, Command, command_of, taken_apart};
 use crate::document::{BorrowedDoc, Document, LazyDoc, OwnedDoc};
 use crate::find::write_at;
-use crate::lines::{line_len, text_len};
 use crate::runs::Why;
 use crate::texts::borrowed_write;
+use sj_commands::{Command, command_of, line_len, text_len};
 use std::alloc::Global;
 
 /// A document that writes its replies out.

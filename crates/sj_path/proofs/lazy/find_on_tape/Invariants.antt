@@ -1,6 +1,6 @@
 use Rattle.std.proofs.Common.{◌≡◌, map, drop, string_bytes}
 use Rattle.sj_tape.specs.Value.{tree, choice}
-use Rattle.sj_path.specs.Pointed.{pointed_by}
+use Rattle.sj_pointer.specs.Pointed.{pointed_by}
 use Rattle.sj_path.proofs.lazy.find_on_tape.Given as goal
 
 abbrev pub invariant-loop-token : goal.invariant-loop-token

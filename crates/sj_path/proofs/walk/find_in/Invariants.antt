@@ -1,6 +1,6 @@
 use Rattle.std.proofs.Common.{◌≡◌, map, drop, string_bytes}
 use Rattle.sj_document.specs.Document.{tree}
-use Rattle.sj_path.specs.Pointed.{pointed}
+use Rattle.sj_pointer.specs.Pointed.{pointed}
 use Rattle.sj_path.proofs.walk.find_in.Given as goal
 
 abbrev pub invariant-loop-token : goal.invariant-loop-token

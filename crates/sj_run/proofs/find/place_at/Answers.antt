@@ -1,5 +1,5 @@
 use Rattle.std.proofs.Common.{Some, None, option_map, sym, ap, ◌∙◌}
-use Rattle.sj_run.specs.Meant.{step_meant}
+use Rattle.sj_commands.specs.Meant.{step_meant}
 use Rattle.sj_text_core.specs.Paths.{step_into_by}
 use Rattle.sj_run.proofs.Founds.{step_at}
 use Rattle.sj_run.proofs.find.place_at.Goals as goal

@@ -1,5 +1,5 @@
 use Rattle.std.proofs.Common.{◌≡◌, map, drop}
-use Rattle.sj_run.specs.Meant.{step_meant}
+use Rattle.sj_commands.specs.Meant.{step_meant}
 use Rattle.sj_text_core.specs.Paths.{tree_at_by}
 use Rattle.sj_run.proofs.find.place_at.Given as goal
 

@@ -1,6 +1,7 @@
 use Rattle.std.proofs.Common.{[], ◌∷◌, map}
 use Rattle.std.specs.Vec.Iter.{into_iter_items}
-use Rattle.sj_run.specs.Meant.{command_meant, reply_meant}
+use Rattle.sj_commands.specs.Meant.{command_meant}
+use Rattle.sj_run.specs.Meant.{reply_meant}
 use Rattle.sj_run.proofs.Series.{stays, may_refuse, told_last, after_last, asked_apart, all_last}
 use Rattle.sj_run.proofs.runs.run.Goals as goal
 use Rattle.std.proofs.lemmas.List.{map-append}

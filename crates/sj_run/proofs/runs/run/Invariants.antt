@@ -1,7 +1,8 @@
 use Rattle.std.proofs.Common.{◌≡◌, ◌++◌, map}
 use Rattle.std.specs.Vec.Iter.{into_iter_items}
 use Rattle.sj_run.specs.Repeats.{replies_by, part_after}
-use Rattle.sj_run.specs.Meant.{command_meant, reply_meant}
+use Rattle.sj_commands.specs.Meant.{command_meant}
+use Rattle.sj_run.specs.Meant.{reply_meant}
 use Rattle.sj_run.proofs.runs.run.Given as goal
 
 abbrev pub invariant-loop-command : goal.invariant-loop-command

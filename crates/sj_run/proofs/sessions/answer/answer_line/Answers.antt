@@ -1,5 +1,5 @@
 use Rattle.std.proofs.Common.{rules, length}
-use Rattle.sj_run.specs.Meant.{command_meant}
+use Rattle.sj_commands.specs.Meant.{command_meant}
 use Rattle.sj_run.proofs.CommandLemmas.{line_passes}
 use Rattle.sj_run.proofs.sessions.answer.answer_line.Goals as goal
 

@@ -2,7 +2,7 @@ use Rattle.std.proofs.Common.{length, ◌-◌, ◌≡◌, ◌≤◌, ℕ, List, 
 use Rattle.sj_text_core.specs.Tree.{Tree}
 use Rattle.sj_text_core.specs.declared.repeats.Repeats.{Repeats}
 use Rattle.sj_run.specs.Answered.{AnswersLines, PassesLines, IsBegunBy}
-use Rattle.sj_run.specs.Lines.{full_lines, line_texts}
+use Rattle.sj_commands.specs.Lines.{full_lines, line_texts}
 use Rattle.sj_run.proofs.sessions.answer.answer_lines.Given as goal
 
 abbrev pub invariant-loop-at : goal.invariant-loop-at

@@ -1,0 +1,12 @@
+pub mod Commands
+pub mod Meant
+pub mod Lines
+pub mod CommandLines
+pub mod Laws
+pub use Rattle.sj_text_core.specs.Tree
+pub use Rattle.sj_text_core.specs.Grammar
+pub use Rattle.sj_text_core.specs.Keep
+pub use Rattle.sj_text_core.specs.Paths
+pub use Rattle.sj_pointer.specs.Syntax
+pub use Rattle.sj_pointer.specs.Tokens
+pub use Rattle.sj_pointer.specs.Pointed

@@ -1,0 +1,13 @@
+//! What holds of the lines of an input: each function's contract is a law, and its body is empty.
+
+ghost use Rattle.sj_commands.specs.Laws.{LinesJoin, DocumentBegins};
+
+/// The lines of an input, one behind another, are the input.
+pub fn lines_join()
+    ensures { LinesJoin }
+{}
+
+/// The document of an input is its beginning.
+pub fn document_begins()
+    ensures { DocumentBegins }
+{}

@@ -1,5 +1,0 @@
-use Rattle.sj_path.proofs.Spellings.{spelled_are}
-use Rattle.sj_path.proofs.laws.tokens_are_spelled.Goals as goal
-
-pub returns : goal.returns
-returns c = spelled_are

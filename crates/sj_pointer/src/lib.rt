@@ -1,0 +1,24 @@
+//! JSON pointers (RFC 6901) as texts, whatever they lead into.
+//!
+//! A pointer is a text: empty, or tokens each begun by a slash. On an object a token is a key, on an
+//! array the position of an item.
+//!
+//! ```
+//! let key = pointer(alloc, "/a~1b")?;
+//! key.tokens(); // ["a/b"]
+//! pointer(alloc, "/a~2").err(); // Some(PointerError::BadTilde)
+//! position("90"); // Some(90)
+//! position("01"); // None
+//! ```
+#![tactic(auto)]
+
+mod error;
+pub mod laws;
+mod parse;
+mod place;
+mod tokens;
+
+pub use error::PointerError;
+pub use parse::pointer;
+pub use place::position;
+pub use tokens::Pointer;

@@ -1,5 +1,0 @@
-use Rattle.sj_run.proofs.LineLemmas.{document-begins}
-use Rattle.sj_run.proofs.laws.document_begins.Goals as goal
-
-pub returns : goal.returns
-returns c = λ b. document-begins b
