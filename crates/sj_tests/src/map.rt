@@ -133,28 +133,34 @@ fn keeps_the_stored_key(rt: HostRuntime) -> Result<(), Fail> {
     Ok(())
 }
 
-/// Texts of one character. Their hashes differ, also modulo 64.
-const CHARACTERS: [&str; 40] = [
-    "0", "1", "2", "3", "4", "5", "6", "7", "8", "9", ":", ";", "<", "=", ">", "?", "@", "A", "B",
-    "C", "D", "E", "F", "G", "H", "I", "J", "K", "L", "M", "N", "O", "P", "Q", "R", "S", "T", "U",
-    "V", "W",
-];
+/// A text of one character. The hashes of 40 such texts in turn differ, also modulo 64.
+fn character(alloc: Global, number: u8) -> Result<String, Fail> {
+    let mut text = String::new(alloc);
+    text.push(char::from(b'0'.wrapping_add(number)))?;
+    Ok(text)
+}
+
+/// The map of 40 such texts, each with its number.
+fn characters(alloc: Global) -> Result<HashMap<String, u64, ObjectHasher>, Fail> {
+    let mut map = HashMap::with_capacity_and_hasher(alloc, 0, ObjectHasher::default())?;
+    for number in 0..40 {
+        map.insert(character(alloc, number)?, u64::from(number))?;
+    }
+    Ok(map)
+}
 
 #[test]
 fn removes_from_the_middle_of_40(rt: HostRuntime) -> Result<(), Fail> {
-    let alloc = rt.alloc();
-    let mut map = HashMap::with_capacity_and_hasher(alloc, 0, ObjectHasher::default())?;
-    for (number, key) in CHARACTERS.into_iter().enumerate() {
-        inserts(alloc, &mut map, key, number as u64)?;
-    }
+    let mut map = characters(rt.alloc())?;
     assert_eq!(rt; removes(&mut map, "D"), (Some(20), 39, false));
-    for (number, key) in CHARACTERS.into_iter().enumerate() {
+    for number in 0..40 {
+        let key = character(rt.alloc(), number)?;
         let wanted = if number == 20 {
             None
         } else {
-            Some(number as u64)
+            Some(u64::from(number))
         };
-        assert_eq!(rt; map.get(key).copied(), wanted, "{key}");
+        assert!(rt; map.get(key.as_str()).copied() == wanted, "{key}");
     }
     Ok(())
 }

@@ -198,6 +198,11 @@ fn members_by_type_with_faults(rt: HostRuntime) -> Result<(), Fail> {
     Ok(())
 }
 
+/// The array at place 1.
+fn array_inside<'t, 'i>(whole: Value<'t, 'i>) -> Option<Array<'t, 'i>> {
+    whole.get_idx(1)?.as_array()
+}
+
 /// Whether a text has these items, and these in the array at place 1.
 fn is_list(
     alloc: Global,
@@ -207,12 +212,9 @@ fn is_list(
 ) -> Result<[bool; 2], ErrorKind> {
     let mut bytes = text.as_bytes().to_vec(alloc)?;
     let tape = to_tape(alloc, bytes.as_mut_slice())?;
-    let array = tape.as_value().as_array();
-    let part = match tape.as_value().get_idx(1) {
-        Some(part) => part.as_array(),
-        None => None,
-    };
-    Ok([has_items(array, outer), has_items(part, inner)])
+    let whole = tape.as_value();
+    let part = array_inside(whole);
+    Ok([has_items(whole.as_array(), outer), has_items(part, inner)])
 }
 
 #[test]
