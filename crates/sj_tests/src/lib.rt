@@ -4,8 +4,6 @@
 #![tactic(auto)]
 
 #[cfg(test)]
-mod core;
-#[cfg(test)]
 mod documents;
 #[cfg(test)]
 mod generators;
@@ -13,3 +11,5 @@ mod generators;
 mod map;
 #[cfg(test)]
 mod tape;
+#[cfg(test)]
+mod text_core;
