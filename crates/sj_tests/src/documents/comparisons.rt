@@ -86,7 +86,7 @@ fn forms_are_compared(rt: HostRuntime) {
     }
 }
 
-/// Whether the document 5 is 5, however it is given.
+/// Whether a document of the number 5 is 5, however it is given.
 fn is_five(five: &OwnedValue) -> [bool; 6] {
     let n = 5_u64;
     [
