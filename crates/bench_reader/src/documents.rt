@@ -21,47 +21,55 @@ fn once(rt: &HostRuntime, way: usize, bytes: &mut [u8]) -> io::Result<Option<[u6
     let alloc = rt.alloc();
     let start = rt.thread_cpu_time()?;
     match way {
-        0 => {
-            let Ok(tape) = to_tape(alloc, bytes) else {
-                return Ok(None);
-            };
-            let read = rt.thread_cpu_time()?;
-            let is_printed = tape.as_value().encode(alloc).is_ok();
-            let printed = rt.thread_cpu_time()?;
-            drop(tape);
-            times(rt, is_printed, start, read, printed)
-        }
-        1 => {
-            let Ok(value) = sj_borrowed::to_value(alloc, bytes) else {
-                return Ok(None);
-            };
-            let read = rt.thread_cpu_time()?;
-            let is_printed = value.encode(alloc).is_ok();
-            let printed = rt.thread_cpu_time()?;
-            drop(value);
-            times(rt, is_printed, start, read, printed)
-        }
-        2 => {
-            let Ok(value) = sj_owned::to_value(alloc, bytes) else {
-                return Ok(None);
-            };
-            let read = rt.thread_cpu_time()?;
-            let is_printed = value.encode(alloc).is_ok();
-            let printed = rt.thread_cpu_time()?;
-            drop(value);
-            times(rt, is_printed, start, read, printed)
-        }
-        _ => {
-            let Some(value) = by_serde(alloc, bytes) else {
-                return Ok(None);
-            };
-            let read = rt.thread_cpu_time()?;
-            let is_printed = value.to_string(alloc).is_ok();
-            let printed = rt.thread_cpu_time()?;
-            drop(value);
-            times(rt, is_printed, start, read, printed)
-        }
+        0 => match to_tape(alloc, bytes) {
+            Ok(tape) => {
+                let read = rt.thread_cpu_time()?;
+                let is_printed = tape.as_value().encode(alloc).is_ok();
+                let printed = rt.thread_cpu_time()?;
+                drop(tape);
+                times(rt, is_printed, start, read, printed)
+            }
+            Err(_) => Ok(None),
+        },
+        1 => match sj_borrowed::to_value(alloc, bytes) {
+            Ok(value) => print_and_drop(rt, start, value),
+            Err(_) => Ok(None),
+        },
+        2 => match sj_owned::to_value(alloc, bytes) {
+            Ok(value) => print_and_drop(rt, start, value),
+            Err(_) => Ok(None),
+        },
+        _ => match by_serde(alloc, bytes) {
+            Some(value) => print_and_drop_other(rt, start, value),
+            None => Ok(None),
+        },
     }
+}
+
+/// Prints a document that was read since `start`, and lets it go.
+fn print_and_drop<V: Writable + Drop>(
+    rt: &HostRuntime,
+    start: Duration,
+    value: V,
+) -> io::Result<Option<[u64; 3]>> {
+    let read = rt.thread_cpu_time()?;
+    let is_printed = value.encode(rt.alloc()).is_ok();
+    let printed = rt.thread_cpu_time()?;
+    drop(value);
+    times(rt, is_printed, start, read, printed)
+}
+
+/// The same of a value of `serde_json`.
+fn print_and_drop_other(
+    rt: &HostRuntime,
+    start: Duration,
+    value: Value,
+) -> io::Result<Option<[u64; 3]>> {
+    let read = rt.thread_cpu_time()?;
+    let is_printed = value.to_string(rt.alloc()).is_ok();
+    let printed = rt.thread_cpu_time()?;
+    drop(value);
+    times(rt, is_printed, start, read, printed)
 }
 
 fn by_serde(alloc: Global, bytes: &[u8]) -> Option<Value> {

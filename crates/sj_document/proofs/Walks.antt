@@ -1,14 +1,9 @@
 -- A walk over the items of a document, one after another.
-use Rattle.std.proofs.Common.{◌≡◌, ℕ, zero, suc, ◌+◌, ◌<◌, ◌≤◌, List, [], ◌∷◌, ◌++◌, map, length, get_or, take, sym, ap, ◌∙◌, arith, Result, Ok, Err, true≢false, false}
-use Rattle.std.specs.Result.{OnOk, is_err}
+use Rattle.std.proofs.Common.{◌≡◌, ℕ, zero, suc, ◌+◌, ◌<◌, ◌≤◌, List, [], ◌∷◌, ◌++◌, map, length, get_or, take, sym, ap, ◌∙◌, arith}
 use Rattle.std.proofs.lemmas.List.{map-append, take_more}
 use Rattle.sj_text_core.specs.Tree.{depth, items_depth, items_from}
 use Rattle.sj_document.specs.Document.{tree}
 use Rattle.sj_document.specs.declared.value.Document.{Document}
-
-pub done_ok : {A E : Type 0} {P : Type 0} (r : Result A E) → is_err r ≡ false → OnOk r P → P
-done_ok (Ok a) e h = h
-done_ok (Err x) e h = absurd (true≢false e)
 
 module _ {T : Type 0} (t : T → List ℕ) where
   pub item_within : (vs : List (Document T)) (i : ℕ) (x : Document T) → i < length vs → x ≡ get_or vs i x → depth (tree t x) ≤ items_depth (items_from (map (tree t) vs))

@@ -83,66 +83,68 @@ fn nested(alloc: Global, count: usize) -> Result<String, Fail> {
     Ok(text)
 }
 
+/// Inputs of sessions, each with what is answered.
+const ANSWERS: [(&str, &str); 16] = [
+    // the first example, and a key that is written with escapes
+    (
+        "{\"some\": [\"key\", \"value\", 2]}\n---\n[\"encode\",[]]\n[\"insert\",[],\"n\",-0]\n[\"insert\",[],\"n\",true]\n[\"encode\",[]]\n",
+        "> {\"some\":[\"key\",\"value\",2]}\nnone\n0\n{\"some\":[\"key\",\"value\",2],\"n\":true}\n",
+    ),
+    (
+        "{\"q\\\"k\":\"a\\/b\\u0041\"}\n---\n[\"encode\",[]]",
+        "> {\"q\\\"k\":\"a/bA\"}\n",
+    ),
+    (
+        "\"\\ud83d\\ude00\"\n---\n[\"encode\",[]]",
+        "> \"\u{1f600}\"\n",
+    ),
+    // carriers at their limits print as they were read
+    (
+        "[340282366920938463463374607431768211455,-170141183460469231731687303715884105728]\n---\n[\"encode\",[]]\n",
+        "> [340282366920938463463374607431768211455,-170141183460469231731687303715884105728]\n",
+    ),
+    (
+        "[18446744073709551615,18446744073709551616,-9223372036854775808,-9223372036854775809,-0]\n---\n[\"encode\",[]]",
+        "> [18446744073709551615,18446744073709551616,-9223372036854775808,-9223372036854775809,0]\n",
+    ),
+    // repeats at two depths, also of an inserted value
+    (
+        "{\"a\":{\"b\":1,\"b\":2},\"a\":3}\n---\n[\"insert\",[],\"c\",{\"d\":1,\"d\":2}]\n[\"encode\",[]]",
+        "> none\n{\"a\":{\"b\":1},\"c\":{\"d\":1}}\n",
+    ),
+    // no commands, with and without the line that parts them from the document
+    ("[1]", "> "),
+    ("[1]\n---\n", "> "),
+    ("[1]\n---", "> "),
+    // line ends, lines without bytes, a second line of dashes
+    ("[1]\r\n---\r\n[\"encode\",[]]\r\n", "> [1]\n"),
+    ("[1]\n---\n\n\r\n[\"encode\",[]]\n\n", "> [1]\n"),
+    ("[1]\n---\n---\n", "> bad command\n"),
+    // reads and writes of members
+    (
+        "{\"key\": \"value\", \"snot\": 42}\n---\n[\"str\",[\"key\"]]\n[\"insert\",[],\"new\",42]\n[\"keys\",[]]\n[\"fits\",[\"snot\"],\"i8\"]\n[\"remove\",[],\"snot\"]\n[\"encode\",[]]",
+        "> \"value\"\nnone\n[\"key\",\"snot\",\"new\"]\ntrue\n42\n{\"key\":\"value\",\"new\":42}\n",
+    ),
+    // a pretty print
+    (
+        "{\"a\":[1,{}]}\n---\n[\"encode_pp\",[]]",
+        "> {\n  \"a\": [\n    1,\n    {}\n  ]\n}\n",
+    ),
+    // commands of each kind on arrays
+    (
+        "[1,[2,3]]\n---\n[\"kind\",[1]]\n[\"len\",[1]]\n[\"push\",[1],{\"a\":1,\"a\":2}]\n[\"put\",[0],null]\n[\"pop\",[5]]\n[\"pop\",[]]\n[\"has\",[],\"a\"]\n[\"len\",[0]]\n[\"insert\",[],\"k\",1]\n[\"nonsense\"]\n[\"encode\",[]]",
+        "> Array\n2\nok\n1\nmissing\n[2,3,{\"a\":1}]\nfalse\nno length\nnot an object\nbad command\n[null]\n",
+    ),
+    // places, and lines that are no command: each is answered, and the session goes on
+    (
+        "[[1]]\n---\n[\"len\",[-0]]\n[\"len\",[-1]]\n[\"kind\",[340282366920938463463374607431768211455]]\n[\"encode\",[],1]\n[\"ENCODE\",[]]\n[\"fits\",[0],\"i7\"]\n{\"a\":1}\n[\"encode\",[]\n[\"insert\",[],\"a\",1.5]\n \n---\n\n\r\n[\"encode\",[]]",
+        "> 1\nbad command\nbad command\nbad command\nbad command\nbad command\nbad command\nbad command\nbad command\nbad command\nbad command\n[[1]]\n",
+    ),
+];
+
 #[test]
 fn answers(rt: HostRuntime) -> Result<(), Fail> {
-    let table = [
-        // the first example, and a key that is written with escapes
-        (
-            "{\"some\": [\"key\", \"value\", 2]}\n---\n[\"encode\",[]]\n[\"insert\",[],\"n\",-0]\n[\"insert\",[],\"n\",true]\n[\"encode\",[]]\n",
-            "> {\"some\":[\"key\",\"value\",2]}\nnone\n0\n{\"some\":[\"key\",\"value\",2],\"n\":true}\n",
-        ),
-        (
-            "{\"q\\\"k\":\"a\\/b\\u0041\"}\n---\n[\"encode\",[]]",
-            "> {\"q\\\"k\":\"a/bA\"}\n",
-        ),
-        (
-            "\"\\ud83d\\ude00\"\n---\n[\"encode\",[]]",
-            "> \"\u{1f600}\"\n",
-        ),
-        // carriers at their limits print as they were read
-        (
-            "[340282366920938463463374607431768211455,-170141183460469231731687303715884105728]\n---\n[\"encode\",[]]\n",
-            "> [340282366920938463463374607431768211455,-170141183460469231731687303715884105728]\n",
-        ),
-        (
-            "[18446744073709551615,18446744073709551616,-9223372036854775808,-9223372036854775809,-0]\n---\n[\"encode\",[]]",
-            "> [18446744073709551615,18446744073709551616,-9223372036854775808,-9223372036854775809,0]\n",
-        ),
-        // repeats at two depths, also of an inserted value
-        (
-            "{\"a\":{\"b\":1,\"b\":2},\"a\":3}\n---\n[\"insert\",[],\"c\",{\"d\":1,\"d\":2}]\n[\"encode\",[]]",
-            "> none\n{\"a\":{\"b\":1},\"c\":{\"d\":1}}\n",
-        ),
-        // no commands, with and without the line that parts them from the document
-        ("[1]", "> "),
-        ("[1]\n---\n", "> "),
-        ("[1]\n---", "> "),
-        // line ends, lines without bytes, a second line of dashes
-        ("[1]\r\n---\r\n[\"encode\",[]]\r\n", "> [1]\n"),
-        ("[1]\n---\n\n\r\n[\"encode\",[]]\n\n", "> [1]\n"),
-        ("[1]\n---\n---\n", "> bad command\n"),
-        // reads and writes of members
-        (
-            "{\"key\": \"value\", \"snot\": 42}\n---\n[\"str\",[\"key\"]]\n[\"insert\",[],\"new\",42]\n[\"keys\",[]]\n[\"fits\",[\"snot\"],\"i8\"]\n[\"remove\",[],\"snot\"]\n[\"encode\",[]]",
-            "> \"value\"\nnone\n[\"key\",\"snot\",\"new\"]\ntrue\n42\n{\"key\":\"value\",\"new\":42}\n",
-        ),
-        // a pretty print
-        (
-            "{\"a\":[1,{}]}\n---\n[\"encode_pp\",[]]",
-            "> {\n  \"a\": [\n    1,\n    {}\n  ]\n}\n",
-        ),
-        // commands of each kind on arrays
-        (
-            "[1,[2,3]]\n---\n[\"kind\",[1]]\n[\"len\",[1]]\n[\"push\",[1],{\"a\":1,\"a\":2}]\n[\"put\",[0],null]\n[\"pop\",[5]]\n[\"pop\",[]]\n[\"has\",[],\"a\"]\n[\"len\",[0]]\n[\"insert\",[],\"k\",1]\n[\"nonsense\"]\n[\"encode\",[]]",
-            "> Array\n2\nok\n1\nmissing\n[2,3,{\"a\":1}]\nfalse\nno length\nnot an object\nbad command\n[null]\n",
-        ),
-        // places, and lines that are no command: each is answered, and the session goes on
-        (
-            "[[1]]\n---\n[\"len\",[-0]]\n[\"len\",[-1]]\n[\"kind\",[340282366920938463463374607431768211455]]\n[\"encode\",[],1]\n[\"ENCODE\",[]]\n[\"fits\",[0],\"i7\"]\n{\"a\":1}\n[\"encode\",[]\n[\"insert\",[],\"a\",1.5]\n \n---\n\n\r\n[\"encode\",[]]",
-            "> 1\nbad command\nbad command\nbad command\nbad command\nbad command\nbad command\nbad command\nbad command\nbad command\nbad command\n[[1]]\n",
-        ),
-    ];
-    for (input, want) in table {
+    for (input, want) in ANSWERS {
         check(&rt, rt.alloc(), input, want)?;
     }
     Ok(())

@@ -74,6 +74,7 @@ impl PartialEq for StaticNode {
         match (*self, *other) {
             (StaticNode::Null, StaticNode::Null) => true,
             (StaticNode::Bool(a), StaticNode::Bool(b)) => a == b,
+            (StaticNode::I64(a), StaticNode::I64(b)) => a == b,
             (a, b) => match (a.sign_and_size(), b.sign_and_size()) {
                 (Some(a), Some(b)) => a == b,
                 _ => false,

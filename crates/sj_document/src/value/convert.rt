@@ -5,7 +5,7 @@ ghost use Rattle.sj_object.specs.Members.{entry_members};
 ghost use Rattle.sj_document.specs.Document.{tree};
 
 use crate::value::{Document, Object};
-use sj_object::{HashMap, KeyText, ObjectHasher};
+use sj_object::{HashMap, KeyText, MapOf, ObjectHasher};
 use std::alloc::{AllocError, Global};
 use std::borrow::CowStr;
 
@@ -91,9 +91,7 @@ fn convert_members<T: KeyText + Drop, U: TextFrom<T> + Drop>(
     for (key, member) in members {
         let name = U::text_from(alloc, key)?;
         let member = convert(alloc, member)?;
-        if made.insert(name, member).is_err() {
-            return Err(AllocError);
-        }
+        made.set(name, member)?;
     }
     Ok(made)
 }

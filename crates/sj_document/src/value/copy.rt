@@ -5,7 +5,7 @@ ghost use Rattle.sj_object.specs.Members.{entry_members};
 ghost use Rattle.sj_document.specs.Document.{tree};
 
 use crate::value::{Document, Object};
-use sj_object::{HashMap, KeyText};
+use sj_object::{HashMap, KeyText, MapOf};
 use std::alloc::AllocError;
 use std::borrow::CowStr;
 
@@ -79,9 +79,7 @@ fn copy_members<T: CopyText + Drop>(members: &Object<T>) -> Result<Object<T>, Al
     for (key, member) in members.iter() {
         let name = key.copy()?;
         let copied = copy(member)?;
-        if copies.insert(name, copied).is_err() {
-            return Err(AllocError);
-        }
+        copies.set(name, copied)?;
     }
     Ok(copies)
 }

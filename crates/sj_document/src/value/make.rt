@@ -12,7 +12,7 @@ ghost use Rattle.sj_document.specs.Makes.{IsArrayOf, IsInByteOrder, IsOrdered};
 
 use crate::value::convert::{TextFrom, convert};
 use crate::value::{BorrowedValue, Document, Object, OwnedValue};
-use sj_object::{KeyText, ObjectHasher};
+use sj_object::{KeyText, MapOf, ObjectHasher};
 use sj_text_core::TryMake;
 use std::alloc::{AllocError, Global};
 use std::borrow::CowStr;
@@ -101,9 +101,7 @@ fn put_all<T: KeyText + Drop>(
         ObjectHasher::default(),
     )?;
     for (name, value) in pairs {
-        if members.insert(name, value).is_err() {
-            return Err(AllocError);
-        }
+        members.set(name, value)?;
     }
     Ok(members)
 }
@@ -202,9 +200,7 @@ impl<T: KeyText + Drop> Document<T> {
     {
         let mut members = Object::with_capacity_and_hasher(alloc, 0, ObjectHasher::default())?;
         for (key, value) in pairs {
-            if members.insert(key, value).is_err() {
-                return Err(AllocError);
-            }
+            members.set(key, value)?;
         }
         Ok(Document::Object(Box::new(alloc, members)?))
     }

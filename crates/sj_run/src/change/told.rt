@@ -10,9 +10,9 @@ ghost use Rattle.sj_run.specs.Shown.{reply_text};
 use super::Changed;
 use crate::reply::Reply;
 use crate::runs::Why;
-use crate::texts::owned_value;
+use sj_document::OwnedValue;
 use sj_object::KeyText;
-use sj_text_core::Writable;
+use sj_text_core::{TryMake, Writable};
 use std::alloc::{AllocError, Global};
 use std::borrow::CowStr;
 
@@ -57,7 +57,7 @@ pub(crate) fn owned_changed<'v>(
     ensures { IfOk result (λ owned. changed_meant string_bytes owned ≡ changed_meant cow_str_bytes changed.entry) }
 {
     match changed {
-        Changed::Old(value) => Ok(Changed::Old(owned_value(alloc, value)?)),
+        Changed::Old(value) => Ok(Changed::Old(OwnedValue::try_make(alloc, value)?)),
         Changed::Nothing => Ok(Changed::Nothing),
         Changed::Done => Ok(Changed::Done),
         Changed::Missing => Ok(Changed::Missing),

@@ -28,6 +28,7 @@ fn value_near<'m, T: KeyText>(
 }
 
 #[cycle(same)]
+#[inline(always)]
 fn same_values<T: KeyText, U: KeyText>(left: &Document<T>, right: &Document<U>) -> bool
     ensures { IsTrue result ↔ Same (tree T.text_of left.now) (tree U.text_of right.now) }
 {
@@ -52,6 +53,7 @@ fn same_values<T: KeyText, U: KeyText>(left: &Document<T>, right: &Document<U>) 
 }
 
 #[cycle(same)]
+#[inline(never)]
 fn same_items<T: KeyText, U: KeyText>(left: &Vec<Document<T>>, right: &Vec<Document<U>>) -> bool
     ensures { IsTrue result ↔ Same (list (items_from (map (tree T.text_of) left.now.items))) (list (items_from (map (tree U.text_of) right.now.items))) }
 {
@@ -70,6 +72,7 @@ fn same_items<T: KeyText, U: KeyText>(left: &Vec<Document<T>>, right: &Vec<Docum
 
 /// Each member is looked for in its own place first.
 #[cycle(same)]
+#[inline(never)]
 fn same_members<T: KeyText, U: KeyText>(left: &Object<T>, right: &Object<U>) -> bool
     ensures { IsTrue result ↔ Same (obj (entry_members (tree T.text_of) left.now.entries)) (obj (entry_members (tree U.text_of) right.now.entries)) }
 {

@@ -1,6 +1,7 @@
 //! What a document is compared with through a reference, as a slice and as a map of std.
 
-ghost use Rattle.std.specs.Prelude.{◌≡◌, ◌↔◌, IsTrue, option_map};
+ghost use Rattle.std.specs.Prelude.{◌≡◌, ◌↔◌, IsTrue, MatchOption, option_map};
+ghost use Rattle.sj_object.specs.Edits.{lookup};
 ghost use Rattle.sj_document.specs.SameWith.{members_of};
 ghost use Rattle.sj_document.specs.SameWith.{items_of, SameEach, SameSlice, SameEntries, SameMap};
 
@@ -64,16 +65,21 @@ fn same_entries<T: KeyText, K: KeyText + Hash, X: SameWith<Document<T>>, S: Buil
         return false;
     }
     for (key, value) in map.iter() {
-        match members.get(key.text()) {
-            Some(member) => {
-                if !value.is_same_with(member) {
-                    return false;
-                }
-            }
-            None => return false,
+        if !has_same(members, key.text(), value) {
+            return false;
         }
     }
     true
+}
+
+/// Whether the object has the value at that key.
+fn has_same<T: KeyText, X: SameWith<Document<T>>>(members: &Object<T>, key: &str, value: &X) -> bool
+    ensures { IsTrue result ↔ MatchOption (lookup key.now members.now.entries) ⊥ (λ d. X.same_with d value.now) }
+{
+    match members.get(key) {
+        Some(member) => value.is_same_with(member),
+        None => false,
+    }
 }
 
 /// Same exactly where the document is an object with the same texts as the map's keys, member by

@@ -1,7 +1,7 @@
 //! Lazy values compared with maps of std, key by key. Of a tape, members that do not count are not
 //! compared.
 
-ghost use Rattle.std.specs.Prelude.{◌≡◌, ◌↔◌, ℕ, List, IsTrue, is_some, map};
+ghost use Rattle.std.specs.Prelude.{◌≡◌, ◌↔◌, ℕ, List, IsTrue, MatchOption, is_some, map};
 ghost use Rattle.sj_lazy.specs.Object.{members as members_of, object_choice};
 ghost use Rattle.sj_lazy.specs.SameMap.{EachFound, HasKeys, SameEntries, SameMap, counted};
 ghost use Rattle.sj_lazy.specs.Value.{tree, choice};
@@ -54,16 +54,21 @@ fn each_found<K: KeyText + Hash, X: SameAsLazy, S: BuildHasher>(
     ensures { IsTrue result ↔ EachFound (λ u x. X.same_lazy (object_choice object.now, u) x) K.text_of (counted (object_choice object.now) (members_of object.now)) entries.now.entries }
 {
     for (key, value) in entries.iter() {
-        match object.get(key.text()) {
-            Some(member) => {
-                if !value.same_as_lazy(&member) {
-                    return false;
-                }
-            }
-            None => return false,
+        if !has_same(object, key.text(), value) {
+            return false;
         }
     }
     true
+}
+
+/// Whether the object has the value at that key.
+fn has_same<X: SameAsLazy>(object: &Object, key: &str, value: &X) -> bool
+    ensures { IsTrue result ↔ MatchOption (counted (object_choice object.now) (members_of object.now) key.now) ⊥ (λ u. X.same_lazy (object_choice object.now, u) value.now) }
+{
+    match object.get(key) {
+        Some(member) => value.same_as_lazy(&member),
+        None => false,
+    }
 }
 
 /// Whether each key of the object is one of the map, where each of the map has the same value in

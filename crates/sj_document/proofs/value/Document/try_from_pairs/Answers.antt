@@ -1,4 +1,4 @@
-use Rattle.std.proofs.Common.{sym, ap, subst, ◌∙◌}
+use Rattle.std.proofs.Common.{ap, subst, ◌∙◌}
 use Rattle.std.specs.Iterator.{Drains}
 use Rattle.sj_text_core.specs.Tree.{obj, no_members}
 use Rattle.sj_text_core.specs.Edits as members
@@ -7,18 +7,16 @@ use Rattle.sj_object.proofs.Shown.{entry_members-put}
 use Rattle.sj_document.specs.Document.{tree}
 use Rattle.sj_document.proofs.Pairs.{put_pairs-last}
 use Rattle.sj_document.proofs.Trees.{tree-Object}
-use Rattle.sj_document.proofs.Walks.{done_ok}
 use Rattle.sj_document.proofs.value.Document.try_from_pairs.Goals as goal
 
 pub loop-key-preserved : goal.loop-key-preserved
 loop-key-preserved g c =
     let t = g.T.KeyText.text_of in
     let (can, finite, put) = c.loop-key.invariant in
-    let goes = c.in-Some.ensures.goes.on finite in
-    let done = done_ok c.insert.result (sym c.is_err.ensures.value ∙ c.if-is_err.false) c.insert.ensures.entries in (
+    let goes = c.in-Some.ensures.goes.on finite in (
       goes.0,
       goes.1,
-      ap (entry_members (tree t)) done ∙ entry_members-put (tree t) (c.in-Some.key, t c.in-Some.key) c.in-Some.value c.loop-key.members.entries
+      ap (entry_members (tree t)) c.in_ok-set.ensures ∙ entry_members-put (tree t) (c.in-Some.key, t c.in-Some.key) c.in-Some.value c.loop-key.members.entries
           ∙ ap (members.put (t c.in-Some.key) (tree t c.in-Some.value)) put ∙ put_pairs-last t no_members c.loop-key.yielded (c.in-Some.key, c.in-Some.value),
     )
 

@@ -7,7 +7,6 @@ use Rattle.sj_object.proofs.Shown.{entry_members-put}
 use Rattle.sj_object.proofs.Walks.{put_all, put_all-distinct}
 use Rattle.sj_document.specs.Document.{tree}
 use Rattle.sj_document.proofs.Trees.{tree-Object}
-use Rattle.sj_document.proofs.Walks.{done_ok}
 use Rattle.sj_document.proofs.value.convert.+convert.Goals as goal
 
 pub convert-convert_members-requires : goal.convert-convert_members-requires
@@ -39,9 +38,8 @@ convert_members-loop-key-preserved g r c =
     let rest = entries_of t c.next.new.self in
     let old = c.loop-key.made.entries in
     let ahead = ap (entries_of t) c.in-Some.ensures.steps in
-    let done = done_ok c.insert.result (sym c.is_err.ensures.value ∙ c.if-is_err.false) c.insert.ensures.entries in
     record {
-      made = ap (λ es. put_all (tree t) (entry_members (tree u) es) rest) done
+      made = ap (λ es. put_all (tree t) (entry_members (tree u) es) rest) c.in_ok-set.ensures
           ∙ ap (λ ms. put_all (tree t) ms rest) (entry_members-put (tree u) (c.in_ok-name.name, u c.in_ok-name.name) c.in_ok-member.member old)
           ∙ (λ i. put_all (tree t) (members.put (c.in_ok-name.ensures i) (c.in_ok-member.ensures i) (entry_members (tree u) old)) rest)
           ∙ ap (put_all (tree t) (entry_members (tree u) old)) (sym ahead) ∙ c.loop-key.invariant.made;

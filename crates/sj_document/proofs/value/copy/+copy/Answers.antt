@@ -7,7 +7,7 @@ use Rattle.sj_object.proofs.Shown.{entry_members-put}
 use Rattle.sj_object.proofs.Walks.{put_all, put_all-distinct}
 use Rattle.sj_document.specs.Document.{tree}
 use Rattle.sj_document.proofs.Trees.{tree-Object}
-use Rattle.sj_document.proofs.Walks.{done_ok, item_within, copied_next}
+use Rattle.sj_document.proofs.Walks.{item_within, copied_next}
 use Rattle.sj_document.proofs.value.copy.+copy.Goals as goal
 
 pub copy-copy_members-requires : goal.copy-copy_members-requires
@@ -50,11 +50,10 @@ copy_members-loop-key-preserved g r c =
     let rest = entries_of t c.next.new.self in
     let old = c.loop-key.copies.entries in
     let ahead = ap (entries_of t) c.in-Some.ensures.steps in
-    let done = done_ok c.insert.result (sym c.is_err.ensures.value ∙ c.if-is_err.false) c.insert.ensures.entries in
     record {
       can = tt;
       ends = tt;
-      copied = ap (λ es. put_all (tree t) (entry_members (tree t) es) rest) done
+      copied = ap (λ es. put_all (tree t) (entry_members (tree t) es) rest) c.in_ok-set.ensures
           ∙ ap (λ ms. put_all (tree t) ms rest) (entry_members-put (tree t) (c.in_ok-name.name, t c.in_ok-name.name) c.in_ok-copied.copied old)
           ∙ (λ i. put_all (tree t) (members.put (c.in_ok-name.ensures i) (c.in_ok-copied.ensures i) (entry_members (tree t) old)) rest)
           ∙ ap (put_all (tree t) (entry_members (tree t) old)) (sym ahead) ∙ c.loop-key.invariant.copied;

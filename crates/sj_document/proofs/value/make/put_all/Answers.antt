@@ -3,7 +3,6 @@ use Rattle.std.specs.Vec.Iter.{into_iter_items}
 use Rattle.sj_object.specs.Members.{entry_members}
 use Rattle.sj_object.proofs.Shown.{entry_members-put}
 use Rattle.sj_document.specs.Document.{tree, put_pairs}
-use Rattle.sj_document.proofs.Walks.{done_ok}
 use Rattle.sj_document.proofs.value.make.put_all.Goals as goal
 
 pub loop-name-preserved : goal.loop-name-preserved
@@ -11,7 +10,6 @@ loop-name-preserved g c =
     let t = g.T.KeyText.text_of in
     let rest = into_iter_items c.next.new.self in
     let old = c.loop-name.members.entries in
-    let done = done_ok c.insert.result (sym c.is_err.ensures.value ∙ c.if-is_err.false) c.insert.ensures.entries in
-    ap (λ es. put_pairs t (entry_members (tree t) es) rest) done
+    ap (λ es. put_pairs t (entry_members (tree t) es) rest) c.in_ok-set.ensures
     ∙ ap (λ ms. put_pairs t ms rest) (entry_members-put (tree t) (c.in-Some.name, t c.in-Some.name) c.in-Some.value old)
     ∙ sym (ap (put_pairs t (entry_members (tree t) old)) c.in-Some.ensures.steps.0) ∙ c.loop-name.invariant

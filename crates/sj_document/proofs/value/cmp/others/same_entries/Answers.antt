@@ -1,5 +1,5 @@
 use Rattle.std.proofs.Common.{sym, ap, ◌∙◌, refl, subst}
-use Rattle.std.proofs.lemmas.Option.{MatchOption-at_some, MatchOption-at_none}
+use Rattle.std.specs.Prelude.{MatchOption}
 use Rattle.sj_object.specs.Edits.{lookup}
 use Rattle.sj_tape.proofs.Compared.{denied}
 use Rattle.sj_document.specs.SameWith.{EachHas}
@@ -12,28 +12,16 @@ returns-then-len g c =
     let apart = names_apart t g.K.PartialEq.eq g.met.K.KeyText.equal_texts c.args.map.now.entries c.len-2.ensures.unique in
     (λ f. absurd (cc), λ h. absurd (c.if-len.true (c.len.ensures ∙ len_from_same g.X.SameWith.same_with t c.args.members.now.entries c.args.map.now.entries c.args.members.now.distinct apart h ∙ sym c.len-2.ensures.len)))
 
-pub returns-then-not-is_same_with : goal.returns-then-not-is_same_with
-returns-then-not-is_same_with g c =
+pub returns-then-not-has_same : goal.returns-then-not-has_same
+returns-then-not-has_same g c =
     let t = g.K.KeyText.text_of in
     let R = g.X.SameWith.same_with in
     let es = c.args.members.now.entries in
     let apart = names_apart t g.K.PartialEq.eq g.met.K.KeyText.equal_texts c.args.map.now.entries c.len-2.ensures.unique in (
       λ f. absurd (cc),
-      λ h. absurd (denied c.is_same_with.result _ c.is_same_with.ensures c.if-not-is_same_with.true
+      λ h. absurd (denied c.has_same.result _ c.has_same.ensures c.if-not-has_same.true
           (let each = subst (EachHas R t es) c.in-Some.ensures.steps (c.loop-key.invariant.off (each_from_same t R es c.args.map.now.entries apart h)) in
-          MatchOption-at_some _ _ c.in-Some-get.member.now (ap (λ k. lookup k es) (sym c.text.ensures) ∙ sym c.in-Some-get.ensures) each.0)),
-    )
-
-pub returns-in-None-get : goal.returns-in-None-get
-returns-in-None-get g c =
-    let t = g.K.KeyText.text_of in
-    let R = g.X.SameWith.same_with in
-    let es = c.args.members.now.entries in
-    let apart = names_apart t g.K.PartialEq.eq g.met.K.KeyText.equal_texts c.args.map.now.entries c.len-2.ensures.unique in (
-      λ f. absurd (cc),
-      λ h. absurd
-          (let each = subst (EachHas R t es) c.in-Some.ensures.steps (c.loop-key.invariant.off (each_from_same t R es c.args.map.now.entries apart h)) in
-          MatchOption-at_none _ _ (ap (λ k. lookup k es) (sym c.text.ensures) ∙ sym c.in-None-get.ensures) each.0),
+          subst (λ k. MatchOption (lookup k es) ⊥ (λ d. R d c.in-Some.value.now)) (sym c.text.ensures) each.0)),
     )
 
 pub returns : goal.returns
