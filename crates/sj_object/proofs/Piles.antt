@@ -1,87 +1,297 @@
 -- Piles, and the trees that nodes are.
-use Rattle.std.proofs.Common.{◌≡◌, ℕ, zero, suc, ◌+◌, ◌*◌, ◌≤◌, ◌<◌, Bool, true, false, ◌||◌, List, [], ◌∷◌, ◌++◌, map, take, drop, length, get_or, refl, ap, sym, ◌∙◌, append_assoc, append-nil, arith, All, subst, Some, Bor, drop-cons, bytes_eq}
+use Rattle.std.proofs.Common.{◌≡◌, ℕ, zero, suc, ◌+◌, ◌-◌, ◌≤◌, ◌<◌, Bool, true, false, ◌||◌, List, [], ◌∷◌, ◌++◌, map, take, drop, length, get_or, refl, ap, sym, ◌∙◌, append_assoc, append-nil, arith, All, subst, Some, drop-cons, bytes_eq}
 use Rattle.std.specs.Bool.{if◌then◌else◌}
+use Rattle.std.proofs.lemmas.List.{length-drop}
 use Rattle.std.proofs.lemmas.List.Elements.{All-pop}
-use Rattle.sj_text_core.specs.Tree.{Tree, null, boolean, int, text, list, obj, Items, no_items, item, Members, no_members, member, items_len, members_len, items_from, members_from, listed}
-use Rattle.sj_text_core.specs.Nodes.{Mark, nothing, truth, number, string, array, object, flat, flat_items, flat_members, trees_of, tree_of, items_of, members_of, IsPreorder}
+use Rattle.sj_text_core.specs.Tree.{Tree, null, boolean, int, text, list, obj, Items, no_items, item, Members, no_members, member, items_len, members_len, items_from, members_from, listed, paired}
+use Rattle.sj_text_core.specs.Nodes.{Mark, string, array, flat, flat_items, flat_members, trees_of, tree_of, first_tree, IsPreorder, width}
 use Rattle.sj_text_core.specs.Keep.{is_seen, keep, keep_items, keep_members}
 use Rattle.sj_text_core.specs.Edits as members
 use Rattle.sj_text_core.specs.Repeats.{keep_by, keep_last_items, keep_last_values, put_all}
 use Rattle.sj_text_core.specs.declared.repeats.Repeats.{Repeats}
 use Rattle.sj_text_core.specs.declared.repeats.Repeats.TheVariants.{First, Last}
-use Rattle.sj_tape.specs.Marks.{static_mark}
-use Rattle.sj_text_core.specs.Scalars.{static_tree}
-use Rattle.sj_text_core.specs.Flat.{texts_and_values, trees_of-flat, trees_of-flat_members, trees_of-flat_items}
-use Rattle.sj_text_core.specs.declared.static_node.StaticNode.{StaticNode}
-use Rattle.sj_text_core.specs.declared.static_node.StaticNode.TheVariants as scalar
+use Rattle.sj_text_core.specs.Flat.{trees_of-flat}
+use Rattle.sj_tape.specs.Fronts.{BeginsTree, AllBegin}
+use Rattle.sj_tape.proofs.Preorders.{AllBegin-preorder}
 use Rattle.sj_object.specs.Entries.{Entry}
 use Rattle.sj_object.specs.Members.{entry_members}
-use Rattle.sj_object.specs.declared.build.Part.TheVariants as part
-use Rattle.sj_object.specs.declared.build.Part.{Part}
-use Rattle.sj_object.specs.Piles.{Seen, word, whole, seen, tree_seen, part_seen, part_built, pile_onto, pile, pairs_seen, HasPairs, HasWord, pair_texts, kept, kept_by, put_pair, in_turn, shown, Needs, grown}
+use Rattle.sj_object.specs.Piles.{pile_onto, pile, made_of, left_of, IsThere, first_mark, key_of_mark, behind, CanTake, taken, left, CanTakeItems, taken_pairs, left_pairs, CanTakePairs, pair_texts, kept, kept_by, put_pair, in_turn, shown, Needs, grown}
 
--- ---- one part more, or less
+-- ---- one value more, or less
 
-pub pile_push : {V : Type 0} (tree : V → Tree) (below : List Seen) (ps : List (Part V)) (p : Part V) → pile_onto tree below (ps ++ p ∷ []) ≡ part_seen tree p ∷ pile_onto tree below ps
-pile_push tree below [] p = refl
-pile_push tree below (q ∷ ps) p = pile_push tree (part_seen tree q ∷ below) ps p
+pile_push : {V : Type 0} (tree : V → Tree) (below : List Tree) (vs : List V) (v : V) → pile_onto tree below (vs ++ v ∷ []) ≡ tree v ∷ pile_onto tree below vs
+pile_push tree below [] v = refl
+pile_push tree below (w ∷ vs) v = pile_push tree (tree w ∷ below) vs v
 
-pub popped : {V : Type 0} (tree : V → Tree) (ps qs : List (Part V)) (p : Part V) → ps ≡ qs ++ p ∷ [] → pile tree ps ≡ part_seen tree p ∷ pile tree qs
-popped tree ps qs p e = ap (pile tree) e ∙ pile_push tree [] qs p
+pub popped : {V : Type 0} (tree : V → Tree) (vs ws : List V) (v : V) → vs ≡ ws ++ v ∷ [] → pile tree vs ≡ tree v ∷ pile tree ws
+popped tree vs ws v e = ap (pile tree) e ∙ pile_push tree [] ws v
 
-pub pile_count : {V : Type 0} (tree : V → Tree) (below : List Seen) (ps : List (Part V)) → length (pile_onto tree below ps) ≡ length ps + length below
+pile_count : {V : Type 0} (tree : V → Tree) (below : List Tree) (vs : List V) → length (pile_onto tree below vs) ≡ length vs + length below
 pile_count tree below [] = omega arith
-pile_count tree below (p ∷ ps) = omega (arith, pile_count tree (part_seen tree p ∷ below) ps)
+pile_count tree below (v ∷ vs) = omega (arith, pile_count tree (tree v ∷ below) vs)
 
-pub pile_len : {V : Type 0} (tree : V → Tree) (ps : List (Part V)) → length (pile tree ps) ≡ length ps
-pile_len tree ps = omega (arith, pile_count tree [] ps)
+pub pile_len : {V : Type 0} (tree : V → Tree) (vs : List V) → length (pile tree vs) ≡ length vs
+pile_len tree vs = omega (arith, pile_count tree [] vs)
 
-pub built_popped : {V : Type 0} (built : V → Type 0) (ps qs : List (Part V)) (p : Part V) → ps ≡ qs ++ p ∷ [] → All (part_built built) ps → All (part_built built) qs × part_built built p
-built_popped built ps qs p e h = All-pop (part_built built) ps qs (Some p) e h
+-- the tree on top, and what lies below
+pub top_made : {V : Type 0} (tree : V → Tree) (vs ws : List V) (v : V) → vs ≡ ws ++ v ∷ [] → (tree v ≡ first_tree (pile tree vs)) × (pile tree ws ≡ drop 1 (pile tree vs))
+top_made tree vs ws v e = let p = popped tree vs ws v e in (sym (ap first_tree p), sym (ap (drop 1) p))
+
+pub built_popped : {V : Type 0} (built : V → Type 0) (vs ws : List V) (v : V) → vs ≡ ws ++ v ∷ [] → All built vs → All built ws × built v
+built_popped built vs ws v e h = All-pop built vs ws (Some v) e h
+
+-- ---- one tree at a position
+
+drop_more : {A : Type 0} (i n : ℕ) (xs : List A) → drop n (drop i xs) ≡ drop (i + n) xs
+drop_more zero n xs = let e : n ≡ 0 + n = omega arith in ap (λ k. drop k xs) e
+drop_more (suc i) zero [] = let e : suc (i + 0) ≡ suc i + 0 = omega arith in ap (λ k. drop k []) e
+drop_more (suc i) (suc n) [] = let e : suc (i + suc n) ≡ suc i + suc n = omega arith in ap (λ k. drop k []) e
+drop_more (suc i) n (x ∷ xs) = let e : suc (i + n) ≡ suc i + n = omega arith in drop_more i n xs ∙ ap (λ k. drop k (x ∷ xs)) e
+
+-- a slice to the end is what is left
+take_whole : {A : Type 0} (xs : List A) → take (length xs) xs ≡ xs
+take_whole [] = refl
+take_whole (x ∷ xs) = ap (λ l. x ∷ l) (take_whole xs)
+
+pub tail_of : {A : Type 0} (i : ℕ) (xs : List A) → take (length xs - i) (drop i xs) ≡ drop i xs
+tail_of i xs = ap (λ n. take n (drop i xs)) (sym (length-drop i xs)) ∙ take_whole (drop i xs)
+
+-- a list that begins with x
+pub begins_with : {A : Type 0} (xs : List A) (d x : A) → 0 < length xs → get_or xs 0 d ≡ x → xs ≡ x ∷ drop 1 xs
+begins_with [] d x h e = absurd (omega (arith, h))
+begins_with (y ∷ xs) d x h e = ap (λ z. z ∷ xs) e
+
+drop_map : {X : Type 0} (f : X → Mark) (i : ℕ) (xs : List X) → map f (drop i xs) ≡ drop i (map f xs)
+drop_map f zero xs = refl
+drop_map f (suc i) [] = refl
+drop_map f (suc i) (x ∷ xs) = drop_map f i xs
+
+len_map : {X : Type 0} (f : X → Mark) (xs : List X) → length (map f xs) ≡ length xs
+len_map f [] = refl
+len_map f (x ∷ xs) = ap (λ n. suc n) (len_map f xs)
+
+-- what can be taken at the position i of xs, whose node there is x
+pub record At {X : Type 0} (f : X → Mark) (xs : List X) (i : ℕ) (x : X) : Type 0 where
+  pub inside : i < length xs
+  pub first : first_mark (map f (drop i xs)) ≡ f x
+
+pub at : {X : Type 0} (f : X → Mark) (xs : List X) (i : ℕ) (d : X) → 0 < length (map f (drop i xs)) → At f xs i (get_or xs i d)
+at f xs i d h =
+    let l : i < length xs = omega (arith, h, len_map f (drop i xs), length-drop i xs) in
+    record { inside = l; first = ap (λ ys. first_mark (map f ys)) (drop-cons xs i d l) }
+
+-- how far its tree goes, and what stands behind
+pub record Whole {X : Type 0} (f : X → Mark) (xs : List X) (i : ℕ) (x : X) (ps : List Tree) : Type 0 where
+  pub inside : i < length xs
+  pub first : first_mark (map f (drop i xs)) ≡ f x
+  pub wide : i + width (f x) ≤ length xs
+  pub there : IsThere (f x) ps
+  pub after : behind (map f (drop i xs)) ≡ map f (drop (i + width (f x)) xs)
+
+pub whole_at : {X : Type 0} (f : X → Mark) (xs : List X) (i : ℕ) (d : X) (ps : List Tree) → CanTake (map f (drop i xs)) ps → Whole f xs i (get_or xs i d) ps
+whole_at f xs i d ps can =
+    let h = at f xs i d can.0 in
+    let w = ap width h.first in
+    record {
+      inside = h.inside;
+      first = h.first;
+      wide = omega (arith, can.1, w, h.inside, len_map f (drop i xs), length-drop i xs);
+      there = subst (λ m. IsThere m ps) h.first can.2;
+      after = sym (drop_map f (width (first_mark (map f (drop i xs)))) (drop i xs)) ∙ ap (map f) (drop_more i (width (first_mark (map f (drop i xs)))) xs) ∙ ap (λ n. map f (drop (i + n) xs)) w;
+    }
+
+-- one item less
+pub record OneItem {X : Type 0} (f : X → Mark) (xs : List X) (i m : ℕ) (x : X) (ps : List Tree) : Type 0 where
+  pub whole : Whole f xs i x ps
+  pub can : CanTakeItems m (map f (drop (i + width (f x)) xs)) (left_of (f x) ps)
+  pub made : taken (suc m) (map f (drop i xs)) ps ≡ made_of (f x) ps ∷ taken m (map f (drop (i + width (f x)) xs)) (left_of (f x) ps)
+  pub less : left (suc m) (map f (drop i xs)) ps ≡ left m (map f (drop (i + width (f x)) xs)) (left_of (f x) ps)
+
+pub one_item : {X : Type 0} (f : X → Mark) (xs : List X) (i n m : ℕ) (d : X) (ps : List Tree) → n ≡ suc m → CanTakeItems n (map f (drop i xs)) ps → OneItem f xs i m (get_or xs i d) ps
+one_item f xs i n m d ps e h =
+    let can = subst (λ k. CanTakeItems k (map f (drop i xs)) ps) e h in
+    let w = whole_at f xs i d ps can.0 in
+    record {
+      whole = w;
+      can = subst (λ (p : List Mark × List Tree). CanTakeItems m p.0 p.1) (λ j. (w.after j, left_of (w.first j) ps)) can.1;
+      made = λ j. made_of (w.first j) ps ∷ taken m (w.after j) (left_of (w.first j) ps);
+      less = λ j. left m (w.after j) (left_of (w.first j) ps);
+    }
+
+-- one member less
+pub record OneMember {X : Type 0} (f : X → Mark) (xs : List X) (i m : ℕ) (k x : X) (ps : List Tree) : Type 0 where
+  pub key : At f xs i k
+  pub text : f k ≡ string (key_of_mark (f k))
+  pub whole : Whole f xs (i + 1) x ps
+  pub can : CanTakePairs m (map f (drop (i + 1 + width (f x)) xs)) (left_of (f x) ps)
+  pub made : taken_pairs (suc m) (map f (drop i xs)) ps ≡ (key_of_mark (f k), made_of (f x) ps) ∷ taken_pairs m (map f (drop (i + 1 + width (f x)) xs)) (left_of (f x) ps)
+  pub less : left_pairs (suc m) (map f (drop i xs)) ps ≡ left_pairs m (map f (drop (i + 1 + width (f x)) xs)) (left_of (f x) ps)
+
+pub one_member : {X : Type 0} (f : X → Mark) (xs : List X) (i n m : ℕ) (d : X) (ps : List Tree) → n ≡ suc m → CanTakePairs n (map f (drop i xs)) ps → OneMember f xs i m (get_or xs i d) (get_or xs (i + 1) d) ps
+one_member f xs i n m d ps e h =
+    let can = subst (λ k. CanTakePairs k (map f (drop i xs)) ps) e h in
+    let key = at f xs i d can.0 in
+    let next : drop 1 (map f (drop i xs)) ≡ map f (drop (i + 1) xs) = sym (drop_map f 1 (drop i xs)) ∙ ap (map f) (drop_more i 1 xs) in
+    let w = whole_at f xs (i + 1) d ps (subst (λ l. CanTake l ps) next can.2) in
+    let first = ap first_mark next ∙ w.first in
+    let after = ap behind next ∙ w.after in
+    record {
+      key = key;
+      text = subst (λ m. m ≡ string (key_of_mark m)) key.first can.1;
+      whole = w;
+      can = subst (λ (p : List Mark × List Tree). CanTakePairs m p.0 p.1) (λ j. (after j, left_of (first j) ps)) can.3;
+      made = λ j. (key_of_mark (key.first j), made_of (first j) ps) ∷ taken_pairs m (after j) (left_of (first j) ps);
+      less = λ j. left_pairs m (after j) (left_of (first j) ps);
+    }
+
+-- ---- the trees that count, by their own cases
+
+abbrev items_by : Repeats → Items → Items
+items_by First is = keep_items is
+items_by Last is = keep_last_items is
+
+abbrev members_by : Repeats → Members → Members
+members_by First ms = keep_members [] ms
+members_by Last ms = put_all no_members (keep_last_values ms)
+
+abbrev pub tree_by : Repeats → Tree → Tree
+tree_by c null = null
+tree_by c (boolean b) = boolean b
+tree_by c (int n d) = int n d
+tree_by c (text s) = text s
+tree_by c (list is) = list (items_by c is)
+tree_by c (obj ms) = obj (members_by c ms)
+
+pub tree_kept : (c : Repeats) (t : Tree) → tree_by c t ≡ keep_by c t
+tree_kept First null = refl
+tree_kept First (boolean b) = refl
+tree_kept First (int n c) = refl
+tree_kept First (text s) = refl
+tree_kept First (list is) = refl
+tree_kept First (obj ms) = refl
+tree_kept Last null = refl
+tree_kept Last (boolean b) = refl
+tree_kept Last (int n c) = refl
+tree_kept Last (text s) = refl
+tree_kept Last (list is) = refl
+tree_kept Last (obj ms) = refl
+
+item_by : (c : Repeats) (t : Tree) (is : Items) → item (tree_by c t) (items_by c is) ≡ items_by c (item t is)
+item_by First t is = ap (λ u. item u (keep_items is)) (tree_kept First t)
+item_by Last t is = ap (λ u. item u (keep_last_items is)) (tree_kept Last t)
+
+no_items_by : (c : Repeats) → no_items ≡ items_by c no_items
+no_items_by First = refl
+no_items_by Last = refl
+
+items_kept : (c : Repeats) (is : Items) → items_from (map (tree_by c) (listed is)) ≡ items_by c is
+items_kept c no_items = no_items_by c
+items_kept c (item t is) = ap (item (tree_by c t)) (items_kept c is) ∙ item_by c t is
+
+-- ---- what trees leave on the pile
+
+abbrev pub standing : Repeats → List Tree → List Tree
+standing c [] = []
+standing c (null ∷ ts) = standing c ts
+standing c (boolean b ∷ ts) = standing c ts
+standing c (int n d ∷ ts) = standing c ts
+standing c (text s ∷ ts) = standing c ts
+standing c (list is ∷ ts) = tree_by c (list is) ∷ standing c ts
+standing c (obj ms ∷ ts) = tree_by c (obj ms) ∷ standing c ts
+
+abbrev pub ahead : Repeats → List Mark → List Tree
+ahead c ns = standing c (trees_of ns)
+
+-- the first tree is made, and taken off
+record Takes (c : Repeats) (t : Tree) (ns : List Mark) : Type 0 where
+  can : CanTake (flat t ++ ns) (ahead c (flat t ++ ns))
+  made : made_of (first_mark (flat t ++ ns)) (ahead c (flat t ++ ns)) ≡ tree_by c t
+  less : left_of (first_mark (flat t ++ ns)) (ahead c (flat t ++ ns)) ≡ ahead c ns
+  rest : behind (flat t ++ ns) ≡ ns
+
+drop_front : {A : Type 0} (xs ys : List A) → drop (length xs) (xs ++ ys) ≡ ys
+drop_front [] ys = refl
+drop_front (x ∷ xs) ys = drop_front xs ys
+
+long_front : {A : Type 0} (xs ys : List A) → length xs ≤ length (xs ++ ys)
+long_front [] ys = omega arith
+long_front (x ∷ xs) ys = omega (arith, long_front xs ys)
+
+next_of : (n : ℕ) → 1 + n ≡ suc n
+next_of n = omega arith
+
+take_one : (c : Repeats) (t : Tree) (ns : List Mark) → Takes c t ns
+take_one c null ns = record { can = (omega arith, omega arith, tt); made = refl; less = refl; rest = refl }
+take_one c (boolean b) ns = record { can = (omega arith, omega arith, tt); made = refl; less = refl; rest = refl }
+take_one c (int n d) ns = record { can = (omega arith, omega arith, tt); made = refl; less = refl; rest = refl }
+take_one c (text s) ns = record { can = (omega arith, omega arith, tt); made = refl; less = refl; rest = refl }
+take_one c (list is) ns =
+    let all : ahead c (flat (list is) ++ ns) ≡ tree_by c (list is) ∷ ahead c ns = ap (standing c) (trees_of-flat (list is) ns) in
+    record {
+      can = (omega arith, omega (arith, long_front (flat_items is) ns), omega (arith, ap (λ (l : List Tree). length l) all));
+      made = ap (λ ps. made_of (array 0 0) ps) all;
+      less = ap (λ ps. left_of (array 0 0) ps) all;
+      rest = ap (λ k. drop k (flat (list is) ++ ns)) (next_of (length (flat_items is))) ∙ drop_front (flat_items is) ns;
+    }
+take_one c (obj ms) ns =
+    let all : ahead c (flat (obj ms) ++ ns) ≡ tree_by c (obj ms) ∷ ahead c ns = ap (standing c) (trees_of-flat (obj ms) ns) in
+    record {
+      can = (omega arith, omega (arith, long_front (flat_members ms) ns), omega (arith, ap (λ (l : List Tree). length l) all));
+      made = ap (λ ps. made_of (array 0 0) ps) all;
+      less = ap (λ ps. left_of (array 0 0) ps) all;
+      rest = ap (λ k. drop k (flat (obj ms) ++ ns)) (next_of (length (flat_members ms))) ∙ drop_front (flat_members ms) ns;
+    }
 
 -- ---- items
 
-map_push : {V : Type 0} (tree : V → Tree) (vs : List V) (v : V) (ts : List Tree) → map tree (vs ++ v ∷ []) ++ ts ≡ map tree vs ++ tree v ∷ ts
-map_push tree [] v ts = refl
-map_push tree (w ∷ vs) v ts = ap (λ l. tree w ∷ l) (map_push tree vs v ts)
+record TakesItems (c : Repeats) (is : Items) (ns : List Mark) : Type 0 where
+  can : CanTakeItems (items_len is) (flat_items is ++ ns) (ahead c (flat_items is ++ ns))
+  made : taken (items_len is) (flat_items is ++ ns) (ahead c (flat_items is ++ ns)) ≡ map (tree_by c) (listed is)
+  less : left (items_len is) (flat_items is ++ ns) (ahead c (flat_items is ++ ns)) ≡ ahead c ns
 
-pub taken : {V : Type 0} (tree : V → Tree) (all : List Tree) (n m : ℕ) → n ≡ suc m → (vs ws : List V) (v : V) (ps qs : List (Part V)) (p : Part V) → map tree vs ++ map tree_seen (take n (pile tree ps)) ≡ all → ps ≡ qs ++ p ∷ [] → tree v ≡ tree_seen (part_seen tree p) → ws ≡ vs ++ v ∷ [] → map tree ws ++ map tree_seen (take m (pile tree qs)) ≡ all
-taken tree all n m e vs ws v ps qs p told pop same pushed =
-    ap (λ x. map tree x ++ map tree_seen (take m (pile tree qs))) pushed
-    ∙ map_push tree vs v (map tree_seen (take m (pile tree qs)))
-    ∙ ap (λ t. map tree vs ++ t ∷ map tree_seen (take m (pile tree qs))) same
-    ∙ sym (ap (λ x. map tree vs ++ map tree_seen (take n x)) (popped tree ps qs p pop) ∙ ap (λ k. map tree vs ++ map tree_seen (take k (part_seen tree p ∷ pile tree qs))) e)
-    ∙ told
-
-pub dropped : {V : Type 0} (tree : V → Tree) (all : List Seen) (n m : ℕ) → n ≡ suc m → (ps qs : List (Part V)) (p : Part V) → drop n (pile tree ps) ≡ all → ps ≡ qs ++ p ∷ [] → drop m (pile tree qs) ≡ all
-dropped tree all n m e ps qs p told pop =
-    sym (ap (λ x. drop n x) (popped tree ps qs p pop) ∙ ap (λ k. drop k (part_seen tree p ∷ pile tree qs)) e) ∙ told
-
-pub all_taken : {V : Type 0} (tree : V → Tree) (all : List Tree) (n : ℕ) → n ≡ 0 → (vs : List V) (ps : List Seen) → map tree vs ++ map tree_seen (take n ps) ≡ all → map tree vs ≡ all
-all_taken tree all n e vs ps told = sym (append-nil (map tree vs)) ∙ sym (ap (λ k. map tree vs ++ map tree_seen (take k ps)) e) ∙ told
-
-pub all_dropped : (all : List Seen) (n : ℕ) → n ≡ 0 → (ps : List Seen) → drop n ps ≡ all → ps ≡ all
-all_dropped all n e ps told = sym (ap (λ k. drop k ps) e) ∙ told
+take_all : (c : Repeats) (is : Items) (ns : List Mark) → TakesItems c is ns
+take_all c no_items ns = record { can = tt; made = refl; less = refl }
+take_all c (item t is) ns =
+    let one = take_one c t (flat_items is ++ ns) in
+    let more = take_all c is ns in
+    let apart : (flat t ++ flat_items is) ++ ns ≡ flat t ++ (flat_items is ++ ns) = append_assoc (flat t) (flat_items is) ns in
+    let n = items_len is in
+    let all : (CanTakeItems (suc n) ((flat t ++ flat_items is) ++ ns) (ahead c ((flat t ++ flat_items is) ++ ns)))
+    × (taken (suc n) ((flat t ++ flat_items is) ++ ns) (ahead c ((flat t ++ flat_items is) ++ ns)) ≡ map (tree_by c) (listed (item t is)))
+    × (left (suc n) ((flat t ++ flat_items is) ++ ns) (ahead c ((flat t ++ flat_items is) ++ ns)) ≡ ahead c ns) =
+    subst (λ l. (CanTakeItems (suc n) l (ahead c l)) × (taken (suc n) l (ahead c l) ≡ map (tree_by c) (listed (item t is))) × (left (suc n) l (ahead c l) ≡ ahead c ns)) (sym apart) (
+      (one.can, subst (λ (p : List Mark × List Tree). CanTakeItems n p.0 p.1) (λ i. (sym one.rest i, sym one.less i)) more.can),
+      (λ i. one.made i ∷ taken n (one.rest i) (one.less i)) ∙ ap (λ l. tree_by c t ∷ l) more.made,
+      (λ i. left n (one.rest i) (one.less i)) ∙ more.less,
+    ) in
+    record { can = all.0; made = all.1; less = all.2 }
 
 -- ---- members
 
-pub word_of : (n m : ℕ) → n ≡ suc m → (ps : List Seen) → HasPairs n ps → HasWord ps × (1 < length ps)
-word_of n m e ps h = cases ps (subst (λ k. HasPairs k ps) e h)
-  where
-    cases : (ps : List Seen) → HasPairs (suc m) ps → HasWord ps × (1 < length ps)
-    cases [] h = absurd h
-    cases (whole t ∷ ps) h = absurd h
-    cases (word k ∷ []) h = absurd h
-    cases (word k ∷ p ∷ ps) h = (tt, omega arith)
+abbrev pairs_by : Repeats → Members → List (List ℕ × Tree)
+pairs_by c ms = map (λ (p : List ℕ × Tree). (p.0, tree_by c p.1)) (paired ms)
 
--- a member is taken off
-pub member_off : (n m : ℕ) → n ≡ suc m → (ps qs : List Seen) (k : List ℕ) (p : Seen) → ps ≡ word k ∷ p ∷ qs
-    → (pairs_seen n ps ≡ (k, tree_seen p) ∷ pairs_seen m qs) × (drop (2 * n) ps ≡ drop (2 * m) qs) × (HasPairs n ps → HasPairs m qs)
-member_off n m e ps qs k p is = (
-  ap (λ x. pairs_seen x ps) e ∙ ap (λ x. pairs_seen (suc m) x) is,
-  ap (λ x. drop x ps) (let h : 2 * n ≡ suc (suc (2 * m)) = omega (arith, e) in h) ∙ ap (λ x. drop (suc (suc (2 * m))) x) is,
-  λ h. subst (HasPairs (suc m)) is (subst (λ x. HasPairs x ps) e h),
-)
+record TakesMembers (c : Repeats) (ms : Members) (ns : List Mark) : Type 0 where
+  can : CanTakePairs (members_len ms) (flat_members ms ++ ns) (ahead c (flat_members ms ++ ns))
+  made : taken_pairs (members_len ms) (flat_members ms ++ ns) (ahead c (flat_members ms ++ ns)) ≡ pairs_by c ms
+  less : left_pairs (members_len ms) (flat_members ms ++ ns) (ahead c (flat_members ms ++ ns)) ≡ ahead c ns
+
+take_pairs : (c : Repeats) (ms : Members) (ns : List Mark) → TakesMembers c ms ns
+take_pairs c no_members ns = record { can = tt; made = refl; less = refl }
+take_pairs c (member k t ms) ns =
+    let one = take_one c t (flat_members ms ++ ns) in
+    let more = take_pairs c ms ns in
+    let apart : (flat t ++ flat_members ms) ++ ns ≡ flat t ++ (flat_members ms ++ ns) = append_assoc (flat t) (flat_members ms) ns in
+    let n = members_len ms in
+    let all : (CanTakePairs (suc n) (string k ∷ ((flat t ++ flat_members ms) ++ ns)) (ahead c ((flat t ++ flat_members ms) ++ ns)))
+    × (taken_pairs (suc n) (string k ∷ ((flat t ++ flat_members ms) ++ ns)) (ahead c ((flat t ++ flat_members ms) ++ ns)) ≡ pairs_by c (member k t ms))
+    × (left_pairs (suc n) (string k ∷ ((flat t ++ flat_members ms) ++ ns)) (ahead c ((flat t ++ flat_members ms) ++ ns)) ≡ ahead c ns) =
+    subst (λ l. (CanTakePairs (suc n) (string k ∷ l) (ahead c l)) × (taken_pairs (suc n) (string k ∷ l) (ahead c l) ≡ pairs_by c (member k t ms)) × (left_pairs (suc n) (string k ∷ l) (ahead c l) ≡ ahead c ns)) (sym apart) (
+      (omega arith, refl, one.can, subst (λ (p : List Mark × List Tree). CanTakePairs n p.0 p.1) (λ i. (sym one.rest i, sym one.less i)) more.can),
+      (λ i. (k, one.made i) ∷ taken_pairs n (one.rest i) (one.less i)) ∙ ap (λ l. (k, tree_by c t) ∷ l) more.made,
+      (λ i. left_pairs n (one.rest i) (one.less i)) ∙ more.less,
+    ) in
+    record { can = all.0; made = all.1; less = all.2 }
 
 -- ---- keeping the first member of each key
 
@@ -89,10 +299,6 @@ or_swap : (a b c : Bool) → a || (b || c) ≡ b || (a || c)
 or_swap true true c = refl
 or_swap true false c = refl
 or_swap false b c = refl
-
-or_nil : (a : Bool) → a || false ≡ a
-or_nil true = refl
-or_nil false = refl
 
 has_last : (k : List ℕ) (ps : List (List ℕ × Tree)) (l : List ℕ) (t : Tree) → is_seen k (pair_texts (ps ++ (l, t) ∷ [])) ≡ bytes_eq k l || is_seen k (pair_texts ps)
 has_last k [] l t = refl
@@ -110,48 +316,6 @@ join_end : (ps : List (List ℕ × Tree)) → members_from ps ≡ join ps no_mem
 join_end [] = refl
 join_end (p ∷ ps) = ap (member p.0 p.1) (join_end ps)
 
-seen_tree : (t : Tree) → tree_seen (seen t) ≡ t
-seen_tree null = refl
-seen_tree (boolean b) = refl
-seen_tree (int n c) = refl
-seen_tree (text s) = refl
-seen_tree (list is) = refl
-seen_tree (obj ms) = refl
-
-abbrev items_by : Repeats → Items → Items
-items_by First is = keep_items is
-items_by Last is = keep_last_items is
-
-abbrev members_by : Repeats → Members → Members
-members_by First ms = keep_members [] ms
-members_by Last ms = put_all no_members (keep_last_values ms)
-
--- a tree with the members that count, by its own cases
-abbrev pub seen_by : Repeats → Tree → Seen
-seen_by c null = whole null
-seen_by c (boolean b) = whole (boolean b)
-seen_by c (int n d) = whole (int n d)
-seen_by c (text s) = word s
-seen_by c (list is) = whole (list (items_by c is))
-seen_by c (obj ms) = whole (obj (members_by c ms))
-
-pub seen_kept : (c : Repeats) (t : Tree) → tree_seen (seen_by c t) ≡ keep_by c t
-seen_kept First null = refl
-seen_kept First (boolean b) = refl
-seen_kept First (int n c) = refl
-seen_kept First (text s) = refl
-seen_kept First (list is) = refl
-seen_kept First (obj ms) = refl
-seen_kept Last null = refl
-seen_kept Last (boolean b) = refl
-seen_kept Last (int n c) = refl
-seen_kept Last (text s) = refl
-seen_kept Last (list is) = refl
-seen_kept Last (obj ms) = refl
-
-abbrev pub kept_seen : Repeats → List Tree → List Seen
-kept_seen c ts = map (seen_by c) ts
-
 abbrev Agree : List (List ℕ × Tree) → List (List ℕ) → Type 0
 Agree done ks = (k : List ℕ) → is_seen k (pair_texts done) ≡ is_seen k ks
 
@@ -167,21 +331,13 @@ choose false false e k t done rest u v x y = y ∙ join_push done k t v
 choose true false e k t done rest u v x y = cc
 choose false true e k t done rest u v x y = cc
 
-pub keeps_first : (n : ℕ) (ts : List Tree) (done : List (List ℕ × Tree)) (ks : List (List ℕ)) → HasPairs n (kept_seen First ts) → Agree done ks
-    → members_from (kept done (pairs_seen n (kept_seen First ts))) ≡ join done (keep_members ks (members_of n ts))
-keeps_first zero ts done ks h a = join_end done
-keeps_first (suc n) [] done ks h a = absurd h
-keeps_first (suc n) (null ∷ ts) done ks h a = absurd h
-keeps_first (suc n) (boolean b ∷ ts) done ks h a = absurd h
-keeps_first (suc n) (int i c ∷ ts) done ks h a = absurd h
-keeps_first (suc n) (list is ∷ ts) done ks h a = absurd h
-keeps_first (suc n) (obj ms ∷ ts) done ks h a = absurd h
-keeps_first (suc n) (text s ∷ []) done ks h a = absurd h
-keeps_first (suc n) (text s ∷ t ∷ ts) done ks h a =
-    ap (λ u. members_from (kept (if is_seen s (pair_texts done) then done else done ++ (s, u) ∷ []) (pairs_seen n (kept_seen First ts)))) (seen_kept First t)
-    ∙ choose (is_seen s (pair_texts done)) (is_seen s ks) (a s) s (keep t) done (pairs_seen n (kept_seen First ts)) _ _
-    (keeps_first n ts done ks h a)
-    (keeps_first n ts (done ++ (s, keep t) ∷ []) (s ∷ ks) h (agree_more done ks s (keep t) a))
+keeps_first : (ms : Members) (done : List (List ℕ × Tree)) (ks : List (List ℕ)) → Agree done ks → members_from (kept done (pairs_by First ms)) ≡ join done (keep_members ks ms)
+keeps_first no_members done ks a = join_end done
+keeps_first (member s t ms) done ks a =
+    ap (λ u. members_from (kept (if is_seen s (pair_texts done) then done else done ++ (s, u) ∷ []) (pairs_by First ms))) (tree_kept First t)
+    ∙ choose (is_seen s (pair_texts done)) (is_seen s ks) (a s) s (keep t) done (pairs_by First ms) _ _
+    (keeps_first ms done ks a)
+    (keeps_first ms (done ++ (s, keep t) ∷ []) (s ∷ ks) (agree_more done ks s (keep t) a))
 
 members_from-put : (k : List ℕ) (t : Tree) (ps : List (List ℕ × Tree)) → members_from (put_pair k t ps) ≡ members.put k t (members_from ps)
 members_from-put k t [] = refl
@@ -192,175 +348,131 @@ members_from-put k t (p ∷ ps) = by_test (bytes_eq k p.0) (members_from-put k t
     by_test true e = refl
     by_test false e = ap (member p.0 p.1) e
 
-pub puts_last : (n : ℕ) (ts : List Tree) (done : List (List ℕ × Tree)) → HasPairs n (kept_seen Last ts)
-    → members_from (in_turn done (pairs_seen n (kept_seen Last ts))) ≡ put_all (members_from done) (keep_last_values (members_of n ts))
-puts_last zero ts done h = refl
-puts_last (suc n) [] done h = absurd h
-puts_last (suc n) (null ∷ ts) done h = absurd h
-puts_last (suc n) (boolean b ∷ ts) done h = absurd h
-puts_last (suc n) (int i c ∷ ts) done h = absurd h
-puts_last (suc n) (list is ∷ ts) done h = absurd h
-puts_last (suc n) (obj ms ∷ ts) done h = absurd h
-puts_last (suc n) (text s ∷ []) done h = absurd h
-puts_last (suc n) (text s ∷ t ∷ ts) done h =
-    puts_last n ts (put_pair s (tree_seen (seen_by Last t)) done) h
-    ∙ ap (λ ms. put_all ms (keep_last_values (members_of n ts))) (members_from-put s (tree_seen (seen_by Last t)) done ∙ ap (λ u. members.put s u (members_from done)) (seen_kept Last t))
+puts_last : (ms : Members) (done : List (List ℕ × Tree)) → members_from (in_turn done (pairs_by Last ms)) ≡ put_all (members_from done) (keep_last_values ms)
+puts_last no_members done = refl
+puts_last (member s t ms) done =
+    puts_last ms (put_pair s (tree_by Last t) done)
+    ∙ ap (λ ns. put_all ns (keep_last_values ms)) (members_from-put s (tree_by Last t) done ∙ ap (λ u. members.put s u (members_from done)) (tree_kept Last t))
 
-no_items_by : (c : Repeats) → no_items ≡ items_by c no_items
-no_items_by First = refl
-no_items_by Last = refl
-
-item_by : (c : Repeats) (t : Tree) (is : Items) → item (keep_by c t) (items_by c is) ≡ items_by c (item t is)
-item_by First t is = refl
-item_by Last t is = refl
-
-items_kept : (c : Repeats) (n : ℕ) (ts : List Tree) → items_from (map tree_seen (take n (kept_seen c ts))) ≡ items_by c (items_of n ts)
-items_kept c zero ts = no_items_by c
-items_kept c (suc n) [] = no_items_by c
-items_kept c (suc n) (t ∷ ts) =
-    ap (λ u. item u (items_from (map tree_seen (take n (kept_seen c ts))))) (seen_kept c t) ∙ ap (item (keep_by c t)) (items_kept c n ts) ∙ item_by c t (items_of n ts)
-
-drop_kept : (c : Repeats) (n : ℕ) (ts : List Tree) → drop n (kept_seen c ts) ≡ kept_seen c (drop n ts)
-drop_kept c zero ts = refl
-drop_kept c (suc n) [] = refl
-drop_kept c (suc n) (t ∷ ts) = drop_kept c n ts
-
-members_kept : (c : Repeats) (n : ℕ) (ts : List Tree) → HasPairs n (kept_seen c ts) → members_from (kept_by c [] (pairs_seen n (kept_seen c ts))) ≡ members_by c (members_of n ts)
-members_kept First n ts h = keeps_first n ts [] [] h (λ k. refl)
-members_kept Last n ts h = puts_last n ts [] h
-
-abbrev pub ahead : Repeats → List Mark → List Seen
-ahead c ns = kept_seen c (trees_of ns)
-
--- what a node does to the pile, it does to the trees ahead
-pub grown_kept : (c : Repeats) (m : Mark) (ns : List Mark) → Needs m (ahead c ns) → grown c m (ahead c ns) ≡ ahead c (m ∷ ns)
-grown_kept c nothing ns h = refl
-grown_kept c (truth b) ns h = refl
-grown_kept c (number n d) ns h = refl
-grown_kept c (string s) ns h = refl
-grown_kept c (array len count) ns h =
-    ap (λ is. whole (list is) ∷ drop len (ahead c ns)) (items_kept c len (trees_of ns))
-    ∙ ap (λ l. whole (list (items_by c (items_of len (trees_of ns)))) ∷ l) (drop_kept c len (trees_of ns))
-grown_kept c (object len count) ns h =
-    ap (λ ms. whole (obj ms) ∷ drop (2 * len) (ahead c ns)) (members_kept c len (trees_of ns) h)
-    ∙ ap (λ l. whole (obj (members_by c (members_of len (trees_of ns)))) ∷ l) (drop_kept c (2 * len) (trees_of ns))
-
-pub grown_static : (c : Repeats) (n : StaticNode) (ps : List Seen) → grown c (static_mark n) ps ≡ whole (static_tree n) ∷ ps
-grown_static c scalar.Null ps = refl
-grown_static c (scalar.Bool b) ps = refl
-grown_static c (scalar.I64 n) ps = refl
-grown_static c (scalar.U64 n) ps = refl
-grown_static c (scalar.I128 n) ps = refl
-grown_static c (scalar.U128 n) ps = refl
-
--- ---- the nodes of a tree have each container's parts ahead
-
-abbrev pub IsFull : Repeats → List Mark → Type 0
-IsFull c [] = Unit {0}
-IsFull c (m ∷ ns) = Needs m (ahead c ns) × IsFull c ns
-
-enough : (c : Repeats) (is : Items) (ts : List Tree) → items_len is ≤ length (kept_seen c (listed is ++ ts))
-enough c no_items ts = omega arith
-enough c (item t is) ts = omega (arith, enough c is ts)
-
-paired_up : (c : Repeats) (ms : Members) (ts : List Tree) → HasPairs (members_len ms) (kept_seen c (texts_and_values ms ++ ts))
-paired_up c no_members ts = tt
-paired_up c (member k t ms) ts = paired_up c ms ts
-
-mutual
-  full_flat : (c : Repeats) (t : Tree) (ns : List Mark) → IsFull c ns → IsFull c (flat t ++ ns)
-  full_flat c null ns h = (tt, h)
-  full_flat c (boolean b) ns h = (tt, h)
-  full_flat c (int n d) ns h = (tt, h)
-  full_flat c (text s) ns h = (tt, h)
-  full_flat c (list is) ns h =
-      (subst (λ ts. items_len is ≤ length (kept_seen c ts)) (sym (trees_of-flat_items is ns)) (enough c is (trees_of ns)), full_items c is ns h)
-  full_flat c (obj ms) ns h =
-      (subst (λ ts. HasPairs (members_len ms) (kept_seen c ts)) (sym (trees_of-flat_members ms ns)) (paired_up c ms (trees_of ns)), full_members c ms ns h)
-
-  full_items : (c : Repeats) (is : Items) (ns : List Mark) → IsFull c ns → IsFull c (flat_items is ++ ns)
-  full_items c no_items ns h = h
-  full_items c (item t is) ns h = subst (IsFull c) (sym (append_assoc (flat t) (flat_items is) ns)) (full_flat c t (flat_items is ++ ns) (full_items c is ns h))
-
-  full_members : (c : Repeats) (ms : Members) (ns : List Mark) → IsFull c ns → IsFull c (flat_members ms ++ ns)
-  full_members c no_members ns h = h
-  full_members c (member k t ms) ns h = (tt, subst (IsFull c) (sym (append_assoc (flat t) (flat_members ms) ns)) (full_flat c t (flat_members ms ++ ns) (full_members c ms ns h)))
-
-pub full : (c : Repeats) (ns : List Mark) → IsPreorder ns → IsFull c ns
-full c ns h = subst (IsFull c) (append-nil (flat (tree_of ns)) ∙ sym h) (full_flat c (tree_of ns) [] tt)
-
-full_drop : (c : Repeats) (i : ℕ) (ns : List Mark) → IsFull c ns → IsFull c (drop i ns)
-full_drop c zero ns h = h
-full_drop c (suc i) [] h = tt
-full_drop c (suc i) (m ∷ ns) h = full_drop c i ns h.1
+members_kept : (c : Repeats) (ms : Members) → members_from (kept_by c [] (pairs_by c ms)) ≡ members_by c ms
+members_kept First ms = keeps_first ms [] [] (λ k. refl)
+members_kept Last ms = puts_last ms []
 
 -- ---- a turn of the loop
 
-map_drop_at : {X : Type 0} (f : X → Mark) (xs : List X) (n i : ℕ) (d : X) → suc i ≡ n → i < length xs → map f (drop i xs) ≡ f (get_or xs i d) ∷ map f (drop n xs)
-map_drop_at f xs n i d e h = ap (map f) (drop-cons xs i d h) ∙ ap (λ k. f (get_or xs i d) ∷ map f (drop k xs)) e
+-- what a node does to the pile, it does to what its nodes leave on it
+record Turns (c : Repeats) (ns rest : List Mark) : Type 0 where
+  needs : Needs ns (ahead c rest)
+  grows : grown c ns (ahead c rest) ≡ ahead c ns
 
-drop_map : {X : Type 0} (f : X → Mark) (i : ℕ) (xs : List X) → map f (drop i xs) ≡ drop i (map f xs)
-drop_map f zero xs = refl
-drop_map f (suc i) [] = refl
-drop_map f (suc i) (x ∷ xs) = drop_map f i xs
+turn_tree : (c : Repeats) (t : Tree) (ns : List Mark) → Turns c (flat t ++ ns) (drop 1 (flat t ++ ns))
+turn_tree c null ns = record { needs = tt; grows = refl }
+turn_tree c (boolean b) ns = record { needs = tt; grows = refl }
+turn_tree c (int n d) ns = record { needs = tt; grows = refl }
+turn_tree c (text s) ns = record { needs = tt; grows = refl }
+turn_tree c (list is) ns =
+    let h = take_all c is ns in
+    record {
+      needs = h.can;
+      grows = (λ i. list (items_from (h.made i)) ∷ h.less i) ∙ ap (λ l. list l ∷ ahead c ns) (items_kept c is) ∙ sym (ap (standing c) (trees_of-flat (list is) ns));
+    }
+turn_tree c (obj ms) ns =
+    let h = take_pairs c ms ns in
+    record {
+      needs = h.can;
+      grows = (λ i. obj (members_from (kept_by c [] (h.made i))) ∷ h.less i) ∙ ap (λ l. obj l ∷ ahead c ns) (members_kept c ms) ∙ sym (ap (standing c) (trees_of-flat (obj ms) ns));
+    }
 
-module _ (c : Repeats) {X : Type 0} (f : X → Mark) (xs : List X) (n i : ℕ) (d : X) (e : suc i ≡ n) (h : i < length xs) (whole : IsPreorder (map f xs)) where
-  fits : Needs (f (get_or xs i d)) (ahead c (map f (drop n xs)))
-  fits = (subst (IsFull c) (sym (drop_map f i xs) ∙ map_drop_at f xs n i d e h) (full_drop c i (map f xs) (full c (map f xs) whole))).0
+turn_begun : (c : Repeats) (ns : List Mark) → BeginsTree ns → Turns c ns (drop 1 ns)
+turn_begun c ns b = subst (λ l. Turns c l (drop 1 l)) (sym b.are) (turn_tree c b.tree b.rest)
 
-  pub turn_needs : (ps : List Seen) → ps ≡ ahead c (map f (drop n xs)) → Needs (f (get_or xs i d)) ps
-  turn_needs ps q = subst (Needs (f (get_or xs i d))) (sym q) fits
+AllBegin-drop : (i : ℕ) (ns : List Mark) → AllBegin ns → AllBegin (drop i ns)
+AllBegin-drop zero ns h = h
+AllBegin-drop (suc i) [] h = tt
+AllBegin-drop (suc i) (m ∷ ns) h = AllBegin-drop i ns h.1
 
-  pub turn : (ps qs : List Seen) → ps ≡ ahead c (map f (drop n xs)) → qs ≡ grown c (f (get_or xs i d)) ps → qs ≡ ahead c (map f (drop i xs))
-  turn ps qs q g = g ∙ ap (grown c (f (get_or xs i d))) q ∙ grown_kept c (f (get_or xs i d)) (map f (drop n xs)) fits ∙ ap (ahead c) (sym (map_drop_at f xs n i d e h))
+begun_at : (ns : List Mark) → AllBegin ns → 0 < length ns → BeginsTree ns
+begun_at [] h l = absurd (omega (arith, l))
+begun_at (m ∷ ns) h l = h.0
 
-pub drop_end : {X : Type 0} (xs : List X) → drop (length xs) xs ≡ []
+drop_one : {A : Type 0} (i : ℕ) (xs : List A) → drop 1 (drop i xs) ≡ drop (suc i) xs
+drop_one zero [] = refl
+drop_one zero (x ∷ xs) = refl
+drop_one (suc i) [] = refl
+drop_one (suc i) (x ∷ xs) = drop_one i xs
+
+len_drop : {A : Type 0} (i : ℕ) (xs : List A) → i < length xs → 0 < length (drop i xs)
+len_drop i [] h = absurd (omega (arith, h))
+len_drop zero (x ∷ xs) h = omega arith
+len_drop (suc i) (x ∷ xs) h = len_drop i xs (omega (arith, h))
+
+-- the turn at a position of a preorder
+pub turn_at : (c : Repeats) {X : Type 0} (f : X → Mark) (xs : List X) (n i : ℕ) → suc i ≡ n → i < length xs → IsPreorder (map f xs)
+    → Needs (map f (drop i xs)) (ahead c (map f (drop n xs))) × (grown c (map f (drop i xs)) (ahead c (map f (drop n xs))) ≡ ahead c (map f (drop i xs)))
+turn_at c f xs n i e h whole =
+    let ms = map f xs in
+    let t = turn_begun c (drop i ms) (begun_at (drop i ms) (AllBegin-drop i ms (AllBegin-preorder ms whole)) (len_drop i ms (omega (arith, h, len_map f xs)))) in
+    let here = drop_map f i xs in
+    let after : map f (drop n xs) ≡ drop 1 (drop i ms) = drop_map f n xs ∙ ap (λ k. drop k ms) (sym e) ∙ sym (drop_one i ms) in (
+      subst (λ (p : List Mark × List Mark). Needs p.0 (ahead c p.1)) (λ j. (sym here j, sym after j)) t.needs,
+      (λ j. grown c (here j) (ahead c (after j))) ∙ t.grows ∙ ap (ahead c) (sym here),
+    )
+
+-- ---- the end
+
+drop_end : {X : Type 0} (xs : List X) → drop (length xs) xs ≡ []
 drop_end [] = refl
 drop_end (x ∷ xs) = drop_end xs
 
-pub at_end : (c : Repeats) (ns : List Mark) → IsPreorder ns → ahead c ns ≡ seen_by c (tree_of ns) ∷ []
-at_end c ns h = ap (ahead c) (h ∙ sym (append-nil (flat (tree_of ns)))) ∙ ap (kept_seen c) (trees_of-flat (tree_of ns) [])
+pub nothing_ahead : (c : Repeats) {X : Type 0} (f : X → Mark) (xs : List X) → [] ≡ ahead c (map f (drop (length xs) xs))
+nothing_ahead c f xs = sym (ap (λ l. ahead c (map f l)) (drop_end xs))
 
--- the one part that is left
-pub last_part : (c : Repeats) {V : Type 0} (tree : V → Tree) (ns : List Mark) → IsPreorder ns → (ps qs : List (Part V)) (p : Part V) → pile tree ps ≡ ahead c ns → ps ≡ qs ++ p ∷ [] → tree_seen (part_seen tree p) ≡ keep_by c (tree_of ns)
-last_part c tree ns h ps qs p is pop =
-    let e : part_seen tree p ∷ pile tree qs ≡ seen_by c (tree_of ns) ∷ [] = sym (popped tree ps qs p pop) ∙ is ∙ at_end c ns h in
-    let f : part_seen tree p ≡ seen_by c (tree_of ns) = cc in
-    ap tree_seen f ∙ seen_kept c (tree_of ns)
+flat_some : (t : Tree) → 0 < length (flat t)
+flat_some null = omega arith
+flat_some (boolean b) = omega arith
+flat_some (int n c) = omega arith
+flat_some (text s) = omega arith
+flat_some (list is) = omega arith
+flat_some (obj ms) = omega arith
 
--- ---- the kind of a part
+-- the first node of a preorder
+pub first_of : {X : Type 0} (f : X → Mark) (xs : List X) (d : X) → IsPreorder (map f xs) → first_mark (map f xs) ≡ f (get_or xs 0 d)
+first_of f [] d h = absurd (omega (arith, flat_some (tree_of []), ap (λ (l : List Mark). length l) h))
+first_of f (x ∷ xs) d h = refl
 
-pub not_value : {V : Type 0} (tree : V → Tree) (ps qs : List (Part V)) (p : Part V) (v : V) → HasWord (pile tree ps) → ps ≡ qs ++ p ∷ [] → p ≡ part.Value v → ⊥
-not_value tree ps qs p v h e is = subst HasWord (popped tree ps qs p e ∙ ap (λ x. part_seen tree x ∷ pile tree qs) is) h
+-- the whole tree is made last
+pub last_one : (c : Repeats) (ns : List Mark) → IsPreorder ns → IsThere (first_mark ns) (ahead c ns) × (made_of (first_mark ns) (ahead c ns) ≡ keep_by c (tree_of ns))
+last_one c ns h =
+    let t = tree_of ns in
+    let one = take_one c t [] in
+    let whole : flat t ++ [] ≡ ns = append-nil (flat t) ∙ sym h in (
+      subst (λ l. IsThere (first_mark l) (ahead c l)) whole one.can.2,
+      sym (ap (λ l. made_of (first_mark l) (ahead c l)) whole) ∙ one.made ∙ tree_kept c t,
+    )
 
-pub text_off : {V : Type 0} (tree : V → Tree) (ps qs : List (Part V)) (p : Part V) (s : Bor (List ℕ)) → ps ≡ qs ++ p ∷ [] → p ≡ part.Text s → pile tree ps ≡ word s.now ∷ pile tree qs
-text_off tree ps qs p s e is = popped tree ps qs p e ∙ ap (λ x. part_seen tree x ∷ pile tree qs) is
-
--- one more part on the pile
-pub put_on : {V : Type 0} (tree : V → Tree) (old new : List (Part V)) (p : Part V) (x : Seen) → new ≡ old ++ p ∷ [] → part_seen tree p ≡ x → pile tree new ≡ x ∷ pile tree old
-put_on tree old new p x e same = popped tree new old p e ∙ ap (λ y. y ∷ pile tree old) same
-
-pub array_on : (c : Repeats) {V : Type 0} (tree : V → Tree) (old mid new : List (Part V)) (v : V) (vs : List V) (len count : ℕ)
-    → map tree vs ≡ map tree_seen (take len (pile tree old)) → pile tree mid ≡ drop len (pile tree old)
-    → tree v ≡ list (items_from (map tree vs)) → new ≡ mid ++ part.Value v ∷ [] → pile tree new ≡ grown c (array len count) (pile tree old)
-array_on c tree old mid new v vs len count means rest is e =
-    put_on tree mid new (part.Value v) (whole (tree v)) e refl
-    ∙ ap (λ t. whole t ∷ pile tree mid) (is ∙ ap (λ ts. list (items_from ts)) means)
-    ∙ ap (λ l. whole (list (items_from (map tree_seen (take len (pile tree old))))) ∷ l) rest
+-- ---- one container on the pile
 
 members_from-shown : {K V : Type 0} (tree : V → Tree) (es : List (Entry K V)) → entry_members tree es ≡ members_from (shown tree es)
 members_from-shown tree [] = refl
 members_from-shown tree (e ∷ es) = ap (member e.0.1 (tree e.1)) (members_from-shown tree es)
 
-pub object_on : (c : Repeats) {K V : Type 0} (tree : V → Tree) (old mid new : List (Part V)) (v : V) (es : List (Entry K V)) (len count : ℕ)
-    → shown tree es ≡ kept_by c [] (pairs_seen len (pile tree old)) → pile tree mid ≡ drop (2 * len) (pile tree old)
-    → tree v ≡ obj (entry_members tree es) → new ≡ mid ++ part.Value v ∷ [] → pile tree new ≡ grown c (object len count) (pile tree old)
-object_on c tree old mid new v es len count means rest is e =
-    put_on tree mid new (part.Value v) (whole (tree v)) e refl
-    ∙ ap (λ t. whole t ∷ pile tree mid) (is ∙ ap obj (members_from-shown tree es) ∙ ap (λ ps. obj (members_from ps)) means)
-    ∙ ap (λ l. whole (obj (members_from (kept_by c [] (pairs_seen len (pile tree old))))) ∷ l) rest
+pub array_on : {V : Type 0} (tree : V → Tree) (mid new : List V) (v : V) (vs : List V) (ts ps : List Tree)
+    → map tree vs ≡ ts → pile tree mid ≡ ps → tree v ≡ list (items_from (map tree vs)) → new ≡ mid ++ v ∷ [] → pile tree new ≡ list (items_from ts) ∷ ps
+array_on tree mid new v vs ts ps means rest is e = popped tree new mid v e ∙ (λ i. (is ∙ ap (λ l. list (items_from l)) means) i ∷ rest i)
 
-pub scalar_on : (c : Repeats) {V : Type 0} (tree : V → Tree) (old new : List (Part V)) (v : V) (n : StaticNode)
-    → tree v ≡ static_tree n → new ≡ old ++ part.Value v ∷ [] → pile tree new ≡ grown c (static_mark n) (pile tree old)
-scalar_on c tree old new v n is e =
-    put_on tree old new (part.Value v) (whole (tree v)) e refl ∙ ap (λ t. whole t ∷ pile tree old) is ∙ sym (grown_static c n (pile tree old))
+pub object_on : {K V : Type 0} (tree : V → Tree) (mid new : List V) (v : V) (es : List (Entry K V)) (qs : List (List ℕ × Tree)) (ps : List Tree)
+    → shown tree es ≡ qs → pile tree mid ≡ ps → tree v ≡ obj (entry_members tree es) → new ≡ mid ++ v ∷ [] → pile tree new ≡ obj (members_from qs) ∷ ps
+object_on tree mid new v es qs ps means rest is e = popped tree new mid v e ∙ (λ i. (is ∙ ap obj (members_from-shown tree es) ∙ ap (λ l. obj (members_from l)) means) i ∷ rest i)
+
+-- ---- one item more
+
+pub map_push : {V : Type 0} (tree : V → Tree) (vs ws : List V) (v : V) (t : Tree) (ts : List Tree) → ws ≡ vs ++ v ∷ [] → tree v ≡ t → map tree ws ++ ts ≡ map tree vs ++ t ∷ ts
+map_push tree vs ws v t ts e f = ap (λ l. map tree l ++ ts) e ∙ push vs ∙ ap (λ u. map tree vs ++ u ∷ ts) f where
+  push : (vs : List _) → map tree (vs ++ v ∷ []) ++ ts ≡ map tree vs ++ tree v ∷ ts
+  push [] = refl
+  push (w ∷ vs) = ap (λ l. tree w ∷ l) (push vs)
+
+-- nodes that need something are some
+pub some_node : {X : Type 0} (f : X → Mark) (xs : List X) (ps : List Tree) → Needs (map f xs) ps → 0 < length xs
+some_node f [] ps h = absurd h
+some_node f (x ∷ xs) ps h = omega arith

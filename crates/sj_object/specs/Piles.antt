@@ -1,67 +1,89 @@
--- The pile of what was read of the nodes behind, its top first. Only private clauses cite it.
-use Rattle.std.specs.Prelude.{ℕ, zero, suc, ◌*◌, ◌≤◌, if◌then◌else◌, List, [], ◌∷◌, ◌++◌, map, length, take, drop, ⊤, bytes_eq}
+-- The pile of the containers that were made of the nodes behind, the nearest on top. Only private clauses cite it.
+use Rattle.std.specs.Prelude.{◌≡◌, ℕ, zero, suc, ◌<◌, ◌≤◌, if◌then◌else◌, List, [], ◌∷◌, ◌++◌, map, length, drop, ⊤, bytes_eq}
 use Rattle.sj_text_core.specs.Tree.{Tree, null, boolean, int, text, list, obj, items_from, members_from}
-use Rattle.sj_text_core.specs.Nodes.{Mark, nothing, truth, number, string, array, object}
+use Rattle.sj_text_core.specs.Nodes.{Mark, nothing, truth, number, string, array, object, width, first_tree}
 use Rattle.sj_text_core.specs.Keep.{is_seen}
 use Rattle.sj_text_core.specs.declared.repeats.Repeats.{Repeats}
 use Rattle.sj_text_core.specs.declared.repeats.Repeats.TheVariants.{First, Last}
 use Rattle.sj_object.specs.Entries.{Entry}
-use Rattle.sj_object.specs.declared.build.Part.{Part}
-use Rattle.sj_object.specs.declared.build.Part.TheVariants as part
 
--- a text, from which a key or a value can be made, or a value's tree
-pub data Seen : Type 0 where
-  word : List ℕ → Seen
-  whole : Tree → Seen
-
-abbrev pub seen : Tree → Seen
-seen null = whole null
-seen (boolean b) = whole (boolean b)
-seen (int n c) = whole (int n c)
-seen (text s) = word s
-seen (list is) = whole (list is)
-seen (obj ms) = whole (obj ms)
-
-abbrev pub tree_seen : Seen → Tree
-tree_seen (word s) = text s
-tree_seen (whole t) = t
-
-abbrev pub part_seen : {V : Type 0} → (V → Tree) → Part V → Seen
-part_seen tree (part.Text s) = word s.now
-part_seen tree (part.Value v) = whole (tree v)
-
-abbrev pub part_built : {V : Type 0} → (V → Type 0) → Part V → Type 0
-part_built built (part.Text s) = ⊤
-part_built built (part.Value v) = built v
-
-abbrev pub pile_onto : {V : Type 0} → (V → Tree) → List Seen → List (Part V) → List Seen
+abbrev pub pile_onto : {V : Type 0} → (V → Tree) → List Tree → List V → List Tree
 pile_onto tree below [] = below
-pile_onto tree below (p ∷ ps) = pile_onto tree (part_seen tree p ∷ below) ps
+pile_onto tree below (v ∷ vs) = pile_onto tree (tree v ∷ below) vs
 
-abbrev pub pile : {V : Type 0} → (V → Tree) → List (Part V) → List Seen
-pile tree ps = pile_onto tree [] ps
+abbrev pub pile : {V : Type 0} → (V → Tree) → List V → List Tree
+pile tree vs = pile_onto tree [] vs
 
--- the first n members of the pile
-abbrev pub pairs_seen : ℕ → List Seen → List (List ℕ × Tree)
-pairs_seen zero ps = []
-pairs_seen (suc n) [] = []
-pairs_seen (suc n) (whole t ∷ ps) = []
-pairs_seen (suc n) (word k ∷ []) = []
-pairs_seen (suc n) (word k ∷ p ∷ ps) = (k, tree_seen p) ∷ pairs_seen n ps
+-- ---- one tree
 
--- n members lie on top
-abbrev pub HasPairs : ℕ → List Seen → Type 0
-HasPairs zero ps = ⊤
-HasPairs (suc n) [] = ⊥
-HasPairs (suc n) (whole t ∷ ps) = ⊥
-HasPairs (suc n) (word k ∷ []) = ⊥
-HasPairs (suc n) (word k ∷ p ∷ ps) = HasPairs n ps
+-- the tree of a node: a container's lies on the pile
+abbrev pub made_of : Mark → List Tree → Tree
+made_of nothing ps = null
+made_of (truth b) ps = boolean b
+made_of (number n c) ps = int n c
+made_of (string s) ps = text s
+made_of (array len count) ps = first_tree ps
+made_of (object len count) ps = first_tree ps
 
--- a text lies on top
-abbrev pub HasWord : List Seen → Type 0
-HasWord [] = ⊥
-HasWord (word k ∷ ps) = ⊤
-HasWord (whole t ∷ ps) = ⊥
+-- the pile without it
+abbrev pub left_of : Mark → List Tree → List Tree
+left_of (array len count) ps = drop 1 ps
+left_of (object len count) ps = drop 1 ps
+left_of _ ps = ps
+
+-- it lies there
+abbrev pub IsThere : Mark → List Tree → Type 0
+IsThere (array len count) ps = 0 < length ps
+IsThere (object len count) ps = 0 < length ps
+IsThere _ ps = ⊤
+
+abbrev pub first_mark : List Mark → Mark
+first_mark [] = nothing
+first_mark (m ∷ ns) = m
+
+-- what stands behind the first tree
+abbrev pub behind : List Mark → List Mark
+behind ns = drop (width (first_mark ns)) ns
+
+-- a tree begins here, which can be made
+abbrev pub CanTake : List Mark → List Tree → Type 0
+CanTake ns ps = (0 < length ns) × (width (first_mark ns) ≤ length ns) × IsThere (first_mark ns) ps
+
+-- ---- items
+
+-- the first n trees
+abbrev pub taken : ℕ → List Mark → List Tree → List Tree
+taken zero ns ps = []
+taken (suc n) ns ps = made_of (first_mark ns) ps ∷ taken n (behind ns) (left_of (first_mark ns) ps)
+
+abbrev pub left : ℕ → List Mark → List Tree → List Tree
+left zero ns ps = ps
+left (suc n) ns ps = left n (behind ns) (left_of (first_mark ns) ps)
+
+abbrev pub CanTakeItems : ℕ → List Mark → List Tree → Type 0
+CanTakeItems zero ns ps = ⊤
+CanTakeItems (suc n) ns ps = CanTake ns ps × CanTakeItems n (behind ns) (left_of (first_mark ns) ps)
+
+-- ---- members
+
+abbrev pub key_of_mark : Mark → List ℕ
+key_of_mark (string s) = s
+key_of_mark _ = []
+
+-- the first n members, a text before each value
+abbrev pub taken_pairs : ℕ → List Mark → List Tree → List (List ℕ × Tree)
+taken_pairs zero ns ps = []
+taken_pairs (suc n) ns ps = (key_of_mark (first_mark ns), made_of (first_mark (drop 1 ns)) ps) ∷ taken_pairs n (behind (drop 1 ns)) (left_of (first_mark (drop 1 ns)) ps)
+
+abbrev pub left_pairs : ℕ → List Mark → List Tree → List Tree
+left_pairs zero ns ps = ps
+left_pairs (suc n) ns ps = left_pairs n (behind (drop 1 ns)) (left_of (first_mark (drop 1 ns)) ps)
+
+abbrev pub CanTakePairs : ℕ → List Mark → List Tree → Type 0
+CanTakePairs zero ns ps = ⊤
+CanTakePairs (suc n) ns ps = (0 < length ns) × (first_mark ns ≡ string (key_of_mark (first_mark ns))) × CanTake (drop 1 ns) ps × CanTakePairs n (behind (drop 1 ns)) (left_of (first_mark (drop 1 ns)) ps)
+
+-- ---- the members that count
 
 abbrev pub pair_texts : List (List ℕ × Tree) → List (List ℕ)
 pair_texts ps = map (λ p. p.0) ps
@@ -90,20 +112,17 @@ kept_by Last done ps = in_turn done ps
 abbrev pub shown : {K V : Type 0} → (V → Tree) → List (Entry K V) → List (List ℕ × Tree)
 shown {K} {V} tree es = map (λ (e : Entry K V). (e.0.1, tree e.1)) es
 
--- what a node takes off the pile
-abbrev pub Needs : Mark → List Seen → Type 0
-Needs nothing ps = ⊤
-Needs (truth b) ps = ⊤
-Needs (number n c) ps = ⊤
-Needs (string s) ps = ⊤
-Needs (array len count) ps = len ≤ length ps
-Needs (object len count) ps = HasPairs len ps
+-- ---- one node
+
+-- what a node takes off the pile lies there
+abbrev pub Needs : List Mark → List Tree → Type 0
+Needs [] ps = ⊥
+Needs (array len count ∷ ns) ps = CanTakeItems len ns ps
+Needs (object len count ∷ ns) ps = CanTakePairs len ns ps
+Needs (_ ∷ ns) ps = ⊤
 
 -- the pile after a node
-abbrev pub grown : Repeats → Mark → List Seen → List Seen
-grown c nothing ps = whole null ∷ ps
-grown c (truth b) ps = whole (boolean b) ∷ ps
-grown c (number n d) ps = whole (int n d) ∷ ps
-grown c (string s) ps = word s ∷ ps
-grown c (array len count) ps = whole (list (items_from (map tree_seen (take len ps)))) ∷ drop len ps
-grown c (object len count) ps = whole (obj (members_from (kept_by c [] (pairs_seen len ps)))) ∷ drop (2 * len) ps
+abbrev pub grown : Repeats → List Mark → List Tree → List Tree
+grown c (array len count ∷ ns) ps = list (items_from (taken len ns ps)) ∷ left len ns ps
+grown c (object len count ∷ ns) ps = obj (members_from (kept_by c [] (taken_pairs len ns ps))) ∷ left_pairs len ns ps
+grown c _ ps = ps

@@ -1,12 +1,14 @@
-//! The document of a part of a tape: a loop over the nodes from the last to the first.
+//! The document of a part of a tape: a loop over the nodes from the last to the first makes each
+//! container. A scalar or a text is made where its container takes it; the containers behind wait
+//! on a pile, the nearest on top.
 
-ghost use Rattle.std.specs.Prelude.{◌≡◌, ◌≤◌, ◌<◌, ◌∷◌, ◌++◌, [], ◌*◌, length, map, take, drop, IfOk, OnOk, All};
-ghost use Rattle.sj_text_core.specs.Nodes.{tree_of, IsPreorder};
+ghost use Rattle.std.specs.Prelude.{◌≡◌, ◌<◌, ◌^◌, ◌∷◌, ◌++◌, [], length, map, IfOk, OnOk, All};
+ghost use Rattle.sj_text_core.specs.Nodes.{tree_of, width, IsPreorder};
 ghost use Rattle.sj_text_core.specs.Repeats.{keep_by};
 ghost use Rattle.sj_tape.specs.Marks.{mark, marks};
 ghost use Rattle.sj_tape.specs.Value.{tree, choice};
 ghost use Rattle.sj_object.specs.Builder.{AreMade};
-ghost use Rattle.sj_object.specs.Piles.{tree_seen, part_seen, part_built, pile, word, pairs_seen, HasPairs, HasWord, kept, kept_by, put_pair, shown, Needs, grown};
+ghost use Rattle.sj_object.specs.Piles.{pile, made_of, left_of, IsThere, CanTakeItems, CanTakePairs, taken, left, taken_pairs, left_pairs, kept, kept_by, put_pair, shown, Needs, grown};
 
 use crate::builder::{Builder, Made, MapOf};
 use crate::key::KeyOf;
@@ -14,125 +16,151 @@ use sj_tape::{Node, Value};
 use sj_text_core::Repeats;
 use std::alloc::{AllocError, Global};
 
-/// What was read of the nodes behind.
-#[derive(Drop)]
-enum Part<'de, V> {
-    Text(&'de str),
-    Value(V),
-}
-
-fn value_of<'de, V: Builder<'de, Key>, Key: KeyOf<'de>>(
-    alloc: Global,
-    part: Part<'de, V>,
-) -> Result<V, AllocError>
-    ensures means { IfOk result (λ v. V.tree v ≡ tree_seen (part_seen V.tree part.entry)) }
-    ensures property { part_built V.built part.entry → IfOk result V.built }
+/// How many nodes the tree has that begins with the node.
+fn width_of(node: &Node) -> usize
+    requires { width (mark node.now) < 2 ^ 64 }
+    ensures { result ≡ width (mark node.now) }
 {
-    match part {
-        Part::Text(text) => V::from_text(alloc, text),
-        Part::Value(value) => Ok(value),
+    match *node {
+        Node::Array { count, .. } | Node::Object { count, .. } => 1 + count,
+        Node::Static(_) | Node::String(_) => 1,
     }
 }
 
 /// Takes the top off the pile.
-fn take_part<'de, V: Builder<'de, Key>, Key: KeyOf<'de>>(
-    parts: &mut Vec<Part<'de, V>>,
-) -> Part<'de, V>
-    requires { 0 < length parts.old.items }
-    ensures { parts.old.items ≡ parts.new.items ++ result ∷ [] }
+fn take_top<V>(made: &mut Vec<V>) -> V
+    requires { 0 < length made.old.items }
+    ensures { made.old.items ≡ made.new.items ++ result ∷ [] }
 {
-    let Some(part) = parts.pop() else {
+    let Some(value) = made.pop() else {
         unreachable!();
     };
-    part
+    value
 }
 
-/// Takes a text off the pile.
-fn take_text<'de, V: Builder<'de, Key>, Key: KeyOf<'de>>(parts: &mut Vec<Part<'de, V>>) -> &'de str
-    requires { HasWord (pile V.tree parts.old.items) }
-    ensures means { pile V.tree parts.old.items ≡ word result.now ∷ pile V.tree parts.new.items }
-    ensures property { All (part_built V.built) parts.old.items → All (part_built V.built) parts.new.items }
+/// The value of the tree that begins with the node: a container's is taken off the pile.
+#[inline(always)]
+fn take_value<'de, V: Builder<'de, Key>, Key: KeyOf<'de>>(
+    alloc: Global,
+    made: &mut Vec<V>,
+    node: Node<'de>,
+) -> Result<V, AllocError>
+    requires { IsThere (mark node) (pile V.tree made.old.items) }
+    ensures means { IfOk result (λ v. V.tree v ≡ made_of (mark node.entry) (pile V.tree made.old.items)) }
+    ensures rest { OnOk result (pile V.tree made.new.items ≡ left_of (mark node.entry) (pile V.tree made.old.items)) }
+    ensures property { All V.built made.old.items → IfOk result (λ v. V.built v × All V.built made.new.items) }
 {
-    match parts.pop() {
-        Some(Part::Text(text)) => text,
-        Some(Part::Value(_)) => unreachable!(),
-        None => unreachable!(),
+    match node {
+        Node::Static(scalar) => Ok(V::from_static(scalar)),
+        Node::String(text) => V::from_text(alloc, text),
+        Node::Array { .. } => Ok(take_top(made)),
+        Node::Object { .. } => Ok(take_top(made)),
     }
 }
 
-/// Takes items off the pile.
-fn take_values<'de, V: Builder<'de, Key>, Key: KeyOf<'de>>(
+/// Takes the value off the pile of the tree that begins with the node, where it lies there.
+fn skip_value<'de, V: Builder<'de, Key>, Key: KeyOf<'de>>(made: &mut Vec<V>, node: Node<'de>)
+    requires { IsThere (mark node) (pile V.tree made.old.items) }
+    ensures rest { pile V.tree made.new.items ≡ left_of (mark node.entry) (pile V.tree made.old.items) }
+    ensures property { All V.built made.old.items → All V.built made.new.items }
+{
+    match node {
+        Node::Static(_) | Node::String(_) => {}
+        Node::Array { .. } => drop(take_top(made)),
+        Node::Object { .. } => drop(take_top(made)),
+    }
+}
+
+/// The items of an array, whose nodes stand first.
+fn take_items<'de, V: Builder<'de, Key>, Key: KeyOf<'de>>(
     alloc: Global,
-    parts: &mut Vec<Part<'de, V>>,
+    made: &mut Vec<V>,
+    nodes: &[Node<'de>],
     len: usize,
 ) -> Result<Vec<V>, AllocError>
-    requires { len ≤ length (pile V.tree parts.old.items) }
-    ensures means { IfOk result (λ vs. map V.tree vs.items ≡ map tree_seen (take len (pile V.tree parts.old.items))) }
-    ensures rest { OnOk result (pile V.tree parts.new.items ≡ drop len (pile V.tree parts.old.items)) }
-    ensures property { All (part_built V.built) parts.old.items → IfOk result (λ vs. All V.built vs.items × All (part_built V.built) parts.new.items) }
+    requires { CanTakeItems len (marks nodes.now) (pile V.tree made.old.items) }
+    ensures means { IfOk result (λ vs. map V.tree vs.items ≡ taken len (marks nodes.now) (pile V.tree made.old.items)) }
+    ensures rest { OnOk result (pile V.tree made.new.items ≡ left len (marks nodes.now) (pile V.tree made.old.items)) }
+    ensures property { All V.built made.old.items → IfOk result (λ vs. All V.built vs.items × All V.built made.new.items) }
 {
     let mut items = Vec::with_capacity(alloc, len)?;
+    let mut at = 0;
     for i in 0..len {
-        let part = take_part::<V, Key>(parts);
-        items.push(value_of::<V, Key>(alloc, part)?)?;
+        let node = nodes[at];
+        items.push(take_value::<V, Key>(alloc, made, node)?)?;
+        at += width_of(&node);
     }
     Ok(items)
 }
 
-/// Takes members off the pile; of each key the one that counts stays.
+/// The members of an object, whose nodes stand first; of each key the one that counts stays.
 fn take_members<'de, V: Builder<'de, Key>, Key: KeyOf<'de>>(
     alloc: Global,
-    parts: &mut Vec<Part<'de, V>>,
+    made: &mut Vec<V>,
+    nodes: &[Node<'de>],
     len: usize,
     repeats: Repeats,
 ) -> Result<V::Map, AllocError>
-    requires { HasPairs len (pile V.tree parts.old.items) }
-    ensures means { IfOk result (λ m. shown V.tree (V.Map.entries m) ≡ kept_by repeats [] (pairs_seen len (pile V.tree parts.old.items))) }
-    ensures rest { OnOk result (pile V.tree parts.new.items ≡ drop (2 * len) (pile V.tree parts.old.items)) }
-    ensures property { All (part_built V.built) parts.old.items → IfOk result (λ m. AreMade Key.is_made V.built (V.Map.entries m) × All (part_built V.built) parts.new.items) }
+    requires { CanTakePairs len (marks nodes.now) (pile V.tree made.old.items) }
+    ensures means { IfOk result (λ m. shown V.tree (V.Map.entries m) ≡ kept_by repeats [] (taken_pairs len (marks nodes.now) (pile V.tree made.old.items))) }
+    ensures rest { OnOk result (pile V.tree made.new.items ≡ left_pairs len (marks nodes.now) (pile V.tree made.old.items)) }
+    ensures property { All V.built made.old.items → IfOk result (λ m. AreMade Key.is_made V.built (V.Map.entries m) × All V.built made.new.items) }
 {
     let mut members = V::Map::with_capacity(alloc, len)?;
+    let mut at = 0;
     for i in 0..len {
-        let text = take_text::<V, Key>(parts);
-        let part = take_part::<V, Key>(parts);
-        put_member::<V, Key>(alloc, &mut members, text, part, repeats)?;
+        let Node::String(text) = nodes[at] else {
+            unreachable!();
+        };
+        let node = nodes[at + 1];
+        put_member::<V, Key>(alloc, &mut members, made, text, node, repeats)?;
+        at += 1 + width_of(&node);
     }
     Ok(members)
 }
 
 /// Adds a member; where its key is there, the one that counts stays.
+#[inline(always)]
 fn put_member<'de, V: Builder<'de, Key>, Key: KeyOf<'de>>(
     alloc: Global,
     members: &mut V::Map,
+    made: &mut Vec<V>,
     text: &'de str,
-    part: Part<'de, V>,
+    node: Node<'de>,
     repeats: Repeats,
 ) -> Result<(), AllocError>
-    ensures means { OnOk result (shown V.tree (V.Map.entries members.new) ≡ kept_by repeats (shown V.tree (V.Map.entries members.old)) ((text.now, tree_seen (part_seen V.tree part.entry)) ∷ [])) }
-    ensures property { AreMade Key.is_made V.built (V.Map.entries members.old) → part_built V.built part.entry → OnOk result (AreMade Key.is_made V.built (V.Map.entries members.new)) }
+    requires { IsThere (mark node) (pile V.tree made.old.items) }
+    ensures means { OnOk result (shown V.tree (V.Map.entries members.new) ≡ kept_by repeats (shown V.tree (V.Map.entries members.old)) ((text.now, made_of (mark node.entry) (pile V.tree made.old.items)) ∷ [])) }
+    ensures rest { OnOk result (pile V.tree made.new.items ≡ left_of (mark node.entry) (pile V.tree made.old.items)) }
+    ensures property { AreMade Key.is_made V.built (V.Map.entries members.old) → All V.built made.old.items → OnOk result (AreMade Key.is_made V.built (V.Map.entries members.new) × All V.built made.new.items) }
 {
     match repeats {
-        Repeats::First => add_member::<V, Key>(alloc, members, text, part),
-        Repeats::Last => set_member::<V, Key>(alloc, members, text, part),
+        Repeats::First => add_member::<V, Key>(alloc, members, made, text, node),
+        Repeats::Last => set_member::<V, Key>(alloc, members, made, text, node),
     }
 }
 
 /// Adds a member, unless its key is there.
+#[inline(always)]
 fn add_member<'de, V: Builder<'de, Key>, Key: KeyOf<'de>>(
     alloc: Global,
     members: &mut V::Map,
+    made: &mut Vec<V>,
     text: &'de str,
-    part: Part<'de, V>,
+    node: Node<'de>,
 ) -> Result<(), AllocError>
-    ensures means { OnOk result (shown V.tree (V.Map.entries members.new) ≡ kept (shown V.tree (V.Map.entries members.old)) ((text.now, tree_seen (part_seen V.tree part.entry)) ∷ [])) }
-    ensures property { AreMade Key.is_made V.built (V.Map.entries members.old) → part_built V.built part.entry → OnOk result (AreMade Key.is_made V.built (V.Map.entries members.new)) }
+    requires { IsThere (mark node) (pile V.tree made.old.items) }
+    ensures means { OnOk result (shown V.tree (V.Map.entries members.new) ≡ kept (shown V.tree (V.Map.entries members.old)) ((text.now, made_of (mark node.entry) (pile V.tree made.old.items)) ∷ [])) }
+    ensures rest { OnOk result (pile V.tree made.new.items ≡ left_of (mark node.entry) (pile V.tree made.old.items)) }
+    ensures property { AreMade Key.is_made V.built (V.Map.entries members.old) → All V.built made.old.items → OnOk result (AreMade Key.is_made V.built (V.Map.entries members.new) × All V.built made.new.items) }
 {
     let hash = members.hash_for(text);
     if members.has_hashed(hash, text) {
+        skip_value::<V, Key>(made, node);
         return Ok(());
     }
     let key = Key::of(alloc, text)?;
-    let value = value_of::<V, Key>(alloc, part)?;
+    let value = take_value::<V, Key>(alloc, made, node)?;
     members.add_hashed(hash, key, value)
 }
 
@@ -140,45 +168,41 @@ fn add_member<'de, V: Builder<'de, Key>, Key: KeyOf<'de>>(
 fn set_member<'de, V: Builder<'de, Key>, Key: KeyOf<'de>>(
     alloc: Global,
     members: &mut V::Map,
+    made: &mut Vec<V>,
     text: &'de str,
-    part: Part<'de, V>,
+    node: Node<'de>,
 ) -> Result<(), AllocError>
-    ensures means { OnOk result (shown V.tree (V.Map.entries members.new) ≡ put_pair text.now (tree_seen (part_seen V.tree part.entry)) (shown V.tree (V.Map.entries members.old))) }
-    ensures property { AreMade Key.is_made V.built (V.Map.entries members.old) → part_built V.built part.entry → OnOk result (AreMade Key.is_made V.built (V.Map.entries members.new)) }
+    requires { IsThere (mark node) (pile V.tree made.old.items) }
+    ensures means { OnOk result (shown V.tree (V.Map.entries members.new) ≡ put_pair text.now (made_of (mark node.entry) (pile V.tree made.old.items)) (shown V.tree (V.Map.entries members.old))) }
+    ensures rest { OnOk result (pile V.tree made.new.items ≡ left_of (mark node.entry) (pile V.tree made.old.items)) }
+    ensures property { AreMade Key.is_made V.built (V.Map.entries members.old) → All V.built made.old.items → OnOk result (AreMade Key.is_made V.built (V.Map.entries members.new) × All V.built made.new.items) }
 {
     let key = Key::of(alloc, text)?;
-    let value = value_of::<V, Key>(alloc, part)?;
+    let value = take_value::<V, Key>(alloc, made, node)?;
     members.set(key, value)
 }
 
-/// Puts a node on the pile.
+/// Puts the container on the pile that begins with the first node, where it is one.
 fn put<'de, V: Builder<'de, Key>, Key: KeyOf<'de>>(
     alloc: Global,
-    parts: &mut Vec<Part<'de, V>>,
-    node: Node<'de>,
+    made: &mut Vec<V>,
+    nodes: &[Node<'de>],
     repeats: Repeats,
 ) -> Result<(), AllocError>
-    requires { Needs (mark node) (pile V.tree parts.old.items) }
-    ensures means { OnOk result (pile V.tree parts.new.items ≡ grown repeats (mark node.entry) (pile V.tree parts.old.items)) }
-    ensures property { All (part_built V.built) parts.old.items → OnOk result (All (part_built V.built) parts.new.items) }
+    requires { Needs (marks nodes.now) (pile V.tree made.old.items) }
+    ensures means { OnOk result (pile V.tree made.new.items ≡ grown repeats (marks nodes.now) (pile V.tree made.old.items)) }
+    ensures property { All V.built made.old.items → OnOk result (All V.built made.new.items) }
 {
-    match node {
-        Node::Static(scalar) => {
-            parts.push(Part::Value(V::from_static(scalar)))?;
-            Ok(())
-        }
-        Node::String(text) => {
-            parts.push(Part::Text(text))?;
-            Ok(())
-        }
+    match nodes[0] {
+        Node::Static(_) | Node::String(_) => Ok(()),
         Node::Array { len, .. } => {
-            let items = take_values::<V, Key>(alloc, parts, len)?;
-            parts.push(Part::Value(V::from_vec(alloc, items)?))?;
+            let items = take_items::<V, Key>(alloc, made, &nodes[1..], len)?;
+            made.push(V::from_vec(alloc, items)?)?;
             Ok(())
         }
         Node::Object { len, .. } => {
-            let members = take_members::<V, Key>(alloc, parts, len, repeats)?;
-            parts.push(Part::Value(V::from_map(alloc, members)?))?;
+            let members = take_members::<V, Key>(alloc, made, &nodes[1..], len, repeats)?;
+            made.push(V::from_map(alloc, members)?)?;
             Ok(())
         }
     }
@@ -194,14 +218,13 @@ fn build<'de, V: Builder<'de, Key>, Key: KeyOf<'de>>(
     ensures means { IfOk result (λ v. V.tree v ≡ keep_by repeats (tree_of (marks nodes.now))) }
     ensures property { IfOk result V.built }
 {
-    let mut parts = Vec::new(alloc);
+    let mut made = Vec::new(alloc);
     let mut at = nodes.len();
     while at > 0 {
         at -= 1;
-        put::<V, Key>(alloc, &mut parts, nodes[at], repeats)?;
+        put::<V, Key>(alloc, &mut made, &nodes[at..], repeats)?;
     }
-    let part = take_part::<V, Key>(&mut parts);
-    value_of::<V, Key>(alloc, part)
+    take_value::<V, Key>(alloc, &mut made, nodes[0])
 }
 
 /// The document of a part of a tape: of each key the member that counts in the part stays, in the

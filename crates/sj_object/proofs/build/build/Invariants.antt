@@ -1,15 +1,16 @@
 use Rattle.std.proofs.Common.{◌≡◌, ◌≤◌, drop, length, All}
 use Rattle.sj_tape.specs.Marks.{marks}
-use Rattle.sj_object.specs.Piles.{part_built, pile}
+use Rattle.sj_object.specs.Piles.{pile}
 use Rattle.sj_object.proofs.Piles.{ahead}
 use Rattle.sj_object.proofs.build.build.Given as goal
 
 abbrev pub invariant-loop-at : goal.invariant-loop-at
-invariant-loop-at g l = record {
-  within : l.at ≤ length l.nodes;
-  read : pile g.V.Made.tree l.parts.items ≡ ahead l.repeats (marks (drop l.at l.nodes));
-  made : All (part_built g.V.Made.built) l.parts.items;
-}
+invariant-loop-at g l =
+    record {
+      within : l.at ≤ length l.nodes;
+      read : pile g.V.Made.tree l.made.items ≡ ahead l.repeats (marks (drop l.at l.nodes));
+      made : All g.V.Made.built l.made.items;
+    }
 
 abbrev pub decreases-loop-at : goal.decreases-loop-at
 decreases-loop-at g l = l.at
