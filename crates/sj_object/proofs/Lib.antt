@@ -11,5 +11,6 @@ pub mod Shown
 pub mod Kept
 pub mod Walks
 pub mod PileEntries
+pub mod KeptBy
 pub mod Piles
 pub mod rows
