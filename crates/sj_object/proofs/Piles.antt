@@ -1,14 +1,15 @@
 -- Piles, and the trees that nodes are.
-use Rattle.std.proofs.Common.{◌≡◌, ℕ, zero, suc, ◌+◌, ◌-◌, ◌≤◌, ◌<◌, List, [], ◌∷◌, ◌++◌, map, take, drop, length, get_or, refl, ap, sym, ◌∙◌, append_assoc, append-nil, arith, All, subst, Some, drop-cons}
-use Rattle.std.proofs.lemmas.List.{length-drop}
+use Rattle.std.proofs.Common.{◌≡◌, ℕ, suc, ◌+◌, ◌≤◌, ◌<◌, List, [], ◌∷◌, ◌++◌, map, drop, length, get_or, refl, ap, sym, ◌∙◌, append_assoc, append-nil, arith, All, subst, Some, drop-cons}
+use Rattle.std.proofs.lemmas.List.{length-drop, length-map, drop-map, drop-drop, drop_at, drop_all}
 use Rattle.std.proofs.lemmas.List.Elements.{All-pop}
 use Rattle.sj_text_core.specs.Tree.{Tree, null, boolean, int, text, list, obj, Items, no_items, item, Members, no_members, member, items_len, members_len, items_from, members_from, listed}
 use Rattle.sj_text_core.specs.Nodes.{Mark, string, array, flat, flat_items, flat_members, trees_of, tree_of, first_tree, IsPreorder, width}
 use Rattle.sj_text_core.specs.Repeats.{keep_by}
 use Rattle.sj_text_core.specs.declared.repeats.Repeats.{Repeats}
 use Rattle.sj_text_core.specs.Flat.{trees_of-flat}
-use Rattle.sj_tape.specs.Fronts.{BeginsTree, AllBegin}
-use Rattle.sj_tape.proofs.Preorders.{AllBegin-preorder}
+use Rattle.sj_tape.specs.Fronts.{BeginsTree}
+use Rattle.sj_tape.proofs.Counts.{begins_first}
+use Rattle.sj_tape.proofs.Preorders.{AllBegin-drop, AllBegin-preorder}
 use Rattle.sj_object.specs.Entries.{Entry}
 use Rattle.sj_object.specs.Members.{entry_members}
 use Rattle.sj_object.proofs.KeptBy.{tree_by, tree_kept, items_kept, pairs_by, members_kept}
@@ -39,33 +40,10 @@ built_popped built vs ws v e h = All-pop built vs ws (Some v) e h
 
 -- ---- one tree at a position
 
-drop_more : {A : Type 0} (i n : ℕ) (xs : List A) → drop n (drop i xs) ≡ drop (i + n) xs
-drop_more zero n xs = let e : n ≡ 0 + n = omega arith in ap (λ k. drop k xs) e
-drop_more (suc i) zero [] = let e : suc (i + 0) ≡ suc i + 0 = omega arith in ap (λ k. drop k []) e
-drop_more (suc i) (suc n) [] = let e : suc (i + suc n) ≡ suc i + suc n = omega arith in ap (λ k. drop k []) e
-drop_more (suc i) n (x ∷ xs) = let e : suc (i + n) ≡ suc i + n = omega arith in drop_more i n xs ∙ ap (λ k. drop k (x ∷ xs)) e
-
--- a slice to the end is what is left
-take_whole : {A : Type 0} (xs : List A) → take (length xs) xs ≡ xs
-take_whole [] = refl
-take_whole (x ∷ xs) = ap (λ l. x ∷ l) (take_whole xs)
-
-pub tail_of : {A : Type 0} (i : ℕ) (xs : List A) → take (length xs - i) (drop i xs) ≡ drop i xs
-tail_of i xs = ap (λ n. take n (drop i xs)) (sym (length-drop i xs)) ∙ take_whole (drop i xs)
-
 -- a list that begins with x
 pub begins_with : {A : Type 0} (xs : List A) (d x : A) → 0 < length xs → get_or xs 0 d ≡ x → xs ≡ x ∷ drop 1 xs
 begins_with [] d x h e = absurd (omega (arith, h))
 begins_with (y ∷ xs) d x h e = ap (λ z. z ∷ xs) e
-
-drop_map : {X : Type 0} (f : X → Mark) (i : ℕ) (xs : List X) → map f (drop i xs) ≡ drop i (map f xs)
-drop_map f zero xs = refl
-drop_map f (suc i) [] = refl
-drop_map f (suc i) (x ∷ xs) = drop_map f i xs
-
-len_map : {X : Type 0} (f : X → Mark) (xs : List X) → length (map f xs) ≡ length xs
-len_map f [] = refl
-len_map f (x ∷ xs) = ap (λ n. suc n) (len_map f xs)
 
 -- what can be taken at the position i of xs, whose node there is x
 pub record At {X : Type 0} (f : X → Mark) (xs : List X) (i : ℕ) (x : X) : Type 0 where
@@ -74,7 +52,7 @@ pub record At {X : Type 0} (f : X → Mark) (xs : List X) (i : ℕ) (x : X) : Ty
 
 pub at : {X : Type 0} (f : X → Mark) (xs : List X) (i : ℕ) (d : X) → 0 < length (map f (drop i xs)) → At f xs i (get_or xs i d)
 at f xs i d h =
-    let l : i < length xs = omega (arith, h, len_map f (drop i xs), length-drop i xs) in
+    let l : i < length xs = omega (arith, h, length-map (drop i xs) f, length-drop i xs) in
     record { inside = l; first = ap (λ ys. first_mark (map f ys)) (drop-cons xs i d l) }
 
 -- how far its tree goes, and what stands behind
@@ -92,9 +70,9 @@ whole_at f xs i d ps can =
     record {
       inside = h.inside;
       first = h.first;
-      wide = omega (arith, can.1, w, h.inside, len_map f (drop i xs), length-drop i xs);
+      wide = omega (arith, can.1, w, h.inside, length-map (drop i xs) f, length-drop i xs);
       there = subst (λ m. IsThere m ps) h.first can.2;
-      after = sym (drop_map f (width (first_mark (map f (drop i xs)))) (drop i xs)) ∙ ap (map f) (drop_more i (width (first_mark (map f (drop i xs)))) xs) ∙ ap (λ n. map f (drop (i + n) xs)) w;
+      after = drop-map f (width (first_mark (map f (drop i xs)))) (drop i xs) ∙ ap (map f) (drop-drop (width (first_mark (map f (drop i xs)))) i xs) ∙ ap (λ n. map f (drop (i + n) xs)) w;
     }
 
 -- one item less
@@ -128,7 +106,7 @@ pub one_member : {X : Type 0} (f : X → Mark) (xs : List X) (i n m : ℕ) (d : 
 one_member f xs i n m d ps e h =
     let can = subst (λ k. CanTakePairs k (map f (drop i xs)) ps) e h in
     let key = at f xs i d can.0 in
-    let next : drop 1 (map f (drop i xs)) ≡ map f (drop (i + 1) xs) = sym (drop_map f 1 (drop i xs)) ∙ ap (map f) (drop_more i 1 xs) in
+    let next : drop 1 (map f (drop i xs)) ≡ map f (drop (i + 1) xs) = drop-map f 1 (drop i xs) ∙ ap (map f) (drop-drop 1 i xs) in
     let w = whole_at f xs (i + 1) d ps (subst (λ l. CanTake l ps) next can.2) in
     let first = ap first_mark next ∙ w.first in
     let after = ap behind next ∙ w.after in
@@ -162,10 +140,6 @@ record Takes (c : Repeats) (t : Tree) (ns : List Mark) : Type 0 where
   less : left_of (first_mark (flat t ++ ns)) (ahead c (flat t ++ ns)) ≡ ahead c ns
   rest : behind (flat t ++ ns) ≡ ns
 
-drop_front : {A : Type 0} (xs ys : List A) → drop (length xs) (xs ++ ys) ≡ ys
-drop_front [] ys = refl
-drop_front (x ∷ xs) ys = drop_front xs ys
-
 long_front : {A : Type 0} (xs ys : List A) → length xs ≤ length (xs ++ ys)
 long_front [] ys = omega arith
 long_front (x ∷ xs) ys = omega (arith, long_front xs ys)
@@ -184,7 +158,7 @@ take_one c (list is) ns =
       can = (omega arith, omega (arith, long_front (flat_items is) ns), omega (arith, ap (λ (l : List Tree). length l) all));
       made = ap (λ ps. made_of (array 0 0) ps) all;
       less = ap (λ ps. left_of (array 0 0) ps) all;
-      rest = ap (λ k. drop k (flat (list is) ++ ns)) (next_of (length (flat_items is))) ∙ drop_front (flat_items is) ns;
+      rest = ap (λ k. drop k (flat (list is) ++ ns)) (next_of (length (flat_items is))) ∙ drop_at (flat_items is) ns (length (flat_items is)) refl;
     }
 take_one c (obj ms) ns =
     let all : ahead c (flat (obj ms) ++ ns) ≡ tree_by c (obj ms) ∷ ahead c ns = ap (standing c) (trees_of-flat (obj ms) ns) in
@@ -192,7 +166,7 @@ take_one c (obj ms) ns =
       can = (omega arith, omega (arith, long_front (flat_members ms) ns), omega (arith, ap (λ (l : List Tree). length l) all));
       made = ap (λ ps. made_of (array 0 0) ps) all;
       less = ap (λ ps. left_of (array 0 0) ps) all;
-      rest = ap (λ k. drop k (flat (obj ms) ++ ns)) (next_of (length (flat_members ms))) ∙ drop_front (flat_members ms) ns;
+      rest = ap (λ k. drop k (flat (obj ms) ++ ns)) (next_of (length (flat_members ms))) ∙ drop_at (flat_members ms) ns (length (flat_members ms)) refl;
     }
 
 -- ---- items
@@ -271,46 +245,23 @@ turn_tree c (obj ms) ns =
 turn_begun : (c : Repeats) (ns : List Mark) → BeginsTree ns → Turns c ns (drop 1 ns)
 turn_begun c ns b = subst (λ l. Turns c l (drop 1 l)) (sym b.are) (turn_tree c b.tree b.rest)
 
-AllBegin-drop : (i : ℕ) (ns : List Mark) → AllBegin ns → AllBegin (drop i ns)
-AllBegin-drop zero ns h = h
-AllBegin-drop (suc i) [] h = tt
-AllBegin-drop (suc i) (m ∷ ns) h = AllBegin-drop i ns h.1
-
-begun_at : (ns : List Mark) → AllBegin ns → 0 < length ns → BeginsTree ns
-begun_at [] h l = absurd (omega (arith, l))
-begun_at (m ∷ ns) h l = h.0
-
-drop_one : {A : Type 0} (i : ℕ) (xs : List A) → drop 1 (drop i xs) ≡ drop (suc i) xs
-drop_one zero [] = refl
-drop_one zero (x ∷ xs) = refl
-drop_one (suc i) [] = refl
-drop_one (suc i) (x ∷ xs) = drop_one i xs
-
-len_drop : {A : Type 0} (i : ℕ) (xs : List A) → i < length xs → 0 < length (drop i xs)
-len_drop i [] h = absurd (omega (arith, h))
-len_drop zero (x ∷ xs) h = omega arith
-len_drop (suc i) (x ∷ xs) h = len_drop i xs (omega (arith, h))
-
 -- the turn at a position of a preorder
 pub turn_at : (c : Repeats) {X : Type 0} (f : X → Mark) (xs : List X) (n i : ℕ) → suc i ≡ n → i < length xs → IsPreorder (map f xs)
     → Needs (map f (drop i xs)) (ahead c (map f (drop n xs))) × (grown c (map f (drop i xs)) (ahead c (map f (drop n xs))) ≡ ahead c (map f (drop i xs)))
 turn_at c f xs n i e h whole =
     let ms = map f xs in
-    let t = turn_begun c (drop i ms) (begun_at (drop i ms) (AllBegin-drop i ms (AllBegin-preorder ms whole)) (len_drop i ms (omega (arith, h, len_map f xs)))) in
-    let here = drop_map f i xs in
-    let after : map f (drop n xs) ≡ drop 1 (drop i ms) = drop_map f n xs ∙ ap (λ k. drop k ms) (sym e) ∙ sym (drop_one i ms) in (
+    let t = turn_begun c (drop i ms) (begins_first (drop i ms) (AllBegin-drop i ms (AllBegin-preorder ms whole)) (omega (arith, h, length-drop i ms, length-map xs f))) in
+    let here = sym (drop-map f i xs) in
+    let next : i + 1 ≡ n = omega (arith, e) in
+    let after : map f (drop n xs) ≡ drop 1 (drop i ms) = sym (drop-map f n xs) ∙ ap (λ k. drop k ms) (sym next) ∙ sym (drop-drop 1 i ms) in (
       subst (λ (p : List Mark × List Mark). Needs p.0 (ahead c p.1)) (λ j. (sym here j, sym after j)) t.needs,
       (λ j. grown c (here j) (ahead c (after j))) ∙ t.grows ∙ ap (ahead c) (sym here),
     )
 
 -- ---- the end
 
-drop_end : {X : Type 0} (xs : List X) → drop (length xs) xs ≡ []
-drop_end [] = refl
-drop_end (x ∷ xs) = drop_end xs
-
 pub nothing_ahead : (c : Repeats) {X : Type 0} (f : X → Mark) (xs : List X) → [] ≡ ahead c (map f (drop (length xs) xs))
-nothing_ahead c f xs = sym (ap (λ l. ahead c (map f l)) (drop_end xs))
+nothing_ahead c f xs = sym (ap (λ l. ahead c (map f l)) (drop_all (length xs) xs (omega arith)))
 
 flat_some : (t : Tree) → 0 < length (flat t)
 flat_some null = omega arith

@@ -1,10 +1,10 @@
 -- Members of two objects of tapes, compared.
 use Rattle.std.proofs.Common.{◌≡◌, ℕ, zero, suc, ◌+◌, ◌≤◌, Bool, true, false, ◌||◌, List, [], ◌∷◌, length, take, drop, Option, Some, None, is_some, option_map, IsTrue, refl, sym, ap, ◌∙◌, subst, arith, true≢false, bytes_eq}
 use Rattle.std.proofs.lemmas.Slice.Eq.{bytes_eq-Decides}
-use Rattle.sj_text_core.specs.Tree.{Tree, null, boolean, int, text, list, obj, Items, no_items, item, items_len, items_from, Members, no_members, member, members_len, members_from, depth, members_depth, listed, paired}
+use Rattle.sj_text_core.specs.Tree.{Tree, null, boolean, int, text, list, obj, Items, no_items, item, items_len, Members, no_members, member, members_len, members_from, depth, members_depth, listed, paired}
 use Rattle.sj_text_core.specs.Find.{find_member}
 use Rattle.sj_text_core.specs.Keep.{is_seen}
-use Rattle.sj_text_core.specs.Same.{Same, SameItems}
+use Rattle.sj_text_core.specs.Same.{Same}
 use Rattle.sj_text_core.specs.Agree.{HasTexts, Agree, is_before, texts}
 use Rattle.sj_text_core.proofs.Comparing.{by_either, not_found, not_there, agree_repeat, agree_found, agree_in_step, texts_in_step, not_same_absent, same_first, same_first_in_step, all_agree, same_in_step, not_same_extra}
 use Rattle.sj_text_core.proofs.Shapes.{members_from-paired}

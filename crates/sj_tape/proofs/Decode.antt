@@ -1,7 +1,7 @@
 -- Characters written over their own spelling.
 use Rattle.std.proofs.Common.{◌≡◌, set, ℕ, zero, suc, ◌+◌, ◌-◌, ◌<◌, ◌≤◌, List, [], ◌∷◌, ◌++◌, length, take, drop, get_or, refl, sym, ap, ◌∙◌, arith, append_assoc, length-append, length-drop}
 use Rattle.std.specs.Prelude.{slice_range}
-use Rattle.std.proofs.lemmas.List.{take-append-le, drop-append-le, take-append-drop, drop_at, take_at, drop-drop, length-take-le, get_or-drop}
+use Rattle.std.proofs.lemmas.List.{drop-append-le, take-append-drop, drop_at, take_at, drop-drop, length-take-le, get_or-drop}
 
 -- b with f written at `to`
 abbrev pub written : List ℕ → ℕ → List ℕ → List ℕ

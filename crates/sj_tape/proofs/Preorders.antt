@@ -149,7 +149,7 @@ pub AllBegin-behind : (nodes : List Node) (i at : ℕ) → i + 1 ≡ at → AllB
 AllBegin-behind nodes i at e h =
     subst (λ l. AllBegin l) (ap (λ n. drop n (marks nodes)) (sym e) ∙ (drop-map mark (i + 1) nodes ∙ ap (λ l. marks l) (sym (take_rest nodes (i + 1))))) h
 
-AllBegin-drop : (i : ℕ) (ns : List Mark) → AllBegin ns → AllBegin (drop i ns)
+pub AllBegin-drop : (i : ℕ) (ns : List Mark) → AllBegin ns → AllBegin (drop i ns)
 AllBegin-drop zero ns h = h
 AllBegin-drop (suc i) [] h = h
 AllBegin-drop (suc i) (m ∷ ns) h = AllBegin-drop i ns h.1

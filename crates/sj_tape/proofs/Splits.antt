@@ -2,7 +2,7 @@
 use Rattle.std.proofs.Common.{◌≡◌, ℕ, zero, suc, ◌+◌, ◌<◌, ◌≤◌, List, [], ◌∷◌, ◌++◌, length, take, drop, Bor, get_or, refl, sym, ap, ◌∙◌, arith, append-nil, length-append}
 use Rattle.std.proofs.lemmas.List.{length-map, take_at, take-map, append_cancel_left}
 use Rattle.std.proofs.Math.ListN.{get_or-map}
-use Rattle.sj_text_core.specs.Tree.{Tree, null, boolean, int, text, list, obj, Items, no_items, item, items_len, Members, no_members, member, members_len, members_from, listed, paired}
+use Rattle.sj_text_core.specs.Tree.{Tree, null, boolean, int, text, list, obj, Items, no_items, item, items_len, Members, no_members, member, members_len, listed}
 use Rattle.sj_text_core.specs.Nodes.{Mark, string, flat, flat_items, flat_members, trees_of, tree_of, first_tree, items_of, members_of, members_in, AreMembers, IsPreorder, width}
 use Rattle.sj_text_core.specs.Flat.{texts_and_values, trees_of-flat, trees_of-flat_members}
 use Rattle.std.specs.Prelude.{slice_get}

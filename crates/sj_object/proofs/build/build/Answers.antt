@@ -4,14 +4,15 @@ use Rattle.sj_tape.specs.Marks.{mark, marks}
 use Rattle.sj_tape.specs.declared.node.Node.TheVariants.{Static}
 use Rattle.sj_text_core.specs.declared.static_node.StaticNode.TheVariants.{Null}
 use Rattle.sj_object.specs.Piles.{pile, made_of, IsThere, Needs, grown}
-use Rattle.sj_object.proofs.Piles.{ahead, turn_at, tail_of, last_one, first_of}
+use Rattle.std.proofs.lemmas.List.{take_rest}
+use Rattle.sj_object.proofs.Piles.{ahead, turn_at, last_one, first_of}
 use Rattle.sj_object.proofs.build.build.Goals as goal
 
 pub put-requires : goal.put-requires
 put-requires g c κs =
     let nodes = c.args.nodes.now in
     let t = turn_at c.args.repeats mark nodes c.loop-at.at (c.loop-at.at - 1) (omega arith) (omega arith) c.requires in
-    ((refl, tt), subst (λ l. Needs (marks l) (pile g.V.Made.tree c.loop-at.made.items)) (sym (tail_of (c.loop-at.at - 1) nodes)) (subst (Needs _) (sym c.loop-at.invariant.read) t.0))
+    ((refl, tt), subst (λ l. Needs (marks l) (pile g.V.Made.tree c.loop-at.made.items)) (sym (take_rest nodes (c.loop-at.at - 1))) (subst (Needs _) (sym c.loop-at.invariant.read) t.0))
 
 pub loop-at-preserved : goal.loop-at-preserved
 loop-at-preserved g c =
@@ -20,7 +21,7 @@ loop-at-preserved g c =
     let t = turn_at c.args.repeats mark nodes c.loop-at.at (c.loop-at.at - 1) (omega arith) (omega arith) c.requires in
     record {
       within = omega arith;
-      read = c.in_ok-put.ensures.means ∙ (λ i. grown c.args.repeats (marks (tail_of (c.loop-at.at - 1) nodes i)) (inv.read i)) ∙ t.1;
+      read = c.in_ok-put.ensures.means ∙ (λ i. grown c.args.repeats (marks (take_rest nodes (c.loop-at.at - 1) i)) (inv.read i)) ∙ t.1;
       made = c.in_ok-put.ensures.property inv.made;
     }
 

@@ -1,7 +1,6 @@
 use Rattle.std.proofs.Common.{sym, ap, ◌∙◌, subst, rules}
 use Rattle.sj_text_core.specs.Grammar.{Spells}
 use Rattle.sj_text_core.specs.Print.{recarry}
-use Rattle.sj_text_core.specs.Repeats.{SameBy}
 use Rattle.sj_text_core.proofs.Back.{same_by_back, within_back, refused_back}
 use Rattle.sj_tape.specs.Value.{tree, choice}
 use Rattle.sj_tape.proofs.laws.is_read_as.Goals as goal
