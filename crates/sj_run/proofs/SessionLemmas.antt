@@ -13,7 +13,7 @@ use Rattle.sj_commands.specs.Commands.{PlainCommand}
 use Rattle.sj_commands.specs.CommandLines.{AreCommandsOf}
 use Rattle.sj_text_core.specs.declared.repeats.Repeats.{Repeats}
 use Rattle.sj_run.specs.Repeats.{answer_by, replies_by, part_after, start_by}
-use Rattle.sj_run.specs.Answered.{AnswersLine, AnswersLines, IsBegunBy, PassesLine, PassesLines}
+use Rattle.sj_run.specs.Answered.{AnswersLine, AnswersText, AnswersLines, IsBegunBy, PassesLine, PassesText, PassesLines}
 use Rattle.sj_run.specs.Replies.{PlainReply}
 use Rattle.sj_run.specs.Shown.{reply_text, shown, shown_all}
 use Rattle.sj_run.specs.Session.{IsAnsweredBy, PassesAllBy, fault_of}
@@ -170,20 +170,26 @@ refused_kind Float k r m n e = let f : r ≡ Refused Float = n (λ x. cc) in (λ
 refused_kind NumberTooLarge k r m n e = let f : r ≡ Refused NumberTooLarge = n (λ x. cc) in (λ x. cc, λ x. cc)
 refused_kind TooDeep k r m n e = let f : r ≡ Refused TooDeep = n (λ x. cc) in (λ x. cc, λ x. cc)
 
+-- the same answers from what the tree is
+pub answers_from : {ts : List (List ℕ)} {d e u : Repeats × Tree} {old new : List ℕ} → d ≡ e → AnswersLines d ts u old new → AnswersLines e ts u old new
+answers_from {ts} {d} {e} {u} {old} {new} p h = subst (λ x. AnswersLines x ts u old new) p h
+
+pub passes_from : (ts : List (List ℕ)) (n : ℕ) {d e : Repeats × Tree} → d ≡ e → PassesLines d ts n → PassesLines e ts n
+passes_from ts n p h = subst (λ x. PassesLines x ts n) p h
+
 -- a session that was answered
-pub session_answered : (r : Repeats) (f : Form) (input part behind : List ℕ) (t : Tree) (s u : Repeats × Tree) (old new : List ℕ)
-    → s ≡ start_by r f t → part ≡ document input → line_texts (full_lines behind) ≡ lines input → Spells part t → IsWithin t
-    → AnswersLines s (line_texts (full_lines behind)) u old new → (written : List ℕ) × (new ≡ old ++ written) × IsAnsweredBy r f input written
-session_answered r f input part behind t s u old new starts e lines_are spelled within a = (
-  shown_all (replies_by s a.commands),
-  a.shows,
+pub session_answered : (r : Repeats) (f : Form) (input part behind old new : List ℕ)
+    → part ≡ document input → line_texts (full_lines behind) ≡ lines input → AnswersText r f part behind old new → (written : List ℕ) × (new ≡ old ++ written) × IsAnsweredBy r f input written
+session_answered r f input part behind old new e lines_are a = (
+  shown_all (replies_by (start_by r f a.tree) a.answers.commands),
+  a.answers.shows,
   record {
-    tree = t;
-    spelled = subst (λ (b : List ℕ). Spells b t) e spelled;
-    within = within;
-    commands = a.commands;
-    lines_are = subst (λ (ls : List (List ℕ)). AreCommandsOf ls a.commands) lines_are a.are;
-    replies = ap (λ x. shown_all (replies_by x a.commands)) starts;
+    tree = a.tree;
+    spelled = subst (λ (b : List ℕ). Spells b a.tree) e a.spelled;
+    within = a.within;
+    commands = a.answers.commands;
+    lines_are = subst (λ (ls : List (List ℕ)). AreCommandsOf ls a.answers.commands) lines_are a.answers.are;
+    replies = refl;
   },
 )
 
@@ -205,13 +211,13 @@ lines_behind input behind at next h within e f =
     ap (λ r. line_texts (full_lines r)) (whole ∙ there) ∙ ap (λ ls. line_texts ls) f
 
 -- a session whose replies pass
-pub session_passes : (r : Repeats) (f : Form) (input part behind : List ℕ) (t : Tree) (s : Repeats × Tree) (n : ℕ)
-    → s ≡ start_by r f t → part ≡ document input → line_texts (full_lines behind) ≡ lines input → Spells part t → IsWithin t → PassesLines s (line_texts (full_lines behind)) n → PassesAllBy r f input n
-session_passes r f input part behind t s n starts e lines_are spelled within h = record {
-  tree = t;
-  spelled = subst (λ (b : List ℕ). Spells b t) e spelled;
-  within = within;
-  passes = λ cs are. subst (λ (rs : List PlainReply). 2 ^ 64 ≤ n + length (shown_all rs)) (ap (λ x. replies_by x cs) starts) (h cs (subst (λ (ls : List (List ℕ)). AreCommandsOf ls cs) (sym lines_are) are));
+pub session_passes : (r : Repeats) (f : Form) (input part behind : List ℕ) (n : ℕ)
+    → part ≡ document input → line_texts (full_lines behind) ≡ lines input → PassesText r f part behind n → PassesAllBy r f input n
+session_passes r f input part behind n e lines_are a = record {
+  tree = a.tree;
+  spelled = subst (λ (b : List ℕ). Spells b a.tree) e a.spelled;
+  within = a.within;
+  passes = λ cs are. a.passes cs (subst (λ (ls : List (List ℕ)). AreCommandsOf ls cs) (sym lines_are) are);
 }
 
 -- a session is too long where its answers are

@@ -6,7 +6,9 @@ use Rattle.sj_text_core.specs.Repeats.{keep_by}
 use Rattle.sj_text_core.specs.declared.repeats.Repeats.{Repeats}
 use Rattle.sj_commands.specs.Commands.{PlainCommand}
 use Rattle.sj_commands.specs.CommandLines.{IsCommandOf, AreCommandsOf}
-use Rattle.sj_run.specs.Repeats.{answer_by, replies_by, part_after}
+use Rattle.sj_commands.specs.Lines.{full_lines, line_texts}
+use Rattle.sj_run.specs.Repeats.{answer_by, replies_by, part_after, start_by}
+use Rattle.sj_run.specs.declared.sessions.Form.{Form}
 use Rattle.sj_run.specs.Shown.{reply_text, shown, shown_all}
 
 -- a document was read: the bytes spell a tree within the limit, and u is that tree with the member of each key that counts
@@ -52,3 +54,18 @@ PassesLine d line n = (c : PlainCommand) → IsCommandOf line c → PassesOne d 
 -- so many bytes and all replies pass 2^64-1
 abbrev pub PassesLines : Repeats × Tree → List (List ℕ) → ℕ → Type 0
 PassesLines d texts n = (cs : List PlainCommand) → AreCommandsOf texts cs → 2 ^ 64 ≤ n + length (shown_all (replies_by d cs))
+
+-- a text was read to a document of the form, and the commands of lines were answered on it
+pub record AnswersText (c : Repeats) (form : Form) (text lines old new : List ℕ) : Type 0 where
+  pub tree : Tree
+  pub spelled : Spells text tree
+  pub within : IsWithin tree
+  pub last : Repeats × Tree
+  pub answers : AnswersLines (start_by c form tree) (line_texts (full_lines lines)) last old new
+
+-- the same, where so many bytes and all replies pass 2^64-1
+pub record PassesText (c : Repeats) (form : Form) (text lines : List ℕ) (n : ℕ) : Type 0 where
+  pub tree : Tree
+  pub spelled : Spells text tree
+  pub within : IsWithin tree
+  pub passes : PassesLines (start_by c form tree) (line_texts (full_lines lines)) n

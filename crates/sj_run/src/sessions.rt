@@ -1,25 +1,19 @@
 //! Sessions over bytes.
 
-ghost use Rattle.std.specs.Prelude.{◌≡◌, ◌≢◌, ◌↔◌, List, ℕ, ◌++◌, IfOk, OnOk, OnErr, IsErrOf, IsUtf8, Ok, Err, length};
-ghost use Rattle.sj_text_core.specs.Grammar.{IsReadable, Spells};
-ghost use Rattle.sj_text_core.specs.Tree.{IsWithin};
+ghost use Rattle.std.specs.Prelude.{◌≡◌, ◌≢◌, ◌↔◌, List, ℕ, ◌++◌, OnOk, OnErr, IsErrOf, IsUtf8, Err, length};
+ghost use Rattle.sj_text_core.specs.Grammar.{IsReadable};
 ghost use Rattle.sj_commands.specs.Lines.{document as document_of};
-ghost use Rattle.sj_run.specs.Answered.{ReadsTree};
 ghost use Rattle.sj_run.specs.Session.{IsServed, IsAnswered, IsAnsweredBy, PassesAll, PassesAllBy};
 
 mod answer;
+mod forms;
 
-use crate::document::{BorrowedDoc, LazyDoc, OwnedDoc, Way};
+use crate::document::Way;
 use crate::runs::Why;
-use crate::sessions::answer::answer_all;
+use crate::sessions::forms::{borrowed, lazy, owned};
 use sj_commands::cut_at_mark;
-use sj_document::{BorrowedValue, OwnedValue};
-use sj_lazy::Value;
-use sj_object::{Builder, KeyOf, deserialize_repeats};
-use sj_tape::{Tape, to_tape};
 use sj_text_core::{ErrorKind, Repeats};
 use std::alloc::{AllocError, Global};
-use std::borrow::CowStr;
 use thiserror::Error;
 
 /// Which type holds a session's document.
@@ -90,51 +84,6 @@ impl From<Why> for SessionFault {
     }
 }
 
-/// The fault of a document that was not read.
-fn refused(kind: ErrorKind) -> SessionFault
-    ensures memory { kind ≡ ErrorKind.OutOfMemory → result ≡ SessionFault.OutOfMemory }
-    ensures named { kind ≢ ErrorKind.OutOfMemory → result ≡ SessionFault.Refused kind }
-{
-    if kind == ErrorKind::OutOfMemory {
-        SessionFault::OutOfMemory
-    } else {
-        SessionFault::Refused(kind)
-    }
-}
-
-/// Reads a session's document.
-fn read_document<'v, V: Builder<'v, Key>, Key: KeyOf<'v>>(
-    alloc: Global,
-    text: &'v mut [u8],
-    repeats: Repeats,
-) -> Result<V, SessionFault>
-    ensures read { IfOk result (λ v. ReadsTree repeats text.old (V.tree v)) }
-    ensures refused { (k : ErrorKind) → result ≡ Err (SessionFault.Refused k) → (k ≢ ErrorKind.OutOfMemory) × (¬ (IsReadable text.old)) }
-    ensures utf8 { IsErrOf result (SessionFault.Refused ErrorKind.InvalidUtf8) ↔ ¬ (IsUtf8 text.old) }
-    ensures usage { result ≢ Err SessionFault.Usage }
-    ensures too_long { result ≢ Err SessionFault.TooLong }
-{
-    match deserialize_repeats::<V, Key>(alloc, text, repeats) {
-        Ok(value) => Ok(value),
-        Err(kind) => Err(refused(kind)),
-    }
-}
-
-/// Reads a session's document to a tape.
-fn read_tape<'i>(alloc: Global, text: &'i mut [u8]) -> Result<Tape<'i>, SessionFault>
-    ensures spelled { IfOk result (λ t. Spells text.old t) }
-    ensures within { IfOk result (λ t. IsWithin t) }
-    ensures refused { (k : ErrorKind) → result ≡ Err (SessionFault.Refused k) → (k ≢ ErrorKind.OutOfMemory) × (¬ (IsReadable text.old)) }
-    ensures utf8 { IsErrOf result (SessionFault.Refused ErrorKind.InvalidUtf8) ↔ ¬ (IsUtf8 text.old) }
-    ensures usage { result ≢ Err SessionFault.Usage }
-    ensures too_long { result ≢ Err SessionFault.TooLong }
-{
-    match to_tape(alloc, text) {
-        Ok(tape) => Ok(tape),
-        Err(why) => Err(refused(why)),
-    }
-}
-
 /// Reads the document of the input, answers the command lines behind its first line `---` in turn,
 /// and appends each printed reply with a line feed to `out`.
 ///
@@ -183,19 +132,8 @@ pub fn session_repeats(
     let (text, behind) = input.split_at_mut(cut.document);
     let lines = &mut behind[cut.commands - cut.document..];
     match form {
-        Form::Owned => {
-            let value = read_document::<OwnedValue, String>(alloc, text, repeats)?;
-            answer_all(alloc, &mut OwnedDoc { way, value }, lines, out)?;
-        }
-        Form::Borrowed => {
-            let value = read_document::<BorrowedValue<'_>, CowStr<'_>>(alloc, text, repeats)?;
-            answer_all(alloc, &mut BorrowedDoc { way, value }, lines, out)?;
-        }
-        Form::Lazy => {
-            let tape = read_tape(alloc, text)?;
-            let value = Value::from_tape(tape.as_value_repeats(repeats));
-            answer_all(alloc, &mut LazyDoc { value }, lines, out)?;
-        }
+        Form::Owned => owned(alloc, way, repeats, text, lines, out),
+        Form::Borrowed => borrowed(alloc, way, repeats, text, lines, out),
+        Form::Lazy => lazy(alloc, repeats, text, lines, out),
     }
-    Ok(())
 }

@@ -1,6 +1,6 @@
 use Rattle.sj_run.proofs.SessionLemmas.{refused_kind}
 use Rattle.sj_text_core.proofs.Unread.{unreadable}
-use Rattle.sj_run.proofs.sessions.read_tape.Goals as goal
+use Rattle.sj_run.proofs.sessions.forms.read_tape.Goals as goal
 
 pub returns-in-Err-clause-refused : goal.returns-in-Err-clause-refused
 returns-in-Err-clause-refused c =
