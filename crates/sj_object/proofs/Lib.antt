@@ -4,7 +4,6 @@ pub mod Places
 pub mod Lent
 pub mod Chains
 pub mod Walked
-pub mod Words
 pub mod Hashed
 pub mod Added
 pub mod Shown

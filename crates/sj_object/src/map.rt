@@ -13,7 +13,6 @@ mod insert;
 mod iter;
 mod or_insert;
 mod remove;
-mod same;
 mod search;
 
 use crate::hasher::KeyHasher;

@@ -8,7 +8,7 @@ ghost use Rattle.sj_tape.specs.Value.{tree, choice, part};
 
 use crate::object::{Iter, Object};
 use crate::value::Value;
-use sj_text_core::{Repeats, Steps};
+use sj_text_core::{Repeats, Steps, are_same_bytes};
 use std::marker::Brand;
 use std::sync::ledger::{Blank, Ledger};
 
@@ -18,7 +18,7 @@ fn is_key<L: Ledger>(name: &str, key: &[u8], steps: &mut Steps<L>) -> bool
     ensures step { steps.new ≡ steps.old + 1 }
 {
     steps.tick();
-    key == name.as_bytes()
+    are_same_bytes(key, name.as_bytes())
 }
 
 /// The value of the first member ahead with the key.

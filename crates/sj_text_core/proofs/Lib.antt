@@ -17,3 +17,4 @@ pub mod Back
 pub mod Unread
 pub mod Shapes
 pub mod Paths
+pub mod Words

@@ -1,6 +1,7 @@
 //! Scalars, kinds and faults, and the trees that documents mean.
 #![tactic(auto)]
 
+mod bytes;
 mod error;
 pub mod laws;
 mod meaning;
@@ -17,6 +18,7 @@ mod value_as_scalar;
 mod value_type;
 mod writable;
 
+pub use bytes::are_same_bytes;
 pub use error::{AccessError, BadTape, ErrorKind, WriteError};
 pub use meaning::Meaning;
 pub use refused::Refused;

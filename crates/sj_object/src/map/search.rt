@@ -9,10 +9,9 @@ ghost use Rattle.sj_object.specs.Index.{IsIndexOf, buckets_of};
 
 use super::chain::bucket_of;
 use super::index::Index;
-use super::same::is_same;
 use crate::hasher::KeyHasher;
 use crate::key::KeyText;
-use sj_text_core::Steps;
+use sj_text_core::{Steps, are_same_bytes};
 use std::marker::Brand;
 use std::sync::ledger::{Blank, Ledger};
 
@@ -24,7 +23,7 @@ fn is_key<K: KeyText, L: Ledger>(may_be: bool, key: &K, text: &[u8], steps: &mut
     ensures step { steps.new ≡ steps.old + 1 }
 {
     steps.tick();
-    may_be && is_same(text, key.text().as_bytes())
+    may_be && are_same_bytes(text, key.text().as_bytes())
 }
 
 /// The position of the first pair whose key has the text.

@@ -1,7 +1,7 @@
 use Rattle.std.proofs.Common.{refl, sym, arith, length}
 use Rattle.std.specs.Int.{w64}
-use Rattle.sj_object.proofs.Words.{by_words}
-use Rattle.sj_object.proofs.map.same.is_same.Goals as goal
+use Rattle.sj_text_core.proofs.Words.{by_words}
+use Rattle.sj_text_core.proofs.bytes.are_same_bytes.Goals as goal
 
 pub returns-then-len-le16 : goal.returns-then-len-le16
 returns-then-len-le16 c =

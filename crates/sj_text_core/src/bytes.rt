@@ -1,16 +1,16 @@
-//! Texts compared by words.
+//! Bytes compared by words.
 
 ghost use Rattle.std.specs.Prelude.{◌≡◌, ◌+◌, ◌≤◌, ◌<◌, length, take, drop, bytes_eq};
 ghost use Rattle.std.specs.Int.{from_le_bytes, to_le_bytes, w32, w64};
 
 /// The eight bytes at a position, as one word.
 #[inline]
-fn word_at(text: &[u8], at: usize) -> u64
-    requires { at + 8 ≤ length text.now }
-    ensures value { result ≡ from_le_bytes w64 (take 8 (drop at text.now)) }
-    ensures bytes { to_le_bytes w64 result ≡ take 8 (drop at text.now) }
+fn word_at(bytes: &[u8], at: usize) -> u64
+    requires { at + 8 ≤ length bytes.now }
+    ensures value { result ≡ from_le_bytes w64 (take 8 (drop at bytes.now)) }
+    ensures bytes { to_le_bytes w64 result ≡ take 8 (drop at bytes.now) }
 {
-    let Some((word, _)) = text[at..].split_first_chunk::<8>() else {
+    let Some((word, _)) = bytes[at..].split_first_chunk::<8>() else {
         unreachable!();
     };
     u64::from_le_bytes(*word)
@@ -18,21 +18,21 @@ fn word_at(text: &[u8], at: usize) -> u64
 
 /// The four bytes at a position, as one word.
 #[inline]
-fn half_word_at(text: &[u8], at: usize) -> u32
-    requires { at + 4 ≤ length text.now }
-    ensures value { result ≡ from_le_bytes w32 (take 4 (drop at text.now)) }
-    ensures bytes { to_le_bytes w32 result ≡ take 4 (drop at text.now) }
+fn half_word_at(bytes: &[u8], at: usize) -> u32
+    requires { at + 4 ≤ length bytes.now }
+    ensures value { result ≡ from_le_bytes w32 (take 4 (drop at bytes.now)) }
+    ensures bytes { to_le_bytes w32 result ≡ take 4 (drop at bytes.now) }
 {
-    let Some((word, _)) = text[at..].split_first_chunk::<4>() else {
+    let Some((word, _)) = bytes[at..].split_first_chunk::<4>() else {
         unreachable!();
     };
     u32::from_le_bytes(*word)
 }
 
-/// Whether two texts are the same. Their lengths are compared first, then their last bytes, and no
-/// text of up to 16 bytes costs a call.
+/// Whether the bytes are the same. Their lengths are compared first, then their last bytes, and
+/// none of up to 16 bytes cost a call.
 #[inline]
-pub fn is_same(a: &[u8], b: &[u8]) -> bool
+pub fn are_same_bytes(a: &[u8], b: &[u8]) -> bool
     ensures { result ≡ bytes_eq a.now b.now }
 {
     let len = a.len();
@@ -40,7 +40,7 @@ pub fn is_same(a: &[u8], b: &[u8]) -> bool
         return false;
     }
     if len < 8 {
-        return is_same_short(a, b);
+        return are_same_short(a, b);
     }
     if word_at(a, len - 8) != word_at(b, len - 8) {
         return false;
@@ -51,9 +51,9 @@ pub fn is_same(a: &[u8], b: &[u8]) -> bool
     a == b
 }
 
-/// The same of texts of one length below 8.
+/// The same of bytes of one length below 8.
 #[inline]
-fn is_same_short(a: &[u8], b: &[u8]) -> bool
+fn are_same_short(a: &[u8], b: &[u8]) -> bool
     requires same { length a.now ≡ length b.now }
     requires short { length a.now < 8 }
     ensures { result ≡ bytes_eq a.now b.now }

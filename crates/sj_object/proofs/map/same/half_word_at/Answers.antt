@@ -1,9 +1,0 @@
-use Rattle.std.proofs.Common.{rules, arith, take, drop}
-use Rattle.std.proofs.lemmas.Nat.{le_bytes_4}
-use Rattle.sj_object.proofs.Words.{part_length, part_bytes}
-use Rattle.sj_object.proofs.map.same.half_word_at.Goals as goal
-
-pub returns-clause-bytes : goal.returns-clause-bytes
-returns-clause-bytes c =
-    let a = c.args.text.now in
-    le_bytes_4 (take 4 (drop c.args.at a)) c.from_le_bytes.result (part_length 4 c.args.at a c.requires) (part_bytes 4 c.args.at a (λ i. let h = c.type_inv.text i in omega arith)) (search rules)
