@@ -11,9 +11,11 @@ use Rattle.sj_text_core.specs.Tree.{Tree, IsWithin}
 use Rattle.sj_text_core.specs.Grammar.{Spells}
 use Rattle.sj_commands.specs.Commands.{PlainCommand}
 use Rattle.sj_commands.specs.CommandLines.{AreCommandsOf}
+use Rattle.sj_text_core.specs.Repeats.{keep_by}
 use Rattle.sj_text_core.specs.declared.repeats.Repeats.{Repeats}
+use Rattle.sj_text_core.specs.declared.repeats.Repeats.TheVariants.{First}
 use Rattle.sj_run.specs.Repeats.{answer_by, replies_by, part_after, start_by}
-use Rattle.sj_run.specs.Answered.{AnswersLine, AnswersText, AnswersLines, IsBegunBy, PassesLine, PassesText, PassesLines}
+use Rattle.sj_run.specs.Answered.{ReadsTree, AnswersLine, AnswersText, AnswersLines, IsBegunBy, PassesLine, PassesText, PassesLines}
 use Rattle.sj_run.specs.Replies.{PlainReply}
 use Rattle.sj_run.specs.Shown.{reply_text, shown, shown_all}
 use Rattle.sj_run.specs.Session.{IsAnsweredBy, PassesAllBy, fault_of}
@@ -176,6 +178,27 @@ answers_from {ts} {d} {e} {u} {old} {new} p h = subst (λ x. AnswersLines x ts u
 
 pub passes_from : (ts : List (List ℕ)) (n : ℕ) {d e : Repeats × Tree} → d ≡ e → PassesLines d ts n → PassesLines e ts n
 passes_from ts n p h = subst (λ x. PassesLines x ts n) p h
+
+-- a document that keeps one member of each key was read, and its lines were answered
+pub kept_answers : (f : Form) (c : Repeats) (text lines old new : List ℕ) (u : Tree) (last : Repeats × Tree) → ((t : Tree) → start_by c f t ≡ (First, keep_by c t))
+    → ReadsTree c text u → AnswersLines (First, u) (line_texts (full_lines lines)) last old new → AnswersText c f text lines old new
+kept_answers f c text lines old new u last starts r a = record {
+  tree = r.tree;
+  spelled = r.spelled;
+  within = r.within;
+  last = last;
+  answers = answers_from (ap (λ (t : Tree). (First, t)) r.kept ∙ sym (starts r.tree)) a;
+}
+
+-- the same, where the replies pass
+pub kept_passes : (f : Form) (c : Repeats) (text lines : List ℕ) (n : ℕ) (u : Tree) → ((t : Tree) → start_by c f t ≡ (First, keep_by c t))
+    → ReadsTree c text u → PassesLines (First, u) (line_texts (full_lines lines)) n → PassesText c f text lines n
+kept_passes f c text lines n u starts r p = record {
+  tree = r.tree;
+  spelled = r.spelled;
+  within = r.within;
+  passes = passes_from (line_texts (full_lines lines)) n (ap (λ (t : Tree). (First, t)) r.kept ∙ sym (starts r.tree)) p;
+}
 
 -- a session that was answered
 pub session_answered : (r : Repeats) (f : Form) (input part behind old new : List ℕ)
