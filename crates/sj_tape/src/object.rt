@@ -1,6 +1,6 @@
 //! Objects of a tape.
 
-ghost use Rattle.std.specs.Prelude.{◌≡◌};
+ghost use Rattle.std.specs.Prelude.{◌≡◌, bytes_eq};
 ghost use Rattle.std.specs.Coded.{Coded-set, coded_list};
 ghost use Rattle.sj_text_core.specs.Code.{mark_code};
 ghost use Rattle.sj_text_core.specs.Nodes.{AreMembers, members_in};
@@ -10,7 +10,15 @@ ghost use Rattle.sj_tape.specs.Marks.{marks};
 use crate::node::Node;
 use crate::step::split_tree;
 use crate::value::Value;
-use sj_text_core::Repeats;
+use sj_text_core::{Repeats, are_same_bytes};
+
+/// Whether a member's name is the key.
+#[inline]
+fn is_named(name: &str, key: &str) -> bool
+    ensures { result ≡ bytes_eq key.now name.now }
+{
+    are_same_bytes(key.as_bytes(), name.as_bytes())
+}
 
 /// The members of an object of a tape, in order and repeats too.
 #[derive(Clone, Copy, Debug)]
@@ -110,7 +118,7 @@ impl<'t, 'i> Object<'t, 'i> {
         ensures { option_map tree result ≡ find_member key.now (members self.now) }
     {
         for (name, value) in self.iter() {
-            if key == name {
+            if is_named(name, key) {
                 return Some(value);
             }
         }
@@ -126,7 +134,7 @@ impl<'t, 'i> Object<'t, 'i> {
             if at >= place {
                 return false;
             }
-            if key == name {
+            if is_named(name, key) {
                 return true;
             }
             at += 1;
@@ -142,7 +150,7 @@ impl<'t, 'i> Object<'t, 'i> {
         for name in self.keys() {
             if known > 0 {
                 known -= 1;
-            } else if key == name {
+            } else if is_named(name, key) {
                 return true;
             }
         }

@@ -1,6 +1,6 @@
 -- Edits of small trees.
 use Rattle.std.proofs.Common.{◌≡◌, ℕ, pos, refl, codes, Some, None}
-use Rattle.sj_text_core.specs.Tree.{u64, Tree, null, int, text, list, obj, no_items, item, no_members, member}
+use Rattle.sj_text_core.specs.Tree.{u64, Tree, null, int, list, obj, no_items, item, no_members, member}
 use Rattle.sj_text_core.specs.Reads.{as_items, as_members}
 use Rattle.sj_text_core.specs.declared.error.AccessError.TheVariants.{NotAnObject, NotAnArray, OutOfMemory}
 use Rattle.sj_document.specs.Document.{with_member, without_member, with_item, without_last, last_item, why_of}

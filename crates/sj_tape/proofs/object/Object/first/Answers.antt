@@ -20,12 +20,12 @@ loop-name-init c =
     ∙ ap (λ ps. find_member c.args.key.now (members_from ps)) c.iter-name-items.ensures.members
     ∙ ap (λ ms. find_member c.args.key.now ms) (members_from-paired (members c.args.self.now))
 
-pub returns-then-eq : goal.returns-then-eq
-returns-then-eq c =
+pub returns-then-is_named : goal.returns-then-is_named
+returns-then-is_named c =
     let step = member_step c.loop-name.name-iterator.repeats c.next.new.self.repeats c.in-Some.name.now (part c.in-Some.value) (members_ahead c.loop-name.name-iterator) (members_ahead c.next.new.self) c.in-Some.ensures.steps in
-    by_first c.args.key.now c.in-Some.name.now (tree c.in-Some.value) _ _ _ _ _ c.loop-name.invariant step c.eq.ensures c.if-eq.true
+    by_first c.args.key.now c.in-Some.name.now (tree c.in-Some.value) _ _ _ _ _ c.loop-name.invariant step c.is_named.ensures c.if-is_named.true
 
 pub loop-name-preserved : goal.loop-name-preserved
 loop-name-preserved c =
     let step = member_step c.loop-name.name-iterator.repeats c.next.new.self.repeats c.in-Some.name.now (part c.in-Some.value) (members_ahead c.loop-name.name-iterator) (members_ahead c.next.new.self) c.in-Some.ensures.steps in
-    by_first c.args.key.now c.in-Some.name.now (tree c.in-Some.value) _ _ _ _ _ c.loop-name.invariant step c.eq.ensures c.if-eq.false
+    by_first c.args.key.now c.in-Some.name.now (tree c.in-Some.value) _ _ _ _ _ c.loop-name.invariant step c.is_named.ensures c.if-is_named.false

@@ -13,13 +13,13 @@ pub loop-name-preserved-then-known-gt0 : goal.loop-name-preserved-then-known-gt0
 loop-name-preserved-then-known-gt0 c =
     behind_passed c.args.key.now c.in-Some.name.now _ (keys_ahead c.next.new.self) c.loop-name.known _ _ c.loop-name.invariant c.in-Some.ensures.steps (omega (arith, c.if-known-gt0.true))
 
-pub returns-then-eq : goal.returns-then-eq
-returns-then-eq c =
-    behind_found c.args.key.now c.in-Some.name.now _ (keys_ahead c.next.new.self) c.loop-name.known _ c.loop-name.invariant c.in-Some.ensures.steps (omega (arith, c.if-known-gt0.false)) (sym c.eq.ensures ∙ c.if-eq.true)
+pub returns-then-is_named : goal.returns-then-is_named
+returns-then-is_named c =
+    behind_found c.args.key.now c.in-Some.name.now _ (keys_ahead c.next.new.self) c.loop-name.known _ c.loop-name.invariant c.in-Some.ensures.steps (omega (arith, c.if-known-gt0.false)) (sym c.is_named.ensures ∙ c.if-is_named.true)
 
 pub loop-name-preserved : goal.loop-name-preserved
 loop-name-preserved c =
-    behind_other c.args.key.now c.in-Some.name.now _ (keys_ahead c.next.new.self) c.loop-name.known _ c.loop-name.invariant c.in-Some.ensures.steps (omega (arith, c.if-known-gt0.false)) (sym c.eq.ensures ∙ c.if-eq.false)
+    behind_other c.args.key.now c.in-Some.name.now _ (keys_ahead c.next.new.self) c.loop-name.known _ c.loop-name.invariant c.in-Some.ensures.steps (omega (arith, c.if-known-gt0.false)) (sym c.is_named.ensures ∙ c.if-is_named.false)
 
 pub returns : goal.returns
 returns c = behind_none c.args.key.now _ c.loop-name.known _ c.loop-name.invariant c.in-None.ensures.steps.0

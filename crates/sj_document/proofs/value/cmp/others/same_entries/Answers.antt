@@ -1,4 +1,4 @@
-use Rattle.std.proofs.Common.{sym, ap, ◌∙◌, refl, subst}
+use Rattle.std.proofs.Common.{sym, ◌∙◌, refl, subst}
 use Rattle.std.specs.Prelude.{MatchOption}
 use Rattle.sj_object.specs.Edits.{lookup}
 use Rattle.sj_tape.proofs.Compared.{denied}
