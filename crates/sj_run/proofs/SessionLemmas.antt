@@ -7,7 +7,7 @@ use Rattle.std.proofs.lemmas.List.Concat.{flat_map-cons}
 use Rattle.std.proofs.lemmas.Slice.{drop-put_mid}
 use borrow.Rule.Slice.PartMut.{put_mid}
 use Rattle.std.proofs.lemmas.List.{take_all, take-take, length-drop, length-take-le, drop-drop}
-use Rattle.sj_text_core.specs.Tree.{Tree, IsWithin}
+use Rattle.sj_text_core.specs.Tree.{Tree}
 use Rattle.sj_text_core.specs.Grammar.{Spells}
 use Rattle.sj_commands.specs.Commands.{PlainCommand}
 use Rattle.sj_commands.specs.CommandLines.{AreCommandsOf}

@@ -1,6 +1,6 @@
 -- What commands answer on one plain tree, and the tree that they leave.
 use Rattle.std.specs.Prelude.{ℕ, ◌^◌, ◌≤◌, Bool, length, List, [], ◌∷◌, Option, Some, None, is_some}
-use Rattle.sj_text_core.specs.Tree.{Tree, null, boolean, int, text, list, obj, Members, no_members, member, items_len, members_len, keys_of}
+use Rattle.sj_text_core.specs.Tree.{Tree, null, boolean, int, text, list, obj, Members, items_len, members_len, keys_of}
 use Rattle.sj_text_core.specs.Find.{find, find_member}
 use Rattle.sj_text_core.specs.Keep.{keep}
 use Rattle.sj_text_core.specs.Edits.{put as put_member, cut, push as push_item, front, last}

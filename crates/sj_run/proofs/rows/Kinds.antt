@@ -1,6 +1,6 @@
 -- Integer types by range, and kinds by name.
 use Rattle.std.proofs.Common.{◌≡◌, pos, negsuc, true, false, [], ◌∷◌, refl, codes}
-use Rattle.sj_text_core.specs.Tree.{i64, u64, i128, u128, Tree, null, boolean, int, text, list, obj, no_items, no_members, member}
+use Rattle.sj_text_core.specs.Tree.{i64, u64, i128, u128, null, boolean, int, text, list, obj, no_items, no_members, member}
 use Rattle.sj_commands.specs.Commands.{signed, unsigned, read, kind, str, keys}
 use Rattle.sj_run.specs.Answers.{is_in, replies_of}
 use Rattle.sj_run.specs.Shown.{shown_all}
