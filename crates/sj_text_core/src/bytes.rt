@@ -30,7 +30,7 @@ fn half_word_at(bytes: &[u8], at: usize) -> u32
 }
 
 /// Whether the bytes are the same. Their lengths are compared first, then their last bytes, and
-/// none of up to 16 bytes cost a call.
+/// those of 4 to 16 bytes cost no call.
 #[inline]
 pub fn are_same_bytes(a: &[u8], b: &[u8]) -> bool
     ensures { result ≡ bytes_eq a.now b.now }
