@@ -261,6 +261,8 @@ for form in tape owned borrowed lent; do
   free "display $form" $'call: {"q\\"k":"a/bA"}\n'
 done
 free 'display map' $'call: {"k00": 0}\n'
+free 'display nodes' \
+  $'call: [Object { len: 1, count: 2 }, String("q\\"k"), String("a/bA")]\n'
 
 for law in prints_alike tape_reads_back owned_reads_back borrowed_reads_back; do
   each "law $law" $'call: OutOfMemory, again holds\n' $'call: holds, again holds\n'

@@ -136,8 +136,8 @@ fn ours(
     }
     let by_key = rt.thread_cpu_time()?;
     for place in 0..keys.len() {
-        if items.get_idx(place).is_some() {
-            found = found.wrapping_add(1);
+        if let Some(record) = items.get_idx(place) {
+            found = found.wrapping_add(usize::from(record.as_object().is_some()));
         }
     }
     let by_place = rt.thread_cpu_time()?;
@@ -184,8 +184,8 @@ fn by_json(
     }
     let by_key = rt.thread_cpu_time()?;
     for place in 0..keys.len() {
-        if array.root().at(place).is_some() {
-            found = found.wrapping_add(1);
+        if let Some(record) = array.root().at(place) {
+            found = found.wrapping_add(usize::from(record.members().is_some()));
         }
     }
     let by_place = rt.thread_cpu_time()?;

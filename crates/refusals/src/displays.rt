@@ -29,6 +29,7 @@ pub fn write(rt: &(impl Print + AllocGlobal), form: &str) -> Result<(), Fault> {
     let written = match form {
         "static" => write!(out, "{}", StaticNode::I128(-7)),
         "tape" => write_tape(tape.as_value(), &mut out),
+        "nodes" => write_nodes(tape.as_value(), &mut out),
         "owned" => write!(out, "{owned}"),
         "borrowed" => write_borrowed(&borrowed, &mut out),
         "lent" => write_lazy(&of_lent(&borrowed), &mut out),
@@ -44,6 +45,10 @@ pub fn write(rt: &(impl Print + AllocGlobal), form: &str) -> Result<(), Fault> {
 
 fn write_tape(part: TapeValue<'_, '_>, out: &mut String) -> Result<(), AllocError> {
     write!(out, "{part}")
+}
+
+fn write_nodes(part: TapeValue<'_, '_>, out: &mut String) -> Result<(), AllocError> {
+    write!(out, "{:?}", part.nodes())
 }
 
 fn write_lazy(value: &Value<'_, '_, '_>, out: &mut String) -> Result<(), AllocError> {

@@ -48,7 +48,7 @@ fn nodes_of<'t, 'i>(alloc: Global, items: Array<'t, 'i>) -> Result<Vec<Node<'i>>
 
 fn node_of<'i>(item: Value<'_, 'i>) -> Option<Node<'i>> {
     let Some(parts) = item.as_array() else {
-        return item.nodes().first().copied();
+        return item.nodes().split_first().map(|(node, _)| node);
     };
     let len = parts.get(1)?.as_usize()?;
     let count = parts.get(2)?.as_usize()?;

@@ -11,7 +11,7 @@ use crate::texts::text_of;
 use sj_document::{BorrowedValue, Document, replace_at};
 use sj_lazy::Value;
 use sj_object::{KeyText, deserialize};
-use sj_tape::{Steps, Tape, Value as TapeValue, to_tape};
+use sj_tape::{Node, Nodes, Steps, Tape, Value as TapeValue, to_tape};
 use sj_text_core::{Repeats, StaticNode, ValueAsScalar};
 use std::borrow::CowStr;
 use std::marker::Brand;
@@ -68,10 +68,26 @@ fn is_tape_parts(value: TapeValue<'_, '_>) -> bool {
         && members.has_before(1, "int")
         && !members.has_behind(1, "int")
         && value.repeats() == Repeats::First
-        && value.nodes().len() == 16
+        && are_nodes(value.nodes())
         && TapeValue::null().as_static() == Some(StaticNode::Null)
         && value.get("str").and_then(|text| text.into_string()) == Some("s")
         && has_none_on(value)
+}
+
+/// Whether they are as many as the example has, by each of their calls.
+fn are_nodes(nodes: Nodes<'_, '_>) -> bool {
+    if nodes.len() != 16 {
+        return false;
+    }
+    let whole = Node::Object { len: 6, count: 15 };
+    let (front, back) = nodes.split_at(1);
+    let first = nodes.split_first();
+    nodes.at(0) == whole
+        && whole.width() == 16
+        && front.len() == 1
+        && back.len() == 15
+        && nodes.from(16).is_empty()
+        && first.is_some_and(|(node, behind)| node == whole && behind.len() == 15)
 }
 
 fn has_none_on(value: TapeValue<'_, '_>) -> bool {

@@ -2,12 +2,14 @@
 use Rattle.std.proofs.Common.{◌≡◌, ℕ, List, map, Option, Some, None, option_map, Box, Vec, Global, Bor, MutBor, refl, ap, ◌∙◌, rules}
 use Rattle.std.specs.Option.{IsSome, option_copied, option_copied_mut}
 use Rattle.sj_text_core.specs.Tree.{list, obj, items_from}
+use Rattle.sj_text_core.specs.Scalars.{static_tree}
+use Rattle.sj_text_core.specs.declared.static_node.StaticNode.{StaticNode}
 use Rattle.sj_object.specs.declared.hasher.NotSoRandomState.{NotSoRandomState}
 use Rattle.sj_object.specs.HashMap.{Contents}
 use Rattle.sj_object.specs.Members.{entry_members}
 use Rattle.sj_object.proofs.Shown.{entry_members-map}
 use Rattle.sj_document.specs.Document.{tree}
-use Rattle.sj_document.specs.declared.value.Document.{Document, Array, Object, the_lemmas}
+use Rattle.sj_document.specs.declared.value.Document.{Document, Array, Object, Static, the_lemmas}
 
 abbrev pub Map : Type 0 → Type 0
 Map T = Contents T (Document T) NotSoRandomState
@@ -15,6 +17,9 @@ Map T = Contents T (Document T) NotSoRandomState
 module _ {T : Type 0} (t : T → List ℕ) where
   pub tree-Object : (b : Box (Map T) Global) → tree t (Object b) ≡ obj (entry_members (tree t) b.value.entries)
   tree-Object b = let e : tree t (Object b) ≡ obj (entry_members (λ u. u) (map (λ e. (e.0, tree t e.1)) b.value.entries)) = search (rules, the_lemmas) in e ∙ ap obj (entry_members-map (tree t) (λ u. u) b.value.entries)
+
+  pub tree-Static : (n : StaticNode) → tree t (Static n) ≡ static_tree n
+  tree-Static n = search (rules, the_lemmas)
 
   pub tree-Array : (b : Box (Vec (Document T) Global) Global) → tree t (Array b) ≡ list (items_from (map (tree t) b.value.items))
   tree-Array b = search (rules, the_lemmas)

@@ -9,6 +9,7 @@ pub mod Added
 pub mod Shown
 pub mod Kept
 pub mod Walks
+mod Strings
 pub mod PileEntries
 pub mod KeptBy
 pub mod Piles

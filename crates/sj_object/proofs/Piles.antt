@@ -1,13 +1,13 @@
 -- Piles, and the trees that nodes are.
-use Rattle.std.proofs.Common.{◌≡◌, ℕ, suc, ◌+◌, ◌≤◌, ◌<◌, List, [], ◌∷◌, ◌++◌, map, drop, length, get_or, refl, ap, sym, ◌∙◌, append_assoc, append-nil, arith, All, subst, Some, drop-cons}
-use Rattle.std.proofs.lemmas.List.{length-drop, length-map, drop-map, drop-drop, drop_at, drop_all}
+use Rattle.std.proofs.Common.{◌≡◌, ℕ, zero, suc, ◌+◌, ◌-◌, ◌≤◌, ◌<◌, List, [], ◌∷◌, ◌++◌, map, take, drop, length, get_or, refl, ap, sym, ◌∙◌, append_assoc, append-nil, arith, All, subst, Some}
+use Rattle.std.proofs.lemmas.List.{length-drop, drop-drop, drop_at, drop_all}
 use Rattle.std.proofs.lemmas.List.Elements.{All-pop}
 use Rattle.sj_text_core.specs.Tree.{Tree, null, boolean, int, text, list, obj, Items, no_items, item, Members, no_members, member, items_len, members_len, items_from, members_from, listed}
-use Rattle.sj_text_core.specs.Nodes.{Mark, string, array, flat, flat_items, flat_members, trees_of, tree_of, first_tree, IsPreorder, width}
+use Rattle.sj_text_core.specs.Nodes.{Mark, nothing, string, array, flat, flat_items, flat_members, trees_of, tree_of, first_tree, IsPreorder, width}
 use Rattle.sj_text_core.specs.Repeats.{keep_by}
 use Rattle.sj_text_core.specs.declared.repeats.Repeats.{Repeats}
 use Rattle.sj_text_core.specs.Flat.{trees_of-flat}
-use Rattle.sj_tape.specs.Fronts.{BeginsTree}
+use Rattle.sj_tape.specs.Fronts.{BeginsTree, AllBegin}
 use Rattle.sj_tape.proofs.Counts.{begins_first}
 use Rattle.sj_tape.proofs.Preorders.{AllBegin-drop, AllBegin-preorder}
 use Rattle.sj_object.specs.Entries.{Entry}
@@ -40,52 +40,56 @@ built_popped built vs ws v e h = All-pop built vs ws (Some v) e h
 
 -- ---- one tree at a position
 
--- a list that begins with x
-pub begins_with : {A : Type 0} (xs : List A) (d x : A) → 0 < length xs → get_or xs 0 d ≡ x → xs ≡ x ∷ drop 1 xs
-begins_with [] d x h e = absurd (omega (arith, h))
-begins_with (y ∷ xs) d x h e = ap (λ z. z ∷ xs) e
+-- a list that begins with m
+pub begins_with : (ns : List Mark) (m : Mark) → 0 < length ns → m ≡ get_or ns 0 nothing → ns ≡ m ∷ drop 1 ns
+begins_with [] m h e = absurd (omega (arith, h))
+begins_with (n ∷ ns) m h e = ap (λ k. k ∷ ns) (sym e)
 
--- what can be taken at the position i of xs, whose node there is x
-pub record At {X : Type 0} (f : X → Mark) (xs : List X) (i : ℕ) (x : X) : Type 0 where
-  pub inside : i < length xs
-  pub first : first_mark (map f (drop i xs)) ≡ f x
+pub first_at : (i : ℕ) (ns : List Mark) → first_mark (drop i ns) ≡ get_or ns i nothing
+first_at zero [] = refl
+first_at zero (m ∷ ns) = refl
+first_at (suc i) [] = refl
+first_at (suc i) (m ∷ ns) = first_at i ns
 
-pub at : {X : Type 0} (f : X → Mark) (xs : List X) (i : ℕ) (d : X) → 0 < length (map f (drop i xs)) → At f xs i (get_or xs i d)
-at f xs i d h =
-    let l : i < length xs = omega (arith, h, length-map (drop i xs) f, length-drop i xs) in
-    record { inside = l; first = ap (λ ys. first_mark (map f ys)) (drop-cons xs i d l) }
+-- the node x stands at the position i
+pub record At (ns : List Mark) (i : ℕ) (x : Mark) : Type 0 where
+  pub inside : i < length ns
+  pub first : first_mark (drop i ns) ≡ x
+
+pub at : (ns : List Mark) (i : ℕ) (x : Mark) → x ≡ get_or ns i nothing → 0 < length (drop i ns) → At ns i x
+at ns i x e h = record { inside = omega (arith, h, length-drop i ns); first = first_at i ns ∙ sym e }
 
 -- how far its tree goes, and what stands behind
-pub record Whole {X : Type 0} (f : X → Mark) (xs : List X) (i : ℕ) (x : X) (ps : List Tree) : Type 0 where
-  pub inside : i < length xs
-  pub first : first_mark (map f (drop i xs)) ≡ f x
-  pub wide : i + width (f x) ≤ length xs
-  pub there : IsThere (f x) ps
-  pub after : behind (map f (drop i xs)) ≡ map f (drop (i + width (f x)) xs)
+pub record Whole (ns : List Mark) (i : ℕ) (x : Mark) (ps : List Tree) : Type 0 where
+  pub inside : i < length ns
+  pub first : first_mark (drop i ns) ≡ x
+  pub wide : i + width x ≤ length ns
+  pub there : IsThere x ps
+  pub after : behind (drop i ns) ≡ drop (i + width x) ns
 
-pub whole_at : {X : Type 0} (f : X → Mark) (xs : List X) (i : ℕ) (d : X) (ps : List Tree) → CanTake (map f (drop i xs)) ps → Whole f xs i (get_or xs i d) ps
-whole_at f xs i d ps can =
-    let h = at f xs i d can.0 in
+pub whole_at : (ns : List Mark) (i : ℕ) (x : Mark) (ps : List Tree) → x ≡ get_or ns i nothing → CanTake (drop i ns) ps → Whole ns i x ps
+whole_at ns i x ps e can =
+    let h = at ns i x e can.0 in
     let w = ap width h.first in
     record {
       inside = h.inside;
       first = h.first;
-      wide = omega (arith, can.1, w, h.inside, length-map (drop i xs) f, length-drop i xs);
+      wide = omega (arith, can.1, w, h.inside, length-drop i ns);
       there = subst (λ m. IsThere m ps) h.first can.2;
-      after = drop-map f (width (first_mark (map f (drop i xs)))) (drop i xs) ∙ ap (map f) (drop-drop (width (first_mark (map f (drop i xs)))) i xs) ∙ ap (λ n. map f (drop (i + n) xs)) w;
+      after = drop-drop (width (first_mark (drop i ns))) i ns ∙ ap (λ n. drop (i + n) ns) w;
     }
 
 -- one item less
-pub record OneItem {X : Type 0} (f : X → Mark) (xs : List X) (i m : ℕ) (x : X) (ps : List Tree) : Type 0 where
-  pub whole : Whole f xs i x ps
-  pub can : CanTakeItems m (map f (drop (i + width (f x)) xs)) (left_of (f x) ps)
-  pub made : taken (suc m) (map f (drop i xs)) ps ≡ made_of (f x) ps ∷ taken m (map f (drop (i + width (f x)) xs)) (left_of (f x) ps)
-  pub less : left (suc m) (map f (drop i xs)) ps ≡ left m (map f (drop (i + width (f x)) xs)) (left_of (f x) ps)
+pub record OneItem (ns : List Mark) (i m : ℕ) (x : Mark) (ps : List Tree) : Type 0 where
+  pub whole : Whole ns i x ps
+  pub can : CanTakeItems m (drop (i + width x) ns) (left_of x ps)
+  pub made : taken (suc m) (drop i ns) ps ≡ made_of x ps ∷ taken m (drop (i + width x) ns) (left_of x ps)
+  pub less : left (suc m) (drop i ns) ps ≡ left m (drop (i + width x) ns) (left_of x ps)
 
-pub one_item : {X : Type 0} (f : X → Mark) (xs : List X) (i n m : ℕ) (d : X) (ps : List Tree) → n ≡ suc m → CanTakeItems n (map f (drop i xs)) ps → OneItem f xs i m (get_or xs i d) ps
-one_item f xs i n m d ps e h =
-    let can = subst (λ k. CanTakeItems k (map f (drop i xs)) ps) e h in
-    let w = whole_at f xs i d ps can.0 in
+pub one_item : (ns : List Mark) (i n m : ℕ) (x : Mark) (ps : List Tree) → n ≡ suc m → x ≡ get_or ns i nothing → CanTakeItems n (drop i ns) ps → OneItem ns i m x ps
+one_item ns i n m x ps e f h =
+    let can = subst (λ k. CanTakeItems k (drop i ns) ps) e h in
+    let w = whole_at ns i x ps f can.0 in
     record {
       whole = w;
       can = subst (λ (p : List Mark × List Tree). CanTakeItems m p.0 p.1) (λ j. (w.after j, left_of (w.first j) ps)) can.1;
@@ -93,26 +97,26 @@ one_item f xs i n m d ps e h =
       less = λ j. left m (w.after j) (left_of (w.first j) ps);
     }
 
--- one member less
-pub record OneMember {X : Type 0} (f : X → Mark) (xs : List X) (i m : ℕ) (k x : X) (ps : List Tree) : Type 0 where
-  pub key : At f xs i k
-  pub text : f k ≡ string (key_of_mark (f k))
-  pub whole : Whole f xs (i + 1) x ps
-  pub can : CanTakePairs m (map f (drop (i + 1 + width (f x)) xs)) (left_of (f x) ps)
-  pub made : taken_pairs (suc m) (map f (drop i xs)) ps ≡ (key_of_mark (f k), made_of (f x) ps) ∷ taken_pairs m (map f (drop (i + 1 + width (f x)) xs)) (left_of (f x) ps)
-  pub less : left_pairs (suc m) (map f (drop i xs)) ps ≡ left_pairs m (map f (drop (i + 1 + width (f x)) xs)) (left_of (f x) ps)
+-- one member less, whose key is k
+pub record OneMember (ns : List Mark) (i m : ℕ) (k x : Mark) (ps : List Tree) : Type 0 where
+  pub key : At ns i k
+  pub text : k ≡ string (key_of_mark k)
+  pub whole : Whole ns (i + 1) x ps
+  pub can : CanTakePairs m (drop (i + 1 + width x) ns) (left_of x ps)
+  pub made : taken_pairs (suc m) (drop i ns) ps ≡ (key_of_mark k, made_of x ps) ∷ taken_pairs m (drop (i + 1 + width x) ns) (left_of x ps)
+  pub less : left_pairs (suc m) (drop i ns) ps ≡ left_pairs m (drop (i + 1 + width x) ns) (left_of x ps)
 
-pub one_member : {X : Type 0} (f : X → Mark) (xs : List X) (i n m : ℕ) (d : X) (ps : List Tree) → n ≡ suc m → CanTakePairs n (map f (drop i xs)) ps → OneMember f xs i m (get_or xs i d) (get_or xs (i + 1) d) ps
-one_member f xs i n m d ps e h =
-    let can = subst (λ k. CanTakePairs k (map f (drop i xs)) ps) e h in
-    let key = at f xs i d can.0 in
-    let next : drop 1 (map f (drop i xs)) ≡ map f (drop (i + 1) xs) = drop-map f 1 (drop i xs) ∙ ap (map f) (drop-drop 1 i xs) in
-    let w = whole_at f xs (i + 1) d ps (subst (λ l. CanTake l ps) next can.2) in
+pub one_member : (ns : List Mark) (i n m : ℕ) (k x : Mark) (ps : List Tree) → n ≡ suc m → k ≡ get_or ns i nothing → x ≡ get_or ns (i + 1) nothing → CanTakePairs n (drop i ns) ps → OneMember ns i m k x ps
+one_member ns i n m k x ps e f g h =
+    let can = subst (λ l. CanTakePairs l (drop i ns) ps) e h in
+    let key = at ns i k f can.0 in
+    let next : drop 1 (drop i ns) ≡ drop (i + 1) ns = drop-drop 1 i ns in
+    let w = whole_at ns (i + 1) x ps g (subst (λ l. CanTake l ps) next can.2) in
     let first = ap first_mark next ∙ w.first in
     let after = ap behind next ∙ w.after in
     record {
       key = key;
-      text = subst (λ m. m ≡ string (key_of_mark m)) key.first can.1;
+      text = subst (λ l. l ≡ string (key_of_mark l)) key.first can.1;
       whole = w;
       can = subst (λ (p : List Mark × List Tree). CanTakePairs m p.0 p.1) (λ j. (after j, left_of (first j) ps)) can.3;
       made = λ j. (key_of_mark (key.first j), made_of (first j) ps) ∷ taken_pairs m (after j) (left_of (first j) ps);
@@ -246,22 +250,19 @@ turn_begun : (c : Repeats) (ns : List Mark) → BeginsTree ns → Turns c ns (dr
 turn_begun c ns b = subst (λ l. Turns c l (drop 1 l)) (sym b.are) (turn_tree c b.tree b.rest)
 
 -- the turn at a position of a preorder
-pub turn_at : (c : Repeats) {X : Type 0} (f : X → Mark) (xs : List X) (n i : ℕ) → suc i ≡ n → i < length xs → IsPreorder (map f xs)
-    → Needs (map f (drop i xs)) (ahead c (map f (drop n xs))) × (grown c (map f (drop i xs)) (ahead c (map f (drop n xs))) ≡ ahead c (map f (drop i xs)))
-turn_at c f xs n i e h whole =
-    let ms = map f xs in
-    let t = turn_begun c (drop i ms) (begins_first (drop i ms) (AllBegin-drop i ms (AllBegin-preorder ms whole)) (omega (arith, h, length-drop i ms, length-map xs f))) in
-    let here = sym (drop-map f i xs) in
-    let next : i + 1 ≡ n = omega (arith, e) in
-    let after : map f (drop n xs) ≡ drop 1 (drop i ms) = sym (drop-map f n xs) ∙ ap (λ k. drop k ms) (sym next) ∙ sym (drop-drop 1 i ms) in (
-      subst (λ (p : List Mark × List Mark). Needs p.0 (ahead c p.1)) (λ j. (sym here j, sym after j)) t.needs,
-      (λ j. grown c (here j) (ahead c (after j))) ∙ t.grows ∙ ap (ahead c) (sym here),
+pub turn_at : (c : Repeats) (ns : List Mark) (n i : ℕ) → i + 1 ≡ n → i < length ns → IsPreorder ns
+    → Needs (drop i ns) (ahead c (drop n ns)) × (grown c (drop i ns) (ahead c (drop n ns)) ≡ ahead c (drop i ns))
+turn_at c ns n i e h whole =
+    let t = turn_begun c (drop i ns) (begins_first (drop i ns) (AllBegin-drop i ns (AllBegin-preorder ns whole)) (omega (arith, h, length-drop i ns))) in
+    let after : drop n ns ≡ drop 1 (drop i ns) = ap (λ k. drop k ns) (sym e) ∙ sym (drop-drop 1 i ns) in (
+      subst (λ l. Needs (drop i ns) (ahead c l)) (sym after) t.needs,
+      (λ j. grown c (drop i ns) (ahead c (after j))) ∙ t.grows,
     )
 
 -- ---- the end
 
-pub nothing_ahead : (c : Repeats) {X : Type 0} (f : X → Mark) (xs : List X) → [] ≡ ahead c (map f (drop (length xs) xs))
-nothing_ahead c f xs = sym (ap (λ l. ahead c (map f l)) (drop_all (length xs) xs (omega arith)))
+pub nothing_ahead : (c : Repeats) (ns : List Mark) (n : ℕ) → n ≡ length ns → [] ≡ ahead c (drop n ns)
+nothing_ahead c ns n e = sym (ap (λ l. ahead c l) (drop_all n ns (omega (arith, e))))
 
 flat_some : (t : Tree) → 0 < length (flat t)
 flat_some null = omega arith
@@ -271,10 +272,9 @@ flat_some (text s) = omega arith
 flat_some (list is) = omega arith
 flat_some (obj ms) = omega arith
 
--- the first node of a preorder
-pub first_of : {X : Type 0} (f : X → Mark) (xs : List X) (d : X) → IsPreorder (map f xs) → first_mark (map f xs) ≡ f (get_or xs 0 d)
-first_of f [] d h = absurd (omega (arith, flat_some (tree_of []), ap (λ (l : List Mark). length l) h))
-first_of f (x ∷ xs) d h = refl
+-- a preorder has a node
+pub preorder_some : (ns : List Mark) → IsPreorder ns → 0 < length ns
+preorder_some ns h = omega (arith, flat_some (tree_of ns), ap (λ (l : List Mark). length l) h)
 
 -- the whole tree is made last
 pub last_one : (c : Repeats) (ns : List Mark) → IsPreorder ns → IsThere (first_mark ns) (ahead c ns) × (made_of (first_mark ns) (ahead c ns) ≡ keep_by c (tree_of ns))
@@ -309,6 +309,6 @@ map_push tree vs ws v t ts e f = ap (λ l. map tree l ++ ts) e ∙ push vs ∙ a
   push (w ∷ vs) = ap (λ l. tree w ∷ l) (push vs)
 
 -- nodes that need something are some
-pub some_node : {X : Type 0} (f : X → Mark) (xs : List X) (ps : List Tree) → Needs (map f xs) ps → 0 < length xs
-some_node f [] ps h = absurd h
-some_node f (x ∷ xs) ps h = omega arith
+pub some_node : (ns : List Mark) (ps : List Tree) → Needs ns ps → 0 < length ns
+some_node [] ps h = absurd h
+some_node (m ∷ ns) ps h = omega arith

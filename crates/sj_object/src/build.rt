@@ -2,30 +2,20 @@
 //! container. A scalar or a text is made where its container takes it; the containers behind wait
 //! on a pile, the nearest on top.
 
-ghost use Rattle.std.specs.Prelude.{◌≡◌, ◌<◌, ◌^◌, ◌∷◌, ◌++◌, [], length, map, IfOk, OnOk, All};
-ghost use Rattle.sj_text_core.specs.Nodes.{tree_of, width, IsPreorder};
+ghost use Rattle.std.specs.Prelude.{◌≡◌, ◌<◌, ◌∷◌, ◌++◌, [], length, map, IfOk, OnOk, All};
+ghost use Rattle.sj_text_core.specs.Nodes.{tree_of, IsPreorder};
 ghost use Rattle.sj_text_core.specs.Repeats.{keep_by};
-ghost use Rattle.sj_tape.specs.Marks.{mark, marks};
+ghost use Rattle.sj_tape.specs.Marks.{mark};
+ghost use Rattle.sj_tape.specs.Stretches.{nodes_in};
 ghost use Rattle.sj_tape.specs.Value.{tree, choice};
 ghost use Rattle.sj_object.specs.Builder.{AreMade};
 ghost use Rattle.sj_object.specs.Piles.{pile, made_of, left_of, IsThere, CanTakeItems, CanTakePairs, taken, left, taken_pairs, left_pairs, kept, kept_by, put_pair, shown, Needs, grown};
 
 use crate::builder::{Builder, Made, MapOf};
 use crate::key::KeyOf;
-use sj_tape::{Node, Value};
+use sj_tape::{Node, Nodes, Value};
 use sj_text_core::Repeats;
 use std::alloc::{AllocError, Global};
-
-/// How many nodes the tree has that begins with the node.
-fn width_of(node: &Node) -> usize
-    requires { width (mark node.now) < 2 ^ 64 }
-    ensures { result ≡ width (mark node.now) }
-{
-    match *node {
-        Node::Array { count, .. } | Node::Object { count, .. } => 1 + count,
-        Node::Static(_) | Node::String(_) => 1,
-    }
-}
 
 /// Takes the top off the pile.
 fn take_top<V>(made: &mut Vec<V>) -> V
@@ -75,20 +65,20 @@ fn skip_value<'de, V: Builder<'de, Key>, Key: KeyOf<'de>>(made: &mut Vec<V>, nod
 fn take_items<'de, V: Builder<'de, Key>, Key: KeyOf<'de>>(
     alloc: Global,
     made: &mut Vec<V>,
-    nodes: &[Node<'de>],
+    nodes: Nodes<'_, 'de>,
     len: usize,
 ) -> Result<Vec<V>, AllocError>
-    requires { CanTakeItems len (marks nodes.now) (pile V.tree made.old.items) }
-    ensures means { IfOk result (λ vs. map V.tree vs.items ≡ taken len (marks nodes.now) (pile V.tree made.old.items)) }
-    ensures rest { OnOk result (pile V.tree made.new.items ≡ left len (marks nodes.now) (pile V.tree made.old.items)) }
+    requires { CanTakeItems len (nodes_in nodes) (pile V.tree made.old.items) }
+    ensures means { IfOk result (λ vs. map V.tree vs.items ≡ taken len (nodes_in nodes.entry) (pile V.tree made.old.items)) }
+    ensures rest { OnOk result (pile V.tree made.new.items ≡ left len (nodes_in nodes.entry) (pile V.tree made.old.items)) }
     ensures property { All V.built made.old.items → IfOk result (λ vs. All V.built vs.items × All V.built made.new.items) }
 {
     let mut items = Vec::with_capacity(alloc, len)?;
     let mut at = 0;
     for i in 0..len {
-        let node = nodes[at];
+        let node = nodes.at(at);
         items.push(take_value::<V, Key>(alloc, made, node)?)?;
-        at += width_of(&node);
+        at += node.width();
     }
     Ok(items)
 }
@@ -97,24 +87,24 @@ fn take_items<'de, V: Builder<'de, Key>, Key: KeyOf<'de>>(
 fn take_members<'de, V: Builder<'de, Key>, Key: KeyOf<'de>>(
     alloc: Global,
     made: &mut Vec<V>,
-    nodes: &[Node<'de>],
+    nodes: Nodes<'_, 'de>,
     len: usize,
     repeats: Repeats,
 ) -> Result<V::Map, AllocError>
-    requires { CanTakePairs len (marks nodes.now) (pile V.tree made.old.items) }
-    ensures means { IfOk result (λ m. shown V.tree (V.Map.entries m) ≡ kept_by repeats [] (taken_pairs len (marks nodes.now) (pile V.tree made.old.items))) }
-    ensures rest { OnOk result (pile V.tree made.new.items ≡ left_pairs len (marks nodes.now) (pile V.tree made.old.items)) }
+    requires { CanTakePairs len (nodes_in nodes) (pile V.tree made.old.items) }
+    ensures means { IfOk result (λ m. shown V.tree (V.Map.entries m) ≡ kept_by repeats [] (taken_pairs len (nodes_in nodes.entry) (pile V.tree made.old.items))) }
+    ensures rest { OnOk result (pile V.tree made.new.items ≡ left_pairs len (nodes_in nodes.entry) (pile V.tree made.old.items)) }
     ensures property { All V.built made.old.items → IfOk result (λ m. AreMade Key.is_made V.built (V.Map.entries m) × All V.built made.new.items) }
 {
     let mut members = V::Map::with_capacity(alloc, len)?;
     let mut at = 0;
     for i in 0..len {
-        let Node::String(text) = nodes[at] else {
+        let Node::String(text) = nodes.at(at) else {
             unreachable!();
         };
-        let node = nodes[at + 1];
+        let node = nodes.at(at + 1);
         put_member::<V, Key>(alloc, &mut members, made, text, node, repeats)?;
-        at += 1 + width_of(&node);
+        at += 1 + node.width();
     }
     Ok(members)
 }
@@ -186,22 +176,22 @@ fn set_member<'de, V: Builder<'de, Key>, Key: KeyOf<'de>>(
 fn put<'de, V: Builder<'de, Key>, Key: KeyOf<'de>>(
     alloc: Global,
     made: &mut Vec<V>,
-    nodes: &[Node<'de>],
+    nodes: Nodes<'_, 'de>,
     repeats: Repeats,
 ) -> Result<(), AllocError>
-    requires { Needs (marks nodes.now) (pile V.tree made.old.items) }
-    ensures means { OnOk result (pile V.tree made.new.items ≡ grown repeats (marks nodes.now) (pile V.tree made.old.items)) }
+    requires { Needs (nodes_in nodes) (pile V.tree made.old.items) }
+    ensures means { OnOk result (pile V.tree made.new.items ≡ grown repeats (nodes_in nodes.entry) (pile V.tree made.old.items)) }
     ensures property { All V.built made.old.items → OnOk result (All V.built made.new.items) }
 {
-    match nodes[0] {
+    match nodes.at(0) {
         Node::Static(_) | Node::String(_) => Ok(()),
         Node::Array { len, .. } => {
-            let items = take_items::<V, Key>(alloc, made, &nodes[1..], len)?;
+            let items = take_items::<V, Key>(alloc, made, nodes.from(1), len)?;
             made.push(V::from_vec(alloc, items)?)?;
             Ok(())
         }
         Node::Object { len, .. } => {
-            let members = take_members::<V, Key>(alloc, made, &nodes[1..], len, repeats)?;
+            let members = take_members::<V, Key>(alloc, made, nodes.from(1), len, repeats)?;
             made.push(V::from_map(alloc, members)?)?;
             Ok(())
         }
@@ -211,20 +201,20 @@ fn put<'de, V: Builder<'de, Key>, Key: KeyOf<'de>>(
 /// The value that the nodes are.
 fn build<'de, V: Builder<'de, Key>, Key: KeyOf<'de>>(
     alloc: Global,
-    nodes: &[Node<'de>],
+    nodes: Nodes<'_, 'de>,
     repeats: Repeats,
 ) -> Result<V, AllocError>
-    requires { IsPreorder (marks nodes.now) }
-    ensures means { IfOk result (λ v. V.tree v ≡ keep_by repeats (tree_of (marks nodes.now))) }
+    requires { IsPreorder (nodes_in nodes) }
+    ensures means { IfOk result (λ v. V.tree v ≡ keep_by repeats (tree_of (nodes_in nodes.entry))) }
     ensures property { IfOk result V.built }
 {
     let mut made = Vec::new(alloc);
     let mut at = nodes.len();
     while at > 0 {
         at -= 1;
-        put::<V, Key>(alloc, &mut made, &nodes[at..], repeats)?;
+        put::<V, Key>(alloc, &mut made, nodes.from(at), repeats)?;
     }
-    take_value::<V, Key>(alloc, &mut made, nodes[0])
+    take_value::<V, Key>(alloc, &mut made, nodes.at(0))
 }
 
 /// The document of a part of a tape: of each key the member that counts in the part stays, in the

@@ -1,18 +1,19 @@
 -- What a whole print comes to, in a count and in bytes.
-use Rattle.std.proofs.Common.{◌≡◌, ℕ, ◌+◌, ◌≤◌, ◌^◌, min, List, [], ◌∷◌, ◌++◌, length, IsUtf8, Vec, Global, sym, arith}
+use Rattle.std.proofs.Common.{◌≡◌, ℕ, ◌+◌, ◌≤◌, List, [], ◌∷◌, ◌++◌, length, IsUtf8, Vec, Global, sym, arith}
 use Rattle.std.proofs.lemmas.List.{append-nil}
 use Rattle.std.proofs.lemmas.Str.{IsUtf8-nil}
 use Rattle.std.specs.Vec.{vec_capacity}
 use Rattle.sj_print.specs.Outputs.{AppendsText}
+use Rattle.sj_print.specs.Printed.{IsCounted}
 use Rattle.sj_print.specs.declared.output.count.Count.{Count}
 
-abbrev counts : ℕ → Count → List ℕ → Type 0
-counts start c b = min c.total (2 ^ 64) ≡ min (start + length b) (2 ^ 64)
+abbrev pub counts : ℕ → Count → List ℕ → Type 0
+counts start c b = IsCounted (start + length b) c
 
 abbrev keeps : List ℕ × ℕ → Vec ℕ Global → List ℕ → Type 0
 keeps start v b = length start.0 + length b ≤ start.1 → (v.items ≡ start.0 ++ b) × (start.1 ≤ vec_capacity v)
 
-pub counted : (a b : Count) (before : ℕ) (part : List ℕ) → AppendsText counts a b part → a.total ≡ before → min b.total (2 ^ 64) ≡ min (before + length part) (2 ^ 64)
+pub counted : (a b : Count) (before : ℕ) (part : List ℕ) → AppendsText counts a b part → a.total ≡ before → IsCounted (before + length part) b
 counted a b before part f e = (f before [] (IsUtf8-nil, omega (arith, e))).1
 
 pub kept : (a b : Vec ℕ Global) (part : List ℕ) → AppendsText keeps a b part → length a.items + length part ≤ vec_capacity a → b.items ≡ a.items ++ part

@@ -7,4 +7,5 @@ pub mod Puts
 pub mod Layouts
 pub mod Walks
 pub mod Ends
+pub mod Printed
 pub mod rows

@@ -1,2 +1,3 @@
 -- What the definitions give on small examples, by computation.
 pub mod Generators
+pub mod Printed

@@ -15,7 +15,8 @@
 //! ```
 //!
 //! `write` and `encode` print any value that can be taken apart level by level (`Parts`), by one
-//! walk: once for the exact length, which is asked for at once, and once for the bytes.
+//! walk: once for the exact length, which is asked for at once, and once for the bytes. Where the
+//! length is known another way, `write_counted` and `encode_counted` go over the value once.
 //!
 //! Both put a text between quotes by one loop, which copies runs of plain bytes.
 #![tactic(auto)]
@@ -36,4 +37,4 @@ pub use generator::{
 pub use layout::Layout;
 pub use output::{Count, Output};
 pub use parts::{Level, Parts};
-pub use whole::{encode, write};
+pub use whole::{count, encode, encode_counted, write, write_counted};

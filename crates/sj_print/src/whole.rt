@@ -8,48 +8,71 @@ use crate::output::Count;
 use crate::parts::Parts;
 use crate::print::print;
 use sj_text_core::WriteError;
-use std::alloc::Global;
+use std::alloc::{AllocError, Global};
 
-/// How many bytes there are with the print behind so many.
-fn end_of<P: Parts>(value: &P, pretty: bool, before: usize) -> Result<usize, WriteError>
+/// How many bytes there are with the print behind so many; `TooLong` where they are past
+/// `usize::MAX`.
+pub fn count<P: Parts>(value: &P, pretty: bool, before: usize) -> Result<usize, WriteError>
     ensures ok { IfOk result (λ n. n ≡ before + length (laid (top pretty) (P.tree_of value.now))) }
     ensures err { OnErr result (2 ^ 64 ≤ before + length (laid (top pretty) (P.tree_of value.now))) }
     ensures why { IfErr result (λ e. e ≡ WriteError.TooLong) }
     ensures fits { OnOk result (before + length (laid (top pretty) (P.tree_of value.now)) + 1 ≤ 2 ^ 64) }
 {
-    let mut count = Count {
-        total: before as u128,
-    };
+    let mut count = Count::behind(before);
     print(value, Layout::top(pretty), &mut count);
-    if count.total < 0x1_0000_0000_0000_0000 {
-        Ok(count.total as usize)
-    } else {
-        Err(WriteError::TooLong)
-    }
+    count.end()
 }
 
-/// Appends the value's print, for which its exact length is asked at once. Refused, it leaves the
-/// bytes as they were.
+/// Appends the value's print, which ends where `end` tells. It asks for its room at once; refused,
+/// it leaves the bytes as they were.
+pub fn write_counted<P: Parts>(
+    value: &P,
+    pretty: bool,
+    end: usize,
+    out: &mut Vec<u8>,
+) -> Result<(), AllocError>
+    requires { end ≡ length out.old.items + length (laid (top pretty) (P.tree_of value.now)) }
+    ensures ok { OnOk result (out.new.items ≡ out.old.items ++ laid (top pretty) (P.tree_of value.now)) }
+    ensures err { OnErr result (out.new.items ≡ out.old.items) }
+{
+    out.reserve(end - out.len())?;
+    print(value, Layout::top(pretty), out);
+    Ok(())
+}
+
+/// The value's print, which has so many bytes. It asks for them at once.
+pub fn encode_counted<P: Parts>(
+    value: &P,
+    pretty: bool,
+    len: usize,
+    alloc: Global,
+) -> Result<String, AllocError>
+    requires { len ≡ length (laid (top pretty) (P.tree_of value.now)) }
+    ensures { IfOk result (λ s. string_bytes s ≡ laid (top pretty) (P.tree_of value.now)) }
+{
+    let mut out = Vec::with_capacity(alloc, len)?;
+    print(value, Layout::top(pretty), &mut out);
+    // SAFETY: every part of a print is a text, which the check proves.
+    Ok(unsafe { String::from_utf8_unchecked(out) })
+}
+
+/// Appends the value's print, for which its exact length is asked at once; `TooLong` where there
+/// would be more than `usize::MAX` bytes. Refused, it leaves the bytes as they were.
 pub fn write<P: Parts>(value: &P, pretty: bool, out: &mut Vec<u8>) -> Result<(), WriteError>
     ensures ok { OnOk result (out.new.items ≡ out.old.items ++ laid (top pretty) (P.tree_of value.now)) }
     ensures err { OnErr result (out.new.items ≡ out.old.items) }
     ensures too_long { IsErrOf result WriteError.TooLong ↔ (2 ^ 64 ≤ length out.old.items + length (laid (top pretty) (P.tree_of value.now))) }
 {
-    let len = out.len();
-    let end = end_of(value, pretty, len)?;
-    out.reserve(end - len)?;
-    print(value, Layout::top(pretty), out);
-    Ok(())
+    let end = count(value, pretty, out.len())?;
+    Ok(write_counted(value, pretty, end, out)?)
 }
 
-/// The value's print, for which its exact length is asked at once.
+/// The value's print, for which its exact length is asked at once; `TooLong` where that is past
+/// `usize::MAX`.
 pub fn encode<P: Parts>(value: &P, pretty: bool, alloc: Global) -> Result<String, WriteError>
     ensures ok { IfOk result (λ s. string_bytes s ≡ laid (top pretty) (P.tree_of value.now)) }
     ensures too_long { IsErrOf result WriteError.TooLong ↔ (2 ^ 64 ≤ length (laid (top pretty) (P.tree_of value.now))) }
 {
-    let end = end_of(value, pretty, 0)?;
-    let mut out = Vec::with_capacity(alloc, end)?;
-    print(value, Layout::top(pretty), &mut out);
-    // SAFETY: every part of a print is a text, which the check proves.
-    Ok(unsafe { String::from_utf8_unchecked(out) })
+    let len = count(value, pretty, 0)?;
+    Ok(encode_counted(value, pretty, len, alloc)?)
 }

@@ -1,14 +1,9 @@
 -- The parts of an array's and an object's nodes.
-use Rattle.std.proofs.Common.{◌≡◌, ℕ, ◌-◌, Some, List, length, take, drop, get_or, refl, sym, ap, ◌∙◌}
-use Rattle.std.proofs.lemmas.List.{drop-map, take_rest}
-use Rattle.std.proofs.Math.ListN.{get_or-map}
-use Rattle.sj_text_core.specs.Tree.{Tree, null, boolean, int, text, list, obj, Items, items_len, Members, members_len}
+use Rattle.std.proofs.Common.{◌≡◌, ℕ, Some, List, ◌∷◌, drop, get_or, refl, sym, ap, ◌∙◌}
+use Rattle.sj_text_core.specs.Tree.{Tree, null, boolean, int, text, list, obj, Items, items_len, items_from, listed, Members, members_len, members_from, paired}
 use Rattle.sj_text_core.specs.Nodes.{Mark, nothing, array, object, flat, flat_items, flat_members, tree_of, members_in, AreMembers, IsPreorder}
 use Rattle.sj_text_core.specs.Reads.{as_items, as_members}
-use Rattle.sj_text_core.specs.declared.static_node.StaticNode.TheVariants.{Null}
-use Rattle.sj_tape.specs.declared.node.Node.{Node}
-use Rattle.sj_tape.specs.declared.node.Node.TheVariants.{Static, Array, Object}
-use Rattle.sj_tape.specs.Marks.{mark, marks}
+use Rattle.sj_text_core.proofs.Shapes.{items_from-listed, members_from-paired, list_is, obj_is}
 use Rattle.sj_tape.specs.Parts.{items_in, AreItemNodes}
 use Rattle.sj_tape.proofs.Splits.{items_in-flat, members_in-flat, AreItemNodes-flat, AreMembers-flat}
 
@@ -18,7 +13,7 @@ pub record ArrayOf (ns rest : List Mark) (len : ℕ) : Type 0 where
   pub counted : len ≡ items_len (items_in rest)
   pub items : Some (items_in rest) ≡ as_items (tree_of ns)
 
-array_of : (ns rest : List Mark) (len count : ℕ) → IsPreorder ns → get_or ns 0 nothing ≡ array len count → rest ≡ drop 1 ns → ArrayOf ns rest len
+pub array_of : (ns rest : List Mark) (len count : ℕ) → IsPreorder ns → get_or ns 0 nothing ≡ array len count → rest ≡ drop 1 ns → ArrayOf ns rest len
 array_of ns rest len count p e r = cases (tree_of ns) refl
   where
     first : (t : Tree) → tree_of ns ≡ t → get_or (flat t) 0 nothing ≡ array len count
@@ -43,13 +38,20 @@ array_of ns rest len count p e r = cases (tree_of ns) refl
     cases (list is) f = behind is f (first (list is) f)
     cases (obj ms) f = absurd (let h = first (obj ms) f in cc)
 
+pub array_behind : (ns rest : List Mark) (m : Mark) (len count : ℕ) → IsPreorder ns → ns ≡ m ∷ rest → m ≡ array len count → ArrayOf ns rest len
+array_behind ns rest m len count p e f = array_of ns rest len count p (ap (λ l. get_or l 0 nothing) e ∙ f) (sym (ap (λ l. drop 1 l) e))
+
+-- an array is the list of its items
+pub array_from : (t : Tree) (is : Items) (ts : List Tree) → ts ≡ listed is → Some is ≡ as_items t → list (items_from ts) ≡ t
+array_from t is ts e f = ap (λ us. list (items_from us)) e ∙ (ap list (items_from-listed is) ∙ sym (list_is t is f))
+
 -- what stands behind an object's node
 pub record ObjectOf (ns rest : List Mark) (len : ℕ) : Type 0 where
   pub are : AreMembers rest
   pub counted : len ≡ members_len (members_in rest)
   pub members : Some (members_in rest) ≡ as_members (tree_of ns)
 
-object_of : (ns rest : List Mark) (len count : ℕ) → IsPreorder ns → get_or ns 0 nothing ≡ object len count → rest ≡ drop 1 ns → ObjectOf ns rest len
+pub object_of : (ns rest : List Mark) (len count : ℕ) → IsPreorder ns → get_or ns 0 nothing ≡ object len count → rest ≡ drop 1 ns → ObjectOf ns rest len
 object_of ns rest len count p e r = cases (tree_of ns) refl
   where
     first : (t : Tree) → tree_of ns ≡ t → get_or (flat t) 0 nothing ≡ object len count
@@ -74,16 +76,9 @@ object_of ns rest len count p e r = cases (tree_of ns) refl
     cases (list is) f = absurd (let h = first (list is) f in cc)
     cases (obj ms) f = behind ms f (first (obj ms) f)
 
-behind_first : (nodes : List Node) → marks (take (length nodes - 1) (drop 1 nodes)) ≡ drop 1 (marks nodes)
-behind_first nodes = ap (λ l. marks l) (take_rest nodes 1) ∙ sym (drop-map mark 1 nodes)
+pub object_behind : (ns rest : List Mark) (m : Mark) (len count : ℕ) → IsPreorder ns → ns ≡ m ∷ rest → m ≡ object len count → ObjectOf ns rest len
+object_behind ns rest m len count p e f = object_of ns rest len count p (ap (λ l. get_or l 0 nothing) e ∙ f) (sym (ap (λ l. drop 1 l) e))
 
-first_mark : (nodes : List Node) (n : Node) → get_or nodes 0 (Static Null) ≡ n → get_or (marks nodes) 0 nothing ≡ mark n
-first_mark nodes n e = get_or-map mark nodes 0 (Static Null) ∙ ap (λ m. mark m) e
-
-pub array_nodes : (nodes : List Node) (len count : ℕ) → IsPreorder (marks nodes) → get_or nodes 0 (Static Null) ≡ Array len count
-    → ArrayOf (marks nodes) (marks (take (length nodes - 1) (drop 1 nodes))) len
-array_nodes nodes len count p e = array_of (marks nodes) _ len count p (first_mark nodes (Array len count) e) (behind_first nodes)
-
-pub object_nodes : (nodes : List Node) (len count : ℕ) → IsPreorder (marks nodes) → get_or nodes 0 (Static Null) ≡ Object len count
-    → ObjectOf (marks nodes) (marks (take (length nodes - 1) (drop 1 nodes))) len
-object_nodes nodes len count p e = object_of (marks nodes) _ len count p (first_mark nodes (Object len count) e) (behind_first nodes)
+-- an object is the list of its members
+pub object_from : (t : Tree) (ms : Members) (ps : List (List ℕ × Tree)) → ps ≡ paired ms → Some ms ≡ as_members t → obj (members_from ps) ≡ t
+object_from t ms ps e f = ap (λ qs. obj (members_from qs)) e ∙ (ap obj (members_from-paired ms) ∙ sym (obj_is t ms f))

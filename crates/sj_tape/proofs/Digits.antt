@@ -46,7 +46,7 @@ digit_range c e = (low c e, high c e)
 one_more : (n c : ℕ) (l : List ℕ) → take (1 + n) (c ∷ l) ≡ c ∷ take n l
 one_more n c l = let e : 1 + n ≡ suc n = omega arith in ap (λ k. take k (c ∷ l)) e
 
-all_digits : (l : List ℕ) → AllDigits 10 (take (prefix_len is_ascii_digit l) l)
+pub all_digits : (l : List ℕ) → AllDigits 10 (take (prefix_len is_ascii_digit l) l)
 all_digits [] = tt
 all_digits (c ∷ l) = by_byte c l (is_ascii_digit c) refl (all_digits l)
   where
@@ -62,7 +62,7 @@ value_is (c ∷ ds) n h =
     value_is ds (n * 10 + digit_value c) h.1 ∙ ap (λ m. fold step m ds) e
 
 -- what the digits of a run write, and the last 64 bits of it
-pub run_value : (b : List ℕ) (at e n : ℕ) → at ≤ length b → e ≡ at + prefix_len is_ascii_digit (drop at b) → n ≡ (0 * 10 ^ (e - at) + digits_value 10 (slice_range b at e)) % 2 ^ 64
+pub run_value : (b : List ℕ) (at e n : ℕ) → at ≤ length b → e ≡ at + prefix_len is_ascii_digit (drop at b) → n ≡ digits_value 10 (slice_range b at e) % 2 ^ 64
     → (n ≡ value_of (slice_range b at e) % 2 ^ 64) × (value_of (slice_range b at e) < 10 ^ (e - at))
 run_value b at e n within h k =
     let m : e - at ≡ prefix_len is_ascii_digit (drop at b) = omega (arith, h) in
@@ -71,8 +71,7 @@ run_value b at e n within h k =
     let len : length ds ≡ e - at = length-take-le (e - at) (drop at b) (omega (arith, m, prefix_len-le-length is_ascii_digit (drop at b))) in
     let lt : digits_value 10 ds < 10 ^ (e - at) = subst (λ (j : ℕ). digits_value 10 ds < 10 ^ j) len (digits_value-lt 10 ds all) in
     let is : digits_value 10 ds ≡ value_of ds = value_is ds 0 all in
-    let z : 0 * 10 ^ (e - at) ≡ 0 = zero-mul (10 ^ (e - at)) in
-    (k ∙ ap (λ x. x % 2 ^ 64) (omega (arith, z, is)), subst (λ (x : ℕ). x < 10 ^ (e - at)) is lt)
+    (k ∙ ap (λ x. x % 2 ^ 64) is, subst (λ (x : ℕ). x < 10 ^ (e - at)) is lt)
 
 -- each byte is a digit
 pub each_digit : (ds : List ℕ) → ((k : ℕ) → k < length ds → (48 ≤ get_or ds k 0) × (get_or ds k 0 ≤ 57)) → AllDigits 10 ds
@@ -135,7 +134,7 @@ all_count (c ∷ ds) h = ap (λ t. cond t (1 + prefix_len is_ascii_digit ds) 0) 
         inside : (c : ℕ) → 48 ≤ c → c ≤ 57 → is_ascii_digit c ≡ true
         inside c l m = grind (arith, nat_tests)
 
-all_take : (ds : List ℕ) (n : ℕ) → AllDigits 10 ds → AllDigits 10 (take n ds)
+pub all_take : (ds : List ℕ) (n : ℕ) → AllDigits 10 ds → AllDigits 10 (take n ds)
 all_take ds zero h = tt
 all_take [] (suc n) h = tt
 all_take (c ∷ ds) (suc n) h = (h.0, all_take ds n h.1)
@@ -159,7 +158,7 @@ pub word_is : (ds : List ℕ) (e n : ℕ) → AllDigits 10 ds → e ≡ 0 + pref
 word_is ds e n h at is few =
     let k : e ≡ length ds = omega (arith, at, all_count ds h) in
     let r : slice_range ds 0 e ≡ ds = take_all (e - 0) ds (omega (arith, k)) in
-    value_few ds n h few ((run_value ds 0 e n (omega arith) at is).0 ∙ ap (λ l. value_of l % 2 ^ 64) r)
+    value_few ds n h few ((run_value ds 0 e n (omega arith) at (is ∙ ap (λ x. x % 2 ^ 64) (omega (arith, zero-mul (10 ^ (e - 0)))))).0 ∙ ap (λ l. value_of l % 2 ^ 64) r)
 
 -- digits in two words
 pub two_words : (ds : List ℕ) (mid a b t : ℕ) → 19 ≤ mid → mid ≤ length ds → a ≡ value_of (take 19 ds) → t ≡ 10 ^ (mid - 19) → b ≡ value_of (slice_range ds 19 mid) → a * t + b ≡ value_of (take mid ds)

@@ -1,5 +1,5 @@
 -- Lookups among the members of an object with a choice.
-use Rattle.std.proofs.Common.{◌≡◌, ℕ, zero, suc, ◌+◌, Bool, true, false, List, [], ◌∷◌, map, length, slice_get, Option, Some, None, option_map, if◌then◌else◌, bytes_eq, refl, ap, ◌∙◌}
+use Rattle.std.proofs.Common.{◌≡◌, ℕ, suc, ◌+◌, Bool, true, false, List, [], ◌∷◌, map, length, Option, Some, None, option_map, if◌then◌else◌, bytes_eq, refl, ap, ◌∙◌}
 use Rattle.std.specs.Option.{option_or}
 use Rattle.sj_text_core.specs.Tree.{Tree, Members, no_members, member, members_len, paired}
 use Rattle.sj_text_core.specs.Find.{find_member}
@@ -40,11 +40,6 @@ module _ (c : Repeats) (k : List ℕ) where
   pub length-chosen : (ms : Members) → length (chosen c (paired ms)) ≡ members_len ms
   length-chosen no_members = refl
   length-chosen (member l t ms) = ap suc (length-chosen ms)
-
-pub slice_get-map : {A B : Type 0} (f : A → B) (xs : List A) (i : ℕ) → slice_get (map f xs) i ≡ option_map f (slice_get xs i)
-slice_get-map f [] i = refl
-slice_get-map f (x ∷ xs) zero = refl
-slice_get-map f (x ∷ xs) (suc i) = slice_get-map f xs i
 
 pub keys-chosen : (c : Repeats) (ps : List (List ℕ × Tree)) → map (λ (p : List ℕ × (Repeats × Tree)). p.0) (chosen c ps) ≡ map (λ (p : List ℕ × Tree). p.0) ps
 keys-chosen c [] = refl

@@ -1,9 +1,9 @@
 -- Nodes put at the end.
 use Rattle.std.proofs.Common.{◌≡◌, List, [], ◌∷◌, ◌++◌}
 use Rattle.std.proofs.lemmas.List.{map-append}
-use Rattle.sj_tape.specs.Marks.{mark, marks}
-use Rattle.sj_tape.specs.declared.node.Node.{Node}
+use Rattle.sj_tape.specs.Marks.{packed_mark, packed_marks}
+use Rattle.sj_tape.specs.declared.packed.Packed.{Packed}
 
 -- one node more
-pub marks_push : (ns : List Node) (n : Node) → marks (ns ++ n ∷ []) ≡ marks ns ++ mark n ∷ []
-marks_push ns n = map-append mark ns (n ∷ [])
+pub marks_push : (ns : List Packed) (n : Packed) → packed_marks (ns ++ n ∷ []) ≡ packed_marks ns ++ packed_mark n ∷ []
+marks_push ns n = map-append packed_mark ns (n ∷ [])

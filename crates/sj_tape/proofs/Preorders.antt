@@ -1,9 +1,9 @@
 -- Where trees begin among the nodes of a preorder.
-use Rattle.std.proofs.Common.{◌≡◌, ◌⊎◌, ◌↔◌, ℕ, zero, suc, ◌+◌, ◌-◌, ◌<◌, Bool, true, false, nat_eq, IsTrue, Option, Some, None, IfNone, IfSome, Bor, List, [], ◌∷◌, ◌++◌, length, take, drop, get_or, refl, sym, ap, subst, inl, inr, ◌∙◌, arith, append-nil, append_assoc, eqb-true, eq-eqb}
+use Rattle.std.proofs.Common.{◌≡◌, ◌⊎◌, ◌↔◌, ℕ, zero, suc, ◌+◌, ◌-◌, ◌<◌, Bool, true, false, nat_eq, IsTrue, Option, Some, None, IfNone, IfSome, Bor, List, [], ◌∷◌, ◌++◌, length, take, drop, get_or, refl, sym, ap, subst, inl, inr, ◌∙◌, arith, append-nil, append_assoc, eqb-true, eq-eqb, take_all}
 use Rattle.std.specs.Option.{option_eq}
-use Rattle.std.proofs.lemmas.List.{drop-map, drop_more, take_rest, length-map}
+use Rattle.std.proofs.lemmas.List.{drop-map, drop_more, take_rest}
 use Rattle.sj_text_core.specs.Tree.{Tree, null, boolean, int, text, list, obj, Items, no_items, item, items_len, Members, no_members, member, members_len}
-use Rattle.sj_text_core.specs.Nodes.{Mark, string, array, object, flat, flat_items, flat_members, tree_of, IsPreorder}
+use Rattle.sj_text_core.specs.Nodes.{Mark, nothing, width, string, array, object, flat, flat_items, flat_members, tree_of, IsPreorder}
 use Rattle.sj_text_core.specs.declared.static_node.StaticNode.{StaticNode}
 use Rattle.sj_text_core.specs.declared.static_node.StaticNode.TheVariants.{Null, Bool as Truth, I64, U64, I128, U128}
 use Rattle.sj_tape.specs.declared.node.Node.{Node}
@@ -11,7 +11,7 @@ use Rattle.sj_tape.specs.declared.node.Node.TheVariants.{Static, String, Array, 
 use Rattle.sj_tape.specs.Marks.{static_mark, mark, marks}
 use Rattle.sj_tape.specs.Fronts.{BeginsTree, AllBegin, BeginsItems, BeginsMembers}
 use Rattle.sj_tape.proofs.Counts.{items_count, members_count}
-use Rattle.sj_tape.proofs.Splits.{flat-append}
+use Rattle.sj_tape.proofs.Splits.{flat-append, first_width, width-flat}
 
 -- ---- at one node
 
@@ -159,13 +159,15 @@ pub begins_within : (nodes : List Node) (i : ℕ) → i < length nodes → IsPre
     → BeginsTree (mark (get_or nodes i (Static Null)) ∷ marks (take (length nodes - (i + 1)) (drop (i + 1) nodes)))
 begins_within nodes i l p = (subst (λ l. AllBegin l) (marks_from nodes i l) (AllBegin-drop i (marks nodes) (AllBegin-preorder (marks nodes) p))).0
 
-empty_marks : (nodes : List Node) → length nodes ≡ 0 → marks nodes ≡ []
-empty_marks [] e = refl
-empty_marks (n ∷ nodes) e = absurd (omega (arith, e))
-
-pub whole_test : (nodes first rest : List Node) (b : Bool) → IsPreorder (marks first) → marks nodes ≡ marks first ++ marks rest → b ≡ nat_eq (length rest) 0
-    → IsTrue b ↔ IsPreorder (marks nodes)
-whole_test nodes first rest b f e h = (
-  λ t. preorder_first (marks nodes) (marks first) (marks rest) f e (empty_marks rest (eqb-true (length rest) 0 (sym h ∙ t))),
-  λ p. h ∙ eq-eqb (length rest) 0 (sym (length-map rest mark) ∙ ap (λ (l : List Mark). length l) (preorder_alone (marks nodes) (marks first) (marks rest) f e p)),
+-- where a tree begins, it is the whole exactly where its first node tells so
+pub whole_test : (ns : List Mark) (w : ℕ) (b : Bool) → BeginsTree ns → w ≡ width (get_or ns 0 nothing) → b ≡ nat_eq w (length ns) → IsTrue b ↔ IsPreorder ns
+whole_test ns w b t e h = (
+  λ i. let all : w ≡ length ns = eqb-true w (length ns) (sym h ∙ i) in
+      subst (λ l. IsPreorder l) (ap (λ n. take n ns) (sym e ∙ all) ∙ take_all (length ns) ns (omega arith)) (first_width ns t).whole,
+  λ p. h ∙ eq-eqb w (length ns) (e ∙ whole_width ns p),
 )
+  where
+    whole_width : (ns : List Mark) → IsPreorder ns → width (get_or ns 0 nothing) ≡ length ns
+    whole_width ns p =
+        let flat_is : flat (tree_of ns) ++ [] ≡ ns = append-nil (flat (tree_of ns)) ∙ sym p in
+        ap (λ l. width (get_or l 0 nothing)) (sym flat_is) ∙ width-flat (tree_of ns) [] nothing ∙ ap (λ (l : List Mark). length l) (sym p)

@@ -1,17 +1,14 @@
 -- Stretches of nodes and the trees, items and members at their front.
-use Rattle.std.proofs.Common.{◌≡◌, ℕ, zero, suc, ◌+◌, ◌<◌, ◌≤◌, List, [], ◌∷◌, ◌++◌, length, take, drop, Bor, get_or, refl, sym, ap, ◌∙◌, arith, append-nil, length-append}
-use Rattle.std.proofs.lemmas.List.{length-map, take_at, take-map, append_cancel_left}
-use Rattle.std.proofs.Math.ListN.{get_or-map}
+use Rattle.std.proofs.Common.{◌≡◌, ℕ, zero, suc, ◌+◌, ◌<◌, ◌≤◌, Bool, false, nat_eq, List, [], ◌∷◌, ◌++◌, length, take, drop, Some, None, get_or, refl, sym, ap, ◌∙◌, arith, append-nil, length-append}
+use Rattle.std.proofs.lemmas.Bool.Decides.{nat_tests}
+use Rattle.std.proofs.lemmas.List.{take_at, append_cancel_left}
 use Rattle.sj_text_core.specs.Tree.{Tree, null, boolean, int, text, list, obj, Items, no_items, item, items_len, Members, no_members, member, members_len, listed}
-use Rattle.sj_text_core.specs.Nodes.{Mark, string, flat, flat_items, flat_members, trees_of, tree_of, first_tree, items_of, members_of, members_in, AreMembers, IsPreorder, width}
+use Rattle.sj_text_core.specs.Nodes.{Mark, nothing, truth, number, string, array, object, flat, flat_items, flat_members, trees_of, tree_of, first_tree, items_of, members_of, members_in, AreMembers, IsPreorder, width}
 use Rattle.sj_text_core.specs.Flat.{texts_and_values, trees_of-flat, trees_of-flat_members}
 use Rattle.std.specs.Prelude.{slice_get}
 use Rattle.sj_text_core.specs.Find.{nth_item}
 use Rattle.sj_text_core.specs.Code.{tree_of-flat}
-use Rattle.sj_tape.specs.declared.node.Node.{Node}
-use Rattle.sj_tape.specs.declared.node.Node.TheVariants.{Static, String, Array, Object}
-use Rattle.sj_text_core.specs.declared.static_node.StaticNode.TheVariants.{Null, Bool, I64, U64, I128, U128}
-use Rattle.sj_tape.specs.Marks.{mark, marks}
+use Rattle.sj_tape.specs.Marks.{split_text}
 use Rattle.sj_tape.specs.Fronts.{BeginsTree}
 use Rattle.sj_tape.specs.Parts.{items_in, AreItemNodes}
 
@@ -40,27 +37,28 @@ width-flat (text s) ns d = refl
 width-flat (list is) ns d = omega arith
 width-flat (obj ms) ns d = omega arith
 
+-- a list that is not empty has a first element
+pub some_first : {A : Type 0} (xs : List A) (b : Bool) → b ≡ nat_eq (length xs) 0 → b ≡ false → 0 < length xs
+some_first xs b e f = grind (arith, nat_tests)
+
 -- nodes that are a tree's are a preorder
 pub IsPreorder-flat : (t : Tree) (ns : List Mark) → ns ≡ flat t → IsPreorder ns
 IsPreorder-flat t ns e = e ∙ (ap (λ u. flat u) (sym (tree_of-flat t)) ∙ ap (λ l. flat (tree_of l)) (sym e))
 
 -- what the first node tells where a tree begins
-pub record FirstWidth (nodes : List Node) (d : Node) : Type 0 where
-  pub some : 0 < length nodes
-  pub fits : width (mark (get_or nodes 0 d)) ≤ length nodes
-  pub whole : IsPreorder (marks (take (width (mark (get_or nodes 0 d))) nodes))
+pub record FirstWidth (ns : List Mark) : Type 0 where
+  pub some : 0 < length ns
+  pub fits : width (get_or ns 0 nothing) ≤ length ns
+  pub whole : IsPreorder (take (width (get_or ns 0 nothing)) ns)
 
-pub first_width : (nodes : List Node) (d : Node) → BeginsTree (marks nodes) → FirstWidth nodes d
-first_width nodes d b =
-    let lens : length nodes ≡ length (flat b.tree) + length b.rest =
-    sym (length-map nodes mark) ∙ (ap (λ (l : List Mark). length l) b.are ∙ length-append (flat b.tree) b.rest) in
-    let w : width (mark (get_or nodes 0 d)) ≡ length (flat b.tree) =
-    ap (λ m. width m) (sym (get_or-map mark nodes 0 d) ∙ ap (λ l. get_or l 0 (mark d)) b.are) ∙ width-flat b.tree b.rest (mark d) in
+pub first_width : (ns : List Mark) → BeginsTree ns → FirstWidth ns
+first_width ns b =
+    let lens : length ns ≡ length (flat b.tree) + length b.rest = ap (λ (l : List Mark). length l) b.are ∙ length-append (flat b.tree) b.rest in
+    let w : width (get_or ns 0 nothing) ≡ length (flat b.tree) = ap (λ l. width (get_or l 0 nothing)) b.are ∙ width-flat b.tree b.rest nothing in
     record {
       some = omega (arith, lens, length-flat b.tree);
       fits = omega (arith, lens, w);
-      whole = IsPreorder-flat b.tree _ (ap (λ n. marks (take n nodes)) w
-          ∙ (sym (take-map mark (length (flat b.tree)) nodes) ∙ (ap (λ l. take (length (flat b.tree)) l) b.are ∙ take_at (flat b.tree) b.rest (length (flat b.tree)) refl)));
+      whole = IsPreorder-flat b.tree _ (ap (λ n. take n ns) w ∙ (ap (λ l. take (length (flat b.tree)) l) b.are ∙ take_at (flat b.tree) b.rest (length (flat b.tree)) refl));
     }
 
 trees_of-flat_items : (is : Items) → trees_of (flat_items is) ≡ listed is
@@ -152,12 +150,30 @@ first_member ns a h = cases (members_in ns) a refl
 pub AreMembers-flat : (ms : Members) (ns : List Mark) → ns ≡ flat_members ms → AreMembers ns
 AreMembers-flat ms ns e = e ∙ (ap (λ l. flat_members l) (sym (members_in-flat ms)) ∙ ap (λ l. flat_members (members_in l)) (sym e))
 
+-- a text and what stands behind it
+pub split_text-are : (ns values : List Mark) (k : List ℕ) → Some (k, values) ≡ split_text ns → ns ≡ string k ∷ values
+split_text-are [] values k e = cc
+split_text-are (nothing ∷ ns) values k e = cc
+split_text-are (truth b ∷ ns) values k e = cc
+split_text-are (number n c ∷ ns) values k e = cc
+split_text-are (string s ∷ ns) values k e = let h : (k, values) ≡ (s, ns) = cc in ap (λ (p : List ℕ × List Mark). string p.0 ∷ p.1) (sym h)
+split_text-are (array l m ∷ ns) values k e = cc
+split_text-are (object l m ∷ ns) values k e = cc
+
+-- members begin with no text where there are none
+pub no_members-left : (ns : List Mark) → AreMembers ns → split_text ns ≡ None → ns ≡ []
+no_members-left ns a e = cases (members_in ns) a
+  where
+    cases : (ms : Members) → ns ≡ flat_members ms → ns ≡ []
+    cases no_members f = f
+    cases (member k t ms) f = let g = sym (ap (λ l. split_text l) f) ∙ e in cc
+
 -- what stands behind the first key begins with a tree
-pub BeginsTree-member : (ns values : List Mark) (m : Mark) → AreMembers ns → ns ≡ m ∷ values → (BeginsTree values) × ((k : List ℕ) × (m ≡ string k))
-BeginsTree-member ns values m a e =
+pub BeginsTree-member : (ns values : List Mark) (k : List ℕ) → AreMembers ns → ns ≡ string k ∷ values → BeginsTree values
+BeginsTree-member ns values k a e =
     let f = first_member ns a (omega (arith, ap (λ (l : List Mark). length l) e)) in
-    let both : m ∷ values ≡ string f.name ∷ (flat f.tree ++ flat_members f.others) = sym e ∙ f.are in
-    (record { tree = f.tree; rest = flat_members f.others; are = ap (λ l. drop 1 l) both }, (f.name, ap (λ l. get_or l 0 m) both))
+    let both : string k ∷ values ≡ string f.name ∷ (flat f.tree ++ flat_members f.others) = sym e ∙ f.are in
+    record { tree = f.tree; rest = flat_members f.others; are = ap (λ l. drop 1 l) both }
 
 -- a step over the first of some members
 pub record NextMember (ns : List Mark) (name : List ℕ) (first rest : List Mark) : Type 0 where
@@ -182,15 +198,3 @@ pub slice_get-listed : (is : Items) (i : ℕ) → slice_get (listed is) i ≡ nt
 slice_get-listed no_items i = refl
 slice_get-listed (item t is) zero = refl
 slice_get-listed (item t is) (suc i) = slice_get-listed is i
-
--- a node that means a text is one
-pub string_node : (n : Node) (k : List ℕ) → mark n ≡ string k → ((x : Bor (List ℕ)) → n ≡ String x → ⊥) → ⊥
-string_node (Static Null) k e f = cc
-string_node (Static (Bool b)) k e f = cc
-string_node (Static (I64 m)) k e f = cc
-string_node (Static (U64 m)) k e f = cc
-string_node (Static (I128 m)) k e f = cc
-string_node (Static (U128 m)) k e f = cc
-string_node (String s) k e f = f s refl
-string_node (Array l m) k e f = cc
-string_node (Object l m) k e f = cc

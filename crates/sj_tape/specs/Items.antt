@@ -2,18 +2,18 @@
 use Rattle.std.specs.Prelude.{List, map}
 use Rattle.sj_text_core.specs.Tree.{Tree, Items, listed}
 use Rattle.sj_text_core.specs.declared.repeats.Repeats.{Repeats}
-use Rattle.sj_tape.specs.Marks.{marks}
+use Rattle.sj_tape.specs.Stretches.{nodes_in}
 use Rattle.sj_tape.specs.Parts.{items_in}
 use Rattle.sj_tape.specs.declared.array.Array.{Array}
 use Rattle.sj_tape.specs.declared.array.Iter.{Iter}
 
 -- the items of an array
 abbrev pub items : Array → Items
-items a = items_in (marks a.nodes.now)
+items a = items_in (nodes_in a.nodes)
 
 -- the items that an iterator has left
 abbrev pub items_ahead : Iter → List Tree
-items_ahead it = listed (items_in (marks it.nodes.now))
+items_ahead it = listed (items_in (nodes_in it.nodes))
 
 -- which member of several with one key counts in the items
 abbrev pub array_choice : Array → Repeats

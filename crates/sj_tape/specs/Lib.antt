@@ -1,12 +1,16 @@
 pub mod Marks
+pub mod Whole
+pub mod Stretches
 pub mod Gives
 pub mod Room
 pub mod Run
+pub mod Lanes
 pub mod Parts
 pub mod Fronts
 pub mod Value
 pub mod Items
 pub mod Members
+pub mod PackedTree
 pub mod Lookup
 pub use Rattle.sj_text_core.specs.Tree
 pub use Rattle.sj_text_core.specs.Grammar

@@ -3,7 +3,7 @@ use Rattle.std.specs.Prelude.{ℕ, List, map}
 use Rattle.sj_text_core.specs.Tree.{Tree, Members, paired}
 use Rattle.sj_text_core.specs.Nodes.{members_in}
 use Rattle.sj_text_core.specs.declared.repeats.Repeats.{Repeats}
-use Rattle.sj_tape.specs.Marks.{marks}
+use Rattle.sj_tape.specs.Stretches.{nodes_in}
 use Rattle.sj_tape.specs.declared.object.Object.{Object}
 use Rattle.sj_tape.specs.declared.object.Iter.{Iter}
 use Rattle.sj_tape.specs.declared.object.Keys.{Keys}
@@ -11,11 +11,11 @@ use Rattle.sj_tape.specs.declared.object.Values.{Values}
 
 -- the members of an object, repeats too
 abbrev pub members : Object → Members
-members o = members_in (marks o.nodes.now)
+members o = members_in (nodes_in o.nodes)
 
 -- the members that an iterator has left
 abbrev pub members_ahead : Iter → List (List ℕ × Tree)
-members_ahead it = paired (members_in (marks it.nodes.now))
+members_ahead it = paired (members_in (nodes_in it.nodes))
 
 -- the keys that an iterator has left
 abbrev pub keys_ahead : Keys → List (List ℕ)

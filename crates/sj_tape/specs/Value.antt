@@ -5,12 +5,12 @@ use Rattle.sj_text_core.specs.Nodes.{tree_of}
 use Rattle.sj_text_core.specs.Print.{compact}
 use Rattle.sj_text_core.specs.Repeats.{find_by}
 use Rattle.sj_text_core.specs.declared.repeats.Repeats.{Repeats}
-use Rattle.sj_tape.specs.Marks.{marks}
+use Rattle.sj_tape.specs.Stretches.{nodes_in}
 use Rattle.sj_tape.specs.declared.value.Value.{Value}
 
 -- the tree that a part of a tape lists
 abbrev pub tree : Value → Tree
-tree v = tree_of (marks v.nodes.now)
+tree v = tree_of (nodes_in v.nodes)
 
 -- which member of several with one key counts in the part
 abbrev pub choice : Value → Repeats

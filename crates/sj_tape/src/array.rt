@@ -4,10 +4,10 @@ ghost use Rattle.std.specs.Prelude.{◌≡◌};
 ghost use Rattle.std.specs.Coded.{Coded-set, coded_list};
 ghost use Rattle.sj_text_core.specs.Code.{mark_code};
 ghost use Rattle.sj_text_core.specs.Tree.{items_len};
-ghost use Rattle.sj_tape.specs.Marks.{marks};
+ghost use Rattle.sj_tape.specs.Stretches.{nodes_in};
 ghost use Rattle.sj_tape.specs.Parts.{AreItemNodes, items_in};
 
-use crate::node::Node;
+use crate::nodes::Nodes;
 use crate::step::split_tree;
 use crate::value::Value;
 use sj_text_core::Repeats;
@@ -16,10 +16,10 @@ use sj_text_core::Repeats;
 #[derive(Clone, Copy, Debug)]
 pub struct Array<'t, 'i> {
     len: usize,
-    nodes: &'t [Node<'i>],
+    nodes: Nodes<'t, 'i>,
     repeats: Repeats,
-    ghost whole: { AreItemNodes (marks nodes.now) } by { Coded-set (coded_list mark_code) _ _ },
-    ghost counted: { len ≡ items_len (items_in (marks nodes.now)) },
+    ghost whole: { AreItemNodes (nodes_in nodes) } by { Coded-set (coded_list mark_code) _ _ },
+    ghost counted: { len ≡ items_len (items_in (nodes_in nodes)) },
 }
 
 impl<'t, 'i> Array<'t, 'i> {
@@ -31,10 +31,11 @@ impl<'t, 'i> Array<'t, 'i> {
     ghost use Rattle.sj_tape.specs.Items.{items, items_ahead, parts_ahead, array_choice};
 
     /// The array with so many items, whose nodes are these.
-    pub(crate) fn from_nodes(len: usize, nodes: &'t [Node<'i>], repeats: Repeats) -> Self
-        requires whole { AreItemNodes (marks nodes.now) }
-        requires counted { len ≡ items_len (items_in (marks nodes.now)) }
-        ensures items { items result ≡ items_in (marks nodes.now) }
+    #[inline(always)]
+    pub(crate) fn from_nodes(len: usize, nodes: Nodes<'t, 'i>, repeats: Repeats) -> Self
+        requires whole { AreItemNodes (nodes_in nodes) }
+        requires counted { len ≡ items_len (items_in (nodes_in nodes)) }
+        ensures items { items result ≡ items_in (nodes_in nodes.entry) }
         ensures choice { array_choice result ≡ repeats }
     {
         Array {
@@ -59,6 +60,7 @@ impl<'t, 'i> Array<'t, 'i> {
     }
 
     /// The items in order.
+    #[inline(always)]
     pub fn iter(&self) -> Iter<'t, 'i>
         ensures items { items_ahead result ≡ listed (items self.now) }
         ensures parts { parts_ahead result ≡ map (λ t. (array_choice self.now, t)) (listed (items self.now)) }
@@ -74,16 +76,21 @@ impl<'t, 'i> Array<'t, 'i> {
         ensures value { option_map tree result ≡ nth_item index (items self.now) }
         ensures choice { IfSome result (λ v. choice v ≡ array_choice self.now) }
     {
-        self.iter().nth(index)
+        if index >= self.len {
+            return None;
+        }
+        let behind = self.nodes.from(self.nodes.item_place(index));
+        let (first, _) = split_tree(behind);
+        Some(Value::from_nodes(first, self.repeats))
     }
 }
 
 /// The items of an array in order, as parts of the tape.
 #[derive(Debug, Drop)]
 pub struct Iter<'t, 'i> {
-    nodes: &'t [Node<'i>],
+    nodes: Nodes<'t, 'i>,
     repeats: Repeats,
-    ghost whole: { AreItemNodes (marks nodes.now) } by { Coded-set (coded_list mark_code) _ _ },
+    ghost whole: { AreItemNodes (nodes_in nodes) } by { Coded-set (coded_list mark_code) _ _ },
 }
 
 impl<'t, 'i> Iterator for Iter<'t, 'i> {
@@ -97,12 +104,12 @@ impl<'t, 'i> Iterator for Iter<'t, 'i> {
 
     ghost remaining = { item_count parts_ahead };
 
+    #[inline(always)]
     fn next(&mut self) -> Option<Value<'t, 'i>> {
-        let nodes: &'t [Node<'i>] = self.nodes;
-        if nodes.is_empty() {
+        if self.nodes.is_empty() {
             return None;
         }
-        let (first, rest) = split_tree(nodes);
+        let (first, rest) = split_tree(self.nodes);
         let repeats = self.repeats;
         *self = Iter {
             nodes: rest,

@@ -19,8 +19,11 @@
 
 pub mod array;
 pub mod laws;
+mod list;
 mod node;
+mod nodes;
 pub mod object;
+mod packed;
 mod preorder;
 mod reader;
 mod search;
@@ -30,6 +33,7 @@ mod value;
 
 pub use array::Array;
 pub use node::Node;
+pub use nodes::Nodes;
 pub use object::Object;
 pub use reader::{Buffers, DEPTH_LIMIT, to_tape, to_tape_with_buffers};
 pub use sj_print::{

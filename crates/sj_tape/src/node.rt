@@ -1,5 +1,10 @@
 //! Nodes.
 
+ghost use Rattle.std.specs.Prelude.{◌≡◌, ◌^◌, ◌<◌};
+ghost use Rattle.sj_text_core.specs.Nodes.{width};
+ghost use Rattle.sj_tape.specs.Marks.{mark};
+
+use crate::list::Kept;
 use sj_text_core::StaticNode;
 
 /// One node of a tape.
@@ -13,4 +18,40 @@ pub enum Node<'i> {
     Array { len: usize, count: usize },
     /// An object: how many members it has, and how many nodes follow inside it.
     Object { len: usize, count: usize },
+}
+
+impl<'i> Node<'i> {
+    /// How many nodes the tree has that begins with it.
+    #[inline(always)]
+    pub fn width(&self) -> usize
+        requires { width (mark self.now) < 2 ^ 64 }
+        ensures { result ≡ width (mark self.now) }
+    {
+        match *self {
+            Node::Array { count, .. } | Node::Object { count, .. } => 1 + count,
+            Node::Static(_) | Node::String(_) => 1,
+        }
+    }
+}
+
+impl<'i> Kept<'i> for Node<'i> {
+    ghost mark_of = { mark };
+
+    #[inline(always)]
+    fn node(self) -> Node<'i> {
+        self
+    }
+
+    #[inline(always)]
+    fn width(&self) -> usize {
+        Node::width(self)
+    }
+
+    #[inline(always)]
+    fn text(&self) -> Option<&'i str> {
+        match *self {
+            Node::String(text) => Some(text),
+            Node::Static(_) | Node::Array { .. } | Node::Object { .. } => None,
+        }
+    }
 }

@@ -5,9 +5,9 @@ ghost use Rattle.std.specs.Coded.{Coded-set, coded_list};
 ghost use Rattle.sj_text_core.specs.Code.{mark_code};
 ghost use Rattle.sj_text_core.specs.Nodes.{AreMembers, members_in};
 ghost use Rattle.sj_text_core.specs.Tree.{members_len};
-ghost use Rattle.sj_tape.specs.Marks.{marks};
+ghost use Rattle.sj_tape.specs.Stretches.{nodes_in};
 
-use crate::node::Node;
+use crate::nodes::Nodes;
 use crate::step::split_tree;
 use crate::value::Value;
 use sj_text_core::{Repeats, are_same_bytes};
@@ -24,10 +24,10 @@ fn is_named(name: &str, key: &str) -> bool
 #[derive(Clone, Copy, Debug)]
 pub struct Object<'t, 'i> {
     len: usize,
-    nodes: &'t [Node<'i>],
+    nodes: Nodes<'t, 'i>,
     repeats: Repeats,
-    ghost whole: { AreMembers (marks nodes.now) } by { Coded-set (coded_list mark_code) _ _ },
-    ghost counted: { len ≡ members_len (members_in (marks nodes.now)) },
+    ghost whole: { AreMembers (nodes_in nodes) } by { Coded-set (coded_list mark_code) _ _ },
+    ghost counted: { len ≡ members_len (members_in (nodes_in nodes)) },
 }
 
 impl<'t, 'i> Object<'t, 'i> {
@@ -41,10 +41,11 @@ impl<'t, 'i> Object<'t, 'i> {
     ghost use Rattle.sj_tape.specs.Value.{tree, choice};
 
     /// The object with so many members, whose nodes are these.
-    pub(crate) fn from_nodes(len: usize, nodes: &'t [Node<'i>], repeats: Repeats) -> Self
-        requires whole { AreMembers (marks nodes.now) }
-        requires counted { len ≡ members_len (members_in (marks nodes.now)) }
-        ensures members { members result ≡ members_in (marks nodes.now) }
+    #[inline(always)]
+    pub(crate) fn from_nodes(len: usize, nodes: Nodes<'t, 'i>, repeats: Repeats) -> Self
+        requires whole { AreMembers (nodes_in nodes) }
+        requires counted { len ≡ members_len (members_in (nodes_in nodes)) }
+        ensures members { members result ≡ members_in (nodes_in nodes.entry) }
         ensures choice { object_choice result ≡ repeats }
     {
         Object {
@@ -69,6 +70,7 @@ impl<'t, 'i> Object<'t, 'i> {
     }
 
     /// The members in order, repeats too.
+    #[inline(always)]
     pub fn iter(&self) -> Iter<'t, 'i>
         ensures members { members_ahead result ≡ paired (members self.now) }
         ensures parts { parts_ahead result ≡ chosen (object_choice self.now) (paired (members self.now)) }
@@ -161,9 +163,9 @@ impl<'t, 'i> Object<'t, 'i> {
 /// The members of an object in order, as keys and parts of the tape.
 #[derive(Debug, Drop)]
 pub struct Iter<'t, 'i> {
-    nodes: &'t [Node<'i>],
+    nodes: Nodes<'t, 'i>,
     repeats: Repeats,
-    ghost whole: { AreMembers (marks nodes.now) } by { Coded-set (coded_list mark_code) _ _ },
+    ghost whole: { AreMembers (nodes_in nodes) } by { Coded-set (coded_list mark_code) _ _ },
 }
 
 impl<'t, 'i> Iterator for Iter<'t, 'i> {
@@ -177,12 +179,9 @@ impl<'t, 'i> Iterator for Iter<'t, 'i> {
 
     ghost remaining = { item_count parts_ahead };
 
+    #[inline(always)]
     fn next(&mut self) -> Option<(&'i str, Value<'t, 'i>)> {
-        let nodes: &'t [Node<'i>] = self.nodes;
-        let (key, values) = nodes.split_first()?;
-        let Node::String(name) = *key else {
-            unreachable!()
-        };
+        let (name, values) = self.nodes.split_text()?;
         let (value, rest) = split_tree(values);
         let repeats = self.repeats;
         *self = Iter {

@@ -6,7 +6,6 @@ ghost use Rattle.sj_tape.specs.Fronts.{BeginsTree, AllBegin, IsText, BeginsItems
 ghost use Rattle.sj_tape.specs.Marks.{mark, marks};
 
 use crate::node::Node;
-use crate::step::{split_tree, width_of};
 
 /// How many nodes the first `len` items have; None where there are fewer.
 fn items_width(nodes: &[Node], len: usize) -> Option<usize>
@@ -19,7 +18,7 @@ fn items_width(nodes: &[Node], len: usize) -> Option<usize>
         if at >= nodes.len() {
             return None;
         }
-        at += width_of(&nodes[at]);
+        at += nodes[at].width();
     }
     Some(at)
 }
@@ -44,7 +43,7 @@ fn members_width(nodes: &[Node], len: usize) -> Option<usize>
         if at + 1 >= nodes.len() || !is_text(nodes[at]) {
             return None;
         }
-        at += 1 + width_of(&nodes[at + 1]);
+        at += 1 + nodes[at + 1].width();
     }
     Some(at)
 }
@@ -71,5 +70,5 @@ pub(crate) fn is_preorder(nodes: &[Node]) -> bool
             return false;
         }
     }
-    !nodes.is_empty() && split_tree(nodes).1.is_empty()
+    !nodes.is_empty() && nodes[0].width() == nodes.len()
 }

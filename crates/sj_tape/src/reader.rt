@@ -3,6 +3,7 @@
 mod blank;
 mod buffers;
 mod digit;
+mod digits;
 mod escape;
 mod nodes;
 mod number;
@@ -79,5 +80,5 @@ fn read<'i>(alloc: Global, bytes: &'i mut [u8], room: &mut usize) -> Result<Tape
     let mut nodes = Vec::with_capacity(alloc, most.min(*room))?;
     whole(bytes, DEPTH_LIMIT, &mut nodes)?;
     *room = nodes.len().max(*room);
-    Ok(Tape::from_nodes(nodes))
+    Ok(Tape::from_packed(nodes))
 }

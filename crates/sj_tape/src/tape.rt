@@ -1,6 +1,9 @@
 //! Tapes.
 
+use crate::list::List;
 use crate::node::Node;
+use crate::nodes::Nodes;
+use crate::packed::Packed;
 use crate::preorder::is_preorder;
 use crate::value::Value;
 use sj_text_core::{BadTape, Refused, Repeats};
@@ -9,28 +12,28 @@ use std::marker::Model;
 /// The nodes of one tree in preorder.
 #[derive(Debug, Drop)]
 pub struct Tape<'i> {
-    nodes: Vec<Node<'i>>,
+    nodes: List<'i>,
 }
 
 impl<'i> Model for Tape<'i> {
     ghost use Rattle.sj_text_core.specs.Tree.{Tree};
     ghost use Rattle.sj_text_core.specs.Code.{tree_code};
     ghost use Rattle.sj_text_core.specs.Nodes.{tree_of, IsPreorder};
-    ghost use Rattle.sj_tape.specs.Marks.{marks};
+    ghost use Rattle.sj_tape.specs.Whole.{list_nodes};
 
     ghost Value = { Tree };
 
     ghost coded = { tree_code };
 
-    ghost view = { λ t. tree_of (marks t.nodes.items) };
+    ghost view = { λ t. tree_of (list_nodes t.nodes) };
 
-    ghost invariant = { λ t. IsPreorder (marks t.nodes.items) };
+    ghost invariant = { λ t. IsPreorder (list_nodes t.nodes) };
 }
 
 impl<'i> Tape<'i> {
     ghost use Rattle.std.specs.Prelude.{◌≡◌, ◌↔◌, IsOk, IfOk, IfErr};
     ghost use Rattle.sj_text_core.specs.Nodes.{flat, tree_of, IsPreorder};
-    ghost use Rattle.sj_tape.specs.Marks.{marks};
+    ghost use Rattle.sj_tape.specs.Marks.{marks, packed_marks};
     ghost use Rattle.sj_tape.specs.Value.{tree, choice};
 
     /// The tape of the nodes, where they are the preorder of one tree, of any depth.
@@ -43,7 +46,9 @@ impl<'i> Tape<'i> {
         ensures back { IfErr result (λ r. r.value.items ≡ nodes.entry.items) }
     {
         if is_preorder(&nodes) {
-            Ok(Tape { nodes })
+            Ok(Tape {
+                nodes: List::Plain(nodes),
+            })
         } else {
             Err(Refused {
                 why: BadTape,
@@ -52,12 +57,14 @@ impl<'i> Tape<'i> {
         }
     }
 
-    /// The tape of nodes that are a preorder.
-    pub(crate) fn from_nodes(nodes: Vec<Node<'i>>) -> Tape<'i>
-        requires { IsPreorder (marks nodes.items) }
-        ensures { result ≡ tree_of (marks nodes.entry.items) }
+    /// The tape of packed nodes that are a preorder.
+    pub(crate) fn from_packed(nodes: Vec<Packed<'i>>) -> Tape<'i>
+        requires { IsPreorder (packed_marks nodes.items) }
+        ensures { result ≡ tree_of (packed_marks nodes.entry.items) }
     {
-        Tape { nodes }
+        Tape {
+            nodes: List::Packed(nodes),
+        }
     }
 
     /// The whole tape.
@@ -73,6 +80,6 @@ impl<'i> Tape<'i> {
         ensures tree { tree result ≡ self.now }
         ensures choice { choice result ≡ repeats }
     {
-        Value::from_nodes(self.nodes.as_slice(), repeats)
+        Value::from_nodes(Nodes::all(&self.nodes), repeats)
     }
 }

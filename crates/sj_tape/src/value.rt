@@ -4,23 +4,25 @@ ghost use Rattle.std.specs.Prelude.{◌≡◌};
 ghost use Rattle.std.specs.Coded.{Coded-set, coded_list};
 ghost use Rattle.sj_text_core.specs.Code.{mark_code};
 ghost use Rattle.sj_text_core.specs.Nodes.{IsPreorder};
-ghost use Rattle.sj_tape.specs.Marks.{marks};
+ghost use Rattle.sj_tape.specs.Stretches.{nodes_in};
 
 mod access;
 mod cmp;
+mod packed_count;
+mod packed_tree;
 mod scalar;
 mod serialize;
 mod typed;
 
-use crate::node::Node;
-use sj_text_core::{Repeats, StaticNode};
+use crate::nodes::Nodes;
+use sj_text_core::Repeats;
 
 /// A part of a tape, or a null of its own.
 #[derive(Clone, Copy, Debug)]
 pub struct Value<'t, 'i> {
-    nodes: &'t [Node<'i>],
+    nodes: Nodes<'t, 'i>,
     repeats: Repeats,
-    ghost whole: { IsPreorder (marks nodes.now) } by { Coded-set (coded_list mark_code) _ _ },
+    ghost whole: { IsPreorder (nodes_in nodes) } by { Coded-set (coded_list mark_code) _ _ },
 }
 
 impl<'t, 'i> Value<'t, 'i> {
@@ -35,15 +37,16 @@ impl<'t, 'i> Value<'t, 'i> {
         ensures choice { choice result ≡ Repeats.First }
     {
         Value {
-            nodes: &[Node::Static(StaticNode::Null)],
+            nodes: Nodes::null(),
             repeats: Repeats::First,
         }
     }
 
     /// The part with those nodes and that choice.
-    pub(crate) fn from_nodes(nodes: &'t [Node<'i>], repeats: Repeats) -> Self
-        requires { IsPreorder (marks nodes.now) }
-        ensures { part result ≡ (repeats, tree_of (marks nodes.now)) }
+    #[inline(always)]
+    pub(crate) fn from_nodes(nodes: Nodes<'t, 'i>, repeats: Repeats) -> Self
+        requires { IsPreorder (nodes_in nodes) }
+        ensures { part result ≡ (repeats, tree_of (nodes_in nodes.entry)) }
     {
         Value { nodes, repeats }
     }
@@ -56,9 +59,9 @@ impl<'t, 'i> Value<'t, 'i> {
     }
 
     /// The nodes, a preorder.
-    pub fn nodes(&self) -> &'t [Node<'i>]
-        ensures whole { IsPreorder (marks result.now) }
-        ensures tree { tree_of (marks result.now) ≡ tree self.now }
+    pub fn nodes(&self) -> Nodes<'t, 'i>
+        ensures whole { IsPreorder (nodes_in result) }
+        ensures tree { tree_of (nodes_in result) ≡ tree self.now }
     {
         self.nodes
     }

@@ -55,6 +55,7 @@ fn wide_digits(n: u128) -> usize
 }
 
 /// How many bytes the scalar has in print.
+#[inline(always)]
 pub(super) fn static_len(node: StaticNode) -> usize
     ensures utf8 { IsUtf8 (compact (static_tree node)) }
     ensures value { result ≡ length (compact (static_tree node)) }

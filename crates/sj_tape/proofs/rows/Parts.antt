@@ -1,22 +1,26 @@
 -- What parts of tapes, arrays, objects and iterators mean.
 use Rattle.std.proofs.Common.{◌≡◌, ℕ, pos, List, [], ◌∷◌, refl, ap, codes, Some, None, Bor}
 use Rattle.sj_text_core.specs.Tree.{u64, i64, Tree, null, int, text, list, obj, no_items, item, no_members, member, listed, paired}
-use Rattle.sj_text_core.specs.Nodes.{number, array, nothing, tree_of, members_in}
+use Rattle.sj_text_core.specs.Nodes.{number, string, array, object, nothing, tree_of, members_in}
 use Rattle.sj_text_core.specs.declared.repeats.Repeats.TheVariants.{First, Last}
-use Rattle.sj_text_core.specs.declared.static_node.StaticNode.TheVariants.{Null, U64}
 use Rattle.sj_tape.specs.Items.{items, items_ahead, parts_ahead}
-use Rattle.sj_tape.specs.Marks.{marks}
 use Rattle.sj_tape.specs.Members.{members, members_ahead, keys_ahead, values_ahead, chosen, value_parts_ahead}
+use Rattle.sj_tape.specs.Marks.{packed_marks}
+use Rattle.sj_tape.specs.PackedTree.{packed_tree, packed_items, packed_members}
 use Rattle.sj_tape.specs.Parts.{items_in}
+use Rattle.sj_tape.specs.Stretches.{nodes_in}
 use Rattle.sj_tape.specs.Value.{tree, choice, part, found, as_scalar, displayed}
 use Rattle.sj_tape.specs.declared.array.Array.{Array}
 use Rattle.sj_tape.specs.declared.array.Iter.{Iter as ArrayIter}
-use Rattle.sj_tape.specs.declared.node.Node.TheVariants as node
 use Rattle.sj_tape.specs.declared.object.Object.{Object}
 use Rattle.sj_tape.specs.declared.object.Iter.{Iter as ObjectIter}
 use Rattle.sj_tape.specs.declared.object.Keys.{Keys}
 use Rattle.sj_tape.specs.declared.object.Values.{Values}
+use Rattle.sj_tape.specs.declared.packed.Packed.TheVariants as packed
 use Rattle.sj_tape.specs.declared.value.Value.{Value}
+use Rattle.sj_tape.specs.declared.value.packed_tree.PackedTree.{PackedTree}
+use Rattle.sj_tape.specs.declared.value.packed_tree.PackedItems.{PackedItems}
+use Rattle.sj_tape.specs.declared.value.packed_tree.PackedMembers.{PackedMembers}
 
 abbrev one : Tree
 one = int (pos 1) u64
@@ -36,42 +40,52 @@ paired-row : paired (member (codes "a") one (member (codes "b") null (member (co
 paired-row = refl
 
 -- an array of the items 1 and [2], and what its iterator shows
-array-items : (a : Array) → a.nodes.now ≡ node.Static (U64 1) ∷ node.Array 1 1 ∷ node.Static (U64 2) ∷ [] → items a ≡ item one (item (list (item two no_items)) no_items)
-array-items a h = ap (λ ns. items_in (marks ns)) h
+array-items : (a : Array) → nodes_in a.nodes ≡ number (pos 1) u64 ∷ array 1 1 ∷ number (pos 2) u64 ∷ [] → items a ≡ item one (item (list (item two no_items)) no_items)
+array-items a h = ap (λ ns. items_in ns) h
 
-array-ahead : (it : ArrayIter) → it.nodes.now ≡ node.Array 1 1 ∷ node.Static (U64 2) ∷ [] → items_ahead it ≡ list (item two no_items) ∷ []
-array-ahead it h = ap (λ ns. listed (items_in (marks ns))) h
+array-ahead : (it : ArrayIter) → nodes_in it.nodes ≡ array 1 1 ∷ number (pos 2) u64 ∷ [] → items_ahead it ≡ list (item two no_items) ∷ []
+array-ahead it h = ap (λ ns. listed (items_in ns)) h
 
 -- each part carries the choice
-array-parts : (it : ArrayIter) → it.repeats ≡ Last → it.nodes.now ≡ node.Static (U64 1) ∷ node.Static (U64 2) ∷ [] → parts_ahead it ≡ (Last, one) ∷ (Last, two) ∷ []
+array-parts : (it : ArrayIter) → it.repeats ≡ Last → nodes_in it.nodes ≡ number (pos 1) u64 ∷ number (pos 2) u64 ∷ [] → parts_ahead it ≡ (Last, one) ∷ (Last, two) ∷ []
 array-parts it c h = rw (c, h) refl
 
 -- an object of the members a 1, b [2] and a null: all of them, with the keys' texts
-object-members : (o : Object) (a b : Bor (List ℕ)) → o.nodes.now ≡ node.String a ∷ node.Static (U64 1) ∷ node.String b ∷ node.Array 1 1 ∷ node.Static (U64 2) ∷ node.String a ∷ node.Static Null ∷ []
+object-members : (o : Object) (a b : Bor (List ℕ)) → nodes_in o.nodes ≡ string a.now ∷ number (pos 1) u64 ∷ string b.now ∷ array 1 1 ∷ number (pos 2) u64 ∷ string a.now ∷ nothing ∷ []
     → members o ≡ member a.now one (member b.now (list (item two no_items)) (member a.now null no_members))
-object-members o a b h = ap (λ ns. members_in (marks ns)) h
+object-members o a b h = ap (λ ns. members_in ns) h
 
-object-ahead : (it : ObjectIter) (a b : Bor (List ℕ)) → it.nodes.now ≡ node.String a ∷ node.Static (U64 1) ∷ node.String b ∷ node.Static Null ∷ [] → members_ahead it ≡ (a.now, one) ∷ (b.now, null) ∷ []
-object-ahead it a b h = ap (λ ns. paired (members_in (marks ns))) h
+object-ahead : (it : ObjectIter) (a b : Bor (List ℕ)) → nodes_in it.nodes ≡ string a.now ∷ number (pos 1) u64 ∷ string b.now ∷ nothing ∷ [] → members_ahead it ≡ (a.now, one) ∷ (b.now, null) ∷ []
+object-ahead it a b h = ap (λ ns. paired (members_in ns)) h
 
-keys-ahead : (it : Keys) (a b : Bor (List ℕ)) → it.members.nodes.now ≡ node.String a ∷ node.Static (U64 1) ∷ node.String b ∷ node.Static Null ∷ [] → keys_ahead it ≡ a.now ∷ b.now ∷ []
+keys-ahead : (it : Keys) (a b : Bor (List ℕ)) → nodes_in it.members.nodes ≡ string a.now ∷ number (pos 1) u64 ∷ string b.now ∷ nothing ∷ [] → keys_ahead it ≡ a.now ∷ b.now ∷ []
 keys-ahead it a b h = rw h refl
 
-values-ahead : (it : Values) (a b : Bor (List ℕ)) → it.members.nodes.now ≡ node.String a ∷ node.Static (U64 1) ∷ node.String b ∷ node.Static Null ∷ [] → values_ahead it ≡ one ∷ null ∷ []
+values-ahead : (it : Values) (a b : Bor (List ℕ)) → nodes_in it.members.nodes ≡ string a.now ∷ number (pos 1) u64 ∷ string b.now ∷ nothing ∷ [] → values_ahead it ≡ one ∷ null ∷ []
 values-ahead it a b h = rw h refl
 
-value-parts : (it : Values) (a : Bor (List ℕ)) → it.members.repeats ≡ Last → it.members.nodes.now ≡ node.String a ∷ node.Static (U64 1) ∷ [] → value_parts_ahead it ≡ (Last, one) ∷ []
+value-parts : (it : Values) (a : Bor (List ℕ)) → it.members.repeats ≡ Last → nodes_in it.members.nodes ≡ string a.now ∷ number (pos 1) u64 ∷ [] → value_parts_ahead it ≡ (Last, one) ∷ []
 value-parts it a c h = rw (c, h) refl
 
 chosen-row : chosen Last ((codes "a", one) ∷ (codes "b", null) ∷ []) ≡ (codes "a", (Last, one)) ∷ (codes "b", (Last, null)) ∷ []
 chosen-row = refl
 
 -- the part of a tape that begins with an object
-value-tree : (v : Value) (a : Bor (List ℕ)) → v.nodes.now ≡ node.Object 1 2 ∷ node.String a ∷ node.Static (U64 1) ∷ [] → tree v ≡ obj (member a.now one no_members)
-value-tree v a h = ap (λ ns. tree_of (marks ns)) h
+value-tree : (v : Value) (a : Bor (List ℕ)) → nodes_in v.nodes ≡ object 1 2 ∷ string a.now ∷ number (pos 1) u64 ∷ [] → tree v ≡ obj (member a.now one no_members)
+value-tree v a h = ap (λ ns. tree_of ns) h
 
-value-part : (v : Value) → v.repeats ≡ Last → v.nodes.now ≡ node.Static Null ∷ [] → part v ≡ (Last, null)
+value-part : (v : Value) → v.repeats ≡ Last → nodes_in v.nodes ≡ nothing ∷ [] → part v ≡ (Last, null)
 value-part v c h = rw (c, h) refl
+
+-- packed nodes
+packed-tree : (t : PackedTree) (a : Bor (List ℕ)) → t.nodes.now ≡ packed.Object 1 2 ∷ packed.String a ∷ packed.U64 1 ∷ [] → packed_tree t ≡ obj (member a.now one no_members)
+packed-tree t a h = ap (λ ns. tree_of (packed_marks ns)) h
+
+packed-items : (it : PackedItems) → it.nodes.now ≡ packed.Array 1 1 ∷ packed.U64 2 ∷ packed.Null ∷ [] → packed_items it ≡ list (item two no_items) ∷ null ∷ []
+packed-items it h = ap (λ ns. listed (items_in (packed_marks ns))) h
+
+packed-members : (it : PackedMembers) (a b : Bor (List ℕ)) → it.nodes.now ≡ packed.String a ∷ packed.U64 1 ∷ packed.String b ∷ packed.Null ∷ [] → packed_members it ≡ (a.now, one) ∷ (b.now, null) ∷ []
+packed-members it a b h = ap (λ ns. paired (members_in (packed_marks ns))) h
 
 -- {"a":1,"a":2}, by the choice of the part
 found-first : (v : Value) → choice v ≡ First → tree v ≡ obj (member (codes "a") one (member (codes "a") two no_members)) → found v (codes "a") ≡ Some one

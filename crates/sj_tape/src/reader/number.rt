@@ -1,27 +1,14 @@
 //! Whole numbers.
 
-ghost use Rattle.std.specs.Prelude.{◌≡◌, ◌≢◌, ◌+◌, ◌-◌, ◌<◌, ◌≤◌, ◌%◌, ◌^◌, ℕ, Some, None, true, length, get_or, drop, IfOk, IfErr, IfSome, OnErr, MatchOption, option_map, EachIndex, slice_index, slice_range};
+ghost use Rattle.std.specs.Prelude.{◌≡◌, ◌≢◌, ◌<◌, ◌≤◌, ◌%◌, ◌^◌, Some, None, true, length, get_or, drop, IfOk, IfErr, IfSome, OnErr, MatchOption, option_map, EachIndex, slice_index};
 ghost use Rattle.sj_text_core.specs.Parse as parse;
 ghost use Rattle.sj_text_core.specs.Grammar.{value_of, number_of};
 ghost use Rattle.sj_text_core.specs.Scalars.{static_tree};
 
 use crate::reader::blank::byte_at;
+use crate::reader::digits::digits;
 use core::dec2flt::{read_digits, ten_to};
 use sj_text_core::{ErrorKind, StaticNode};
-
-/// The first place from `at` on that is no digit, and the last 64 bits of what the digits write.
-#[inline(always)]
-fn digits(bytes: &[u8], at: usize) -> (usize, u64)
-    requires { at ≤ length bytes.now }
-    ensures low { at ≤ result.0 }
-    ensures high { result.0 ≤ length bytes.now }
-    ensures count { parse.digits_len (drop at bytes.now) ≡ result.0 - at }
-    ensures digits { (k : ℕ) → at ≤ k → k < result.0 → (48 ≤ slice_index bytes.now k) × (slice_index bytes.now k ≤ 57) }
-    ensures value { result.1 ≡ value_of (slice_range bytes.now at result.0) % 2 ^ 64 }
-    ensures bound { value_of (slice_range bytes.now at result.0) < 10 ^ (result.0 - at) }
-{
-    read_digits(bytes, at, 0)
-}
 
 /// The number that at most 19 digits write.
 #[inline(always)]
@@ -132,8 +119,11 @@ pub(crate) fn short(bytes: &[u8]) -> Option<(StaticNode, usize)>
     ensures within { IfSome result (λ p. (0 < p.1) × (p.1 ≤ length bytes.now)) }
     ensures some { IfSome result (λ p. parse.number_at bytes.now ≡ Some (static_tree p.0, drop p.1 bytes.now)) }
 {
-    let is_negative = bytes[0] == b'-';
-    short_numeral(bytes, usize::from(is_negative), is_negative)
+    if bytes[0] == b'-' {
+        short_numeral(bytes, 1, true)
+    } else {
+        short_numeral(bytes, 0, false)
+    }
 }
 
 /// The same of the digits that stand at `at`.

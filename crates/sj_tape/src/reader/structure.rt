@@ -38,7 +38,7 @@ pub(crate) struct Stop {
     pub(crate) next: usize,
 }
 
-/// The separator behind a part that ends at `at`.
+/// The separator behind a part that ends at `at`: most often a comma right there.
 #[inline(always)]
 pub(crate) fn separator(bytes: &[u8], at: usize, close: u8) -> Stop
     requires at { at ≤ length bytes.now }
@@ -47,6 +47,12 @@ pub(crate) fn separator(bytes: &[u8], at: usize, close: u8) -> Stop
     ensures close { result.behind ≡ Behind.Close → (at < result.next) × (result.next ≤ length bytes.now) × (parse.separator_at close (drop at bytes.now) ≡ Some (false, drop result.next bytes.now)) }
     ensures other { result.behind ≡ Behind.Other → parse.separator_at close (drop at bytes.now) ≡ None }
 {
+    if byte_at(bytes, at) == b',' {
+        return Stop {
+            behind: Behind::Comma,
+            next: skip(bytes, at + 1),
+        };
+    }
     let place = skip(bytes, at);
     let byte = byte_at(bytes, place);
     if byte == b',' {

@@ -4,11 +4,12 @@
 ghost use Rattle.std.specs.Prelude.{◌≡◌, ◌≢◌, ◌+◌, ◌-◌, ◌<◌, ◌≤◌, ◌++◌, Some, None, false, length, get_or, take, drop, IfOk, IfErr, OnErr, IsUtf8, slice_range};
 ghost use Rattle.std.specs.Char.{encode_utf8};
 ghost use Rattle.sj_tape.specs.Gives.{EndsUtf8, GivesText};
-ghost use Rattle.sj_tape.specs.Marks.{marks};
+ghost use Rattle.sj_tape.specs.Marks.{packed_marks};
 ghost use Rattle.sj_text_core.specs.Parse as parse;
 ghost use Rattle.sj_print.specs.Runs.{is_plain};
 
 use crate::node::Node;
+use crate::packed::Packed;
 use crate::reader::escape::escape;
 use crate::reader::nodes::push_node;
 use crate::reader::run::plain_end;
@@ -20,10 +21,10 @@ use std::str::from_utf8_unchecked;
 #[inline(always)]
 pub(crate) fn text<'i>(
     rest: &'i mut [u8],
-    nodes: &mut Vec<Node<'i>>,
+    nodes: &mut Vec<Packed<'i>>,
 ) -> Result<&'i mut [u8], ErrorKind>
     requires { IsUtf8 rest.old }
-    ensures ok { IfOk result (λ r. GivesText (parse.text_at rest.old) r.now (marks nodes.old.items) (marks nodes.new.items)) }
+    ensures ok { IfOk result (λ r. GivesText (parse.text_at rest.old) r.now (packed_marks nodes.old.items) (packed_marks nodes.new.items)) }
     ensures shorter { IfOk result (λ r. length r.now < length rest.old) }
     ensures ends { IfOk result (λ r. EndsUtf8 r.now) }
     ensures err { IfErr result (λ e. e ≢ ErrorKind.OutOfMemory → parse.text_at rest.old ≡ None) }

@@ -4,10 +4,11 @@
 ghost use Rattle.std.specs.Prelude.{◌≡◌, ◌≢◌, ◌<◌, ◌≤◌, Some, None, [], length, get_or, drop, IfOk, IfErr, OnOk, OnErr, IsUtf8};
 ghost use Rattle.sj_text_core.specs.Scalars.{static_tree};
 ghost use Rattle.sj_tape.specs.Gives.{EndsUtf8, Gives, GivesItems, GivesMember, GivesMembers, Scans};
-ghost use Rattle.sj_tape.specs.Marks.{marks};
+ghost use Rattle.sj_tape.specs.Marks.{packed_marks};
 ghost use Rattle.sj_text_core.specs.Parse as parse;
 
 use crate::node::Node;
+use crate::packed::Packed;
 use crate::reader::blank::{byte_at, skip};
 use crate::reader::nodes::{count, push_node, set_node};
 use crate::reader::number::{number, short};
@@ -19,12 +20,12 @@ use sj_text_core::{ErrorKind, StaticNode};
 #[inline(always)]
 fn text_or_number<'i>(
     rest: &'i mut [u8],
-    nodes: &mut Vec<Node<'i>>,
+    nodes: &mut Vec<Packed<'i>>,
 ) -> Result<&'i mut [u8], ErrorKind>
     requires some { 0 < length rest.old }
     requires first { get_or rest.old 0 0 ≤ 57 }
     requires ends { EndsUtf8 rest.old }
-    ensures ok { IfOk result (λ r. Gives (parse.value_by parse.nothing_at parse.nothing_at rest.old) r.now (marks nodes.old.items) (marks nodes.new.items)) }
+    ensures ok { IfOk result (λ r. Gives (parse.value_by parse.nothing_at parse.nothing_at rest.old) r.now (packed_marks nodes.old.items) (packed_marks nodes.new.items)) }
     ensures shorter { IfOk result (λ r. length r.now < length rest.old) }
     ensures ends { IfOk result (λ r. EndsUtf8 r.now) }
     ensures err { IfErr result (λ e. e ≢ ErrorKind.OutOfMemory → parse.value_by parse.nothing_at parse.nothing_at rest.old ≡ None) }
@@ -35,8 +36,7 @@ fn text_or_number<'i>(
         return text(inside, nodes);
     }
     let Some((number, end)) = short(rest) else {
-        let rest = any_number(rest, nodes)?;
-        return Ok(rest);
+        return long_number(rest, nodes);
     };
     push_node(nodes, Node::Static(number))?;
     let (_, rest) = rest.split_at_mut(end);
@@ -45,12 +45,15 @@ fn text_or_number<'i>(
 
 /// Reads the number at the front, of whatever length.
 #[inline(never)]
-fn any_number<'i>(rest: &'i mut [u8], nodes: &mut Vec<Node<'i>>) -> Result<&'i mut [u8], ErrorKind>
+fn any_number<'i>(
+    rest: &'i mut [u8],
+    nodes: &mut Vec<Packed<'i>>,
+) -> Result<&'i mut [u8], ErrorKind>
     requires some { 0 < length rest.old }
     requires first { get_or rest.old 0 0 ≤ 57 }
     requires no_text { get_or rest.old 0 0 ≢ 34 }
     requires ends { EndsUtf8 rest.old }
-    ensures ok { IfOk result (λ r. Gives (parse.value_by parse.nothing_at parse.nothing_at rest.old) r.now (marks nodes.old.items) (marks nodes.new.items)) }
+    ensures ok { IfOk result (λ r. Gives (parse.value_by parse.nothing_at parse.nothing_at rest.old) r.now (packed_marks nodes.old.items) (packed_marks nodes.new.items)) }
     ensures shorter { IfOk result (λ r. length r.now < length rest.old) }
     ensures ends { IfOk result (λ r. EndsUtf8 r.now) }
     ensures err { IfErr result (λ e. e ≢ ErrorKind.OutOfMemory → parse.value_by parse.nothing_at parse.nothing_at rest.old ≡ None) }
@@ -59,6 +62,26 @@ fn any_number<'i>(rest: &'i mut [u8], nodes: &mut Vec<Node<'i>>) -> Result<&'i m
     let (number, end) = number(rest)?;
     push_node(nodes, Node::Static(number))?;
     let (_, rest) = rest.split_at_mut(end);
+    Ok(rest)
+}
+
+/// The same, apart from the way of the short ones: what it keeps for the answer is not made there.
+#[inline(always)]
+fn long_number<'i>(
+    rest: &'i mut [u8],
+    nodes: &mut Vec<Packed<'i>>,
+) -> Result<&'i mut [u8], ErrorKind>
+    requires some { 0 < length rest.old }
+    requires first { get_or rest.old 0 0 ≤ 57 }
+    requires no_text { get_or rest.old 0 0 ≢ 34 }
+    requires ends { EndsUtf8 rest.old }
+    ensures ok { IfOk result (λ r. Gives (parse.value_by parse.nothing_at parse.nothing_at rest.old) r.now (packed_marks nodes.old.items) (packed_marks nodes.new.items)) }
+    ensures shorter { IfOk result (λ r. length r.now < length rest.old) }
+    ensures ends { IfOk result (λ r. EndsUtf8 r.now) }
+    ensures err { IfErr result (λ e. e ≢ ErrorKind.OutOfMemory → parse.value_by parse.nothing_at parse.nothing_at rest.old ≡ None) }
+    ensures kind { IfErr result (λ e. e ≢ ErrorKind.InvalidUtf8) }
+{
+    let rest = any_number(rest, nodes)?;
     Ok(rest)
 }
 
@@ -84,13 +107,13 @@ fn word(bytes: &[u8]) -> Result<(StaticNode, usize), ErrorKind>
 
 /// Reads the word at the front.
 #[inline(never)]
-fn any_word<'i>(rest: &'i mut [u8], nodes: &mut Vec<Node<'i>>) -> Result<&'i mut [u8], ErrorKind>
+fn any_word<'i>(rest: &'i mut [u8], nodes: &mut Vec<Packed<'i>>) -> Result<&'i mut [u8], ErrorKind>
     requires some { 0 < length rest.old }
     requires first { 57 < get_or rest.old 0 0 }
     requires no_list { get_or rest.old 0 0 ≢ 91 }
     requires no_object { get_or rest.old 0 0 ≢ 123 }
     requires ends { EndsUtf8 rest.old }
-    ensures ok { IfOk result (λ r. Gives (parse.value_by parse.nothing_at parse.nothing_at rest.old) r.now (marks nodes.old.items) (marks nodes.new.items)) }
+    ensures ok { IfOk result (λ r. Gives (parse.value_by parse.nothing_at parse.nothing_at rest.old) r.now (packed_marks nodes.old.items) (packed_marks nodes.new.items)) }
     ensures shorter { IfOk result (λ r. length r.now < length rest.old) }
     ensures ends { IfOk result (λ r. EndsUtf8 r.now) }
     ensures err { IfErr result (λ e. e ≢ ErrorKind.OutOfMemory → parse.value_by parse.nothing_at parse.nothing_at rest.old ≡ None) }
@@ -109,10 +132,10 @@ fn any_word<'i>(rest: &'i mut [u8], nodes: &mut Vec<Node<'i>>) -> Result<&'i mut
 fn value<'i>(
     rest: &'i mut [u8],
     depth: usize,
-    nodes: &mut Vec<Node<'i>>,
+    nodes: &mut Vec<Packed<'i>>,
 ) -> Result<&'i mut [u8], ErrorKind>
     requires { EndsUtf8 rest.old }
-    ensures ok { IfOk result (λ r. Gives (parse.value_at depth rest.old) r.now (marks nodes.old.items) (marks nodes.new.items)) }
+    ensures ok { IfOk result (λ r. Gives (parse.value_at depth rest.old) r.now (packed_marks nodes.old.items) (packed_marks nodes.new.items)) }
     ensures shorter { IfOk result (λ r. length r.now < length rest.old) }
     ensures ends { IfOk result (λ r. EndsUtf8 r.now) }
     ensures err { IfErr result (λ e. e ≢ ErrorKind.OutOfMemory → parse.value_at depth rest.old ≡ None) }
@@ -126,6 +149,28 @@ fn value<'i>(
         let left = text_or_number(rest, nodes)?;
         return Ok(left);
     }
+    let left = other_value(rest, depth, nodes)?;
+    Ok(left)
+}
+
+/// Reads the array, the object or the word at the front.
+#[cycle(read)]
+#[inline(always)]
+fn other_value<'i>(
+    rest: &'i mut [u8],
+    depth: usize,
+    nodes: &mut Vec<Packed<'i>>,
+) -> Result<&'i mut [u8], ErrorKind>
+    requires some { 0 < length rest.old }
+    requires first { 57 < get_or rest.old 0 0 }
+    requires ends { EndsUtf8 rest.old }
+    ensures ok { IfOk result (λ r. Gives (parse.value_at depth rest.old) r.now (packed_marks nodes.old.items) (packed_marks nodes.new.items)) }
+    ensures shorter { IfOk result (λ r. length r.now < length rest.old) }
+    ensures ends { IfOk result (λ r. EndsUtf8 r.now) }
+    ensures err { IfErr result (λ e. e ≢ ErrorKind.OutOfMemory → parse.value_at depth rest.old ≡ None) }
+    ensures kind { IfErr result (λ e. e ≢ ErrorKind.InvalidUtf8) }
+{
+    let byte = rest[0];
     if byte == b'[' {
         if depth == 0 {
             return Err(ErrorKind::TooDeep);
@@ -152,10 +197,10 @@ fn value<'i>(
 fn array<'i>(
     rest: &'i mut [u8],
     depth: usize,
-    nodes: &mut Vec<Node<'i>>,
+    nodes: &mut Vec<Packed<'i>>,
 ) -> Result<&'i mut [u8], ErrorKind>
     requires { EndsUtf8 rest.old }
-    ensures ok { IfOk result (λ r. Gives (parse.list_at (parse.value_at depth) rest.old) r.now (marks nodes.old.items) (marks nodes.new.items)) }
+    ensures ok { IfOk result (λ r. Gives (parse.list_at (parse.value_at depth) rest.old) r.now (packed_marks nodes.old.items) (packed_marks nodes.new.items)) }
     ensures shorter { IfOk result (λ r. length r.now < length rest.old) }
     ensures ends { IfOk result (λ r. EndsUtf8 r.now) }
     ensures err { IfErr result (λ e. e ≢ ErrorKind.OutOfMemory → parse.list_at (parse.value_at depth) rest.old ≡ None) }
@@ -181,10 +226,10 @@ fn array<'i>(
 fn items<'i>(
     bytes: &'i mut [u8],
     depth: usize,
-    nodes: &mut Vec<Node<'i>>,
+    nodes: &mut Vec<Packed<'i>>,
 ) -> Result<(&'i mut [u8], usize), ErrorKind>
     requires { EndsUtf8 bytes.old }
-    ensures ok { IfOk result (λ p. GivesItems (parse.parts_at 93 (parse.value_at depth) (length bytes.old) bytes.old) p.0.now p.1 (marks nodes.old.items) (marks nodes.new.items)) }
+    ensures ok { IfOk result (λ p. GivesItems (parse.parts_at 93 (parse.value_at depth) (length bytes.old) bytes.old) p.0.now p.1 (packed_marks nodes.old.items) (packed_marks nodes.new.items)) }
     ensures shorter { IfOk result (λ p. length p.0.now < length bytes.old) }
     ensures ends { IfOk result (λ p. EndsUtf8 p.0.now) }
     ensures err { IfErr result (λ e. e ≢ ErrorKind.OutOfMemory → parse.parts_at 93 (parse.value_at depth) (length bytes.old) bytes.old ≡ None) }
@@ -216,10 +261,10 @@ fn items<'i>(
 fn object<'i>(
     rest: &'i mut [u8],
     depth: usize,
-    nodes: &mut Vec<Node<'i>>,
+    nodes: &mut Vec<Packed<'i>>,
 ) -> Result<&'i mut [u8], ErrorKind>
     requires { EndsUtf8 rest.old }
-    ensures ok { IfOk result (λ r. Gives (parse.obj_at (parse.value_at depth) rest.old) r.now (marks nodes.old.items) (marks nodes.new.items)) }
+    ensures ok { IfOk result (λ r. Gives (parse.obj_at (parse.value_at depth) rest.old) r.now (packed_marks nodes.old.items) (packed_marks nodes.new.items)) }
     ensures shorter { IfOk result (λ r. length r.now < length rest.old) }
     ensures ends { IfOk result (λ r. EndsUtf8 r.now) }
     ensures err { IfErr result (λ e. e ≢ ErrorKind.OutOfMemory → parse.obj_at (parse.value_at depth) rest.old ≡ None) }
@@ -245,10 +290,10 @@ fn object<'i>(
 fn members<'i>(
     bytes: &'i mut [u8],
     depth: usize,
-    nodes: &mut Vec<Node<'i>>,
+    nodes: &mut Vec<Packed<'i>>,
 ) -> Result<(&'i mut [u8], usize), ErrorKind>
     requires { EndsUtf8 bytes.old }
-    ensures ok { IfOk result (λ p. GivesMembers (parse.parts_at 125 (parse.member_at (parse.value_at depth)) (length bytes.old) bytes.old) p.0.now p.1 (marks nodes.old.items) (marks nodes.new.items)) }
+    ensures ok { IfOk result (λ p. GivesMembers (parse.parts_at 125 (parse.member_at (parse.value_at depth)) (length bytes.old) bytes.old) p.0.now p.1 (packed_marks nodes.old.items) (packed_marks nodes.new.items)) }
     ensures shorter { IfOk result (λ p. length p.0.now < length bytes.old) }
     ensures ends { IfOk result (λ p. EndsUtf8 p.0.now) }
     ensures err { IfErr result (λ e. e ≢ ErrorKind.OutOfMemory → parse.parts_at 125 (parse.member_at (parse.value_at depth)) (length bytes.old) bytes.old ≡ None) }
@@ -280,10 +325,10 @@ fn members<'i>(
 fn member<'i>(
     rest: &'i mut [u8],
     depth: usize,
-    nodes: &mut Vec<Node<'i>>,
+    nodes: &mut Vec<Packed<'i>>,
 ) -> Result<&'i mut [u8], ErrorKind>
     requires { EndsUtf8 rest.old }
-    ensures ok { IfOk result (λ r. GivesMember (parse.member_at (parse.value_at depth) rest.old) r.now (marks nodes.old.items) (marks nodes.new.items)) }
+    ensures ok { IfOk result (λ r. GivesMember (parse.member_at (parse.value_at depth) rest.old) r.now (packed_marks nodes.old.items) (packed_marks nodes.new.items)) }
     ensures shorter { IfOk result (λ r. length r.now < length rest.old) }
     ensures ends { IfOk result (λ r. EndsUtf8 r.now) }
     ensures err { IfErr result (λ e. e ≢ ErrorKind.OutOfMemory → parse.member_at (parse.value_at depth) rest.old ≡ None) }
@@ -307,11 +352,11 @@ fn member<'i>(
 pub(crate) fn whole<'i>(
     bytes: &'i mut [u8],
     depth: usize,
-    nodes: &mut Vec<Node<'i>>,
+    nodes: &mut Vec<Packed<'i>>,
 ) -> Result<(), ErrorKind>
     requires utf8 { IsUtf8 bytes.old }
-    requires empty { marks nodes.old.items ≡ [] }
-    ensures ok { OnOk result (Scans (parse.tree_at depth bytes.old) (marks nodes.new.items)) }
+    requires empty { packed_marks nodes.old.items ≡ [] }
+    ensures ok { OnOk result (Scans (parse.tree_at depth bytes.old) (packed_marks nodes.new.items)) }
     ensures err { IfErr result (λ e. e ≢ ErrorKind.OutOfMemory → parse.tree_at depth bytes.old ≡ None) }
     ensures kind { IfErr result (λ e. e ≢ ErrorKind.InvalidUtf8) }
 {

@@ -20,25 +20,33 @@ use std::sync::ledger::Ledger;
 
 impl<'t, 'i> Value<'t, 'i> {
     /// The items, where it is an array; else None.
+    #[inline]
     pub fn as_array(&self) -> Option<Array<'t, 'i>>
         ensures items { option_map items result ≡ as_items (tree self.now) }
         ensures choice { IfSome result (λ a. array_choice a ≡ choice self.now) }
     {
-        let nodes: &'t [Node<'i>] = self.nodes;
-        match nodes[0] {
-            Node::Array { len, .. } => Some(Array::from_nodes(len, &nodes[1..], self.repeats)),
+        match self.nodes.at(0) {
+            Node::Array { len, .. } => Some(Array::from_nodes(
+                len,
+                self.nodes.from(1),
+                self.repeats,
+            )),
             _ => None,
         }
     }
 
     /// The members, where it is an object; else None.
+    #[inline]
     pub fn as_object(&self) -> Option<Object<'t, 'i>>
         ensures members { option_map members result ≡ as_members (tree self.now) }
         ensures choice { IfSome result (λ o. object_choice o ≡ choice self.now) }
     {
-        let nodes: &'t [Node<'i>] = self.nodes;
-        match nodes[0] {
-            Node::Object { len, .. } => Some(Object::from_nodes(len, &nodes[1..], self.repeats)),
+        match self.nodes.at(0) {
+            Node::Object { len, .. } => Some(Object::from_nodes(
+                len,
+                self.nodes.from(1),
+                self.repeats,
+            )),
             _ => None,
         }
     }
@@ -130,21 +138,21 @@ impl<'t, 'i> Value<'t, 'i> {
     }
 
     /// The text, where it is one, for as long as the input lives; else None.
+    #[inline]
     pub fn into_string(self) -> Option<&'i str>
         ensures { option_map (λ s. s.now) result ≡ as_text (tree self.entry) }
     {
-        match self.nodes[0] {
-            Node::String(text) => Some(text),
-            _ => None,
-        }
+        let (text, _) = self.nodes.split_text()?;
+        Some(text)
     }
 
     /// The scalar with its carrier, where it is a null, a truth value or a whole number; else
     /// None.
+    #[inline]
     pub fn as_static(&self) -> Option<StaticNode>
         ensures { option_map static_tree result ≡ as_scalar (tree self.now) }
     {
-        match self.nodes[0] {
+        match self.nodes.at(0) {
             Node::Static(scalar) => Some(scalar),
             _ => None,
         }

@@ -12,7 +12,7 @@ impl<'t, 'i> Meaning for Value<'t, 'i> {
 
 impl<'t, 'i> TypedValue for Value<'t, 'i> {
     fn value_type(&self) -> ValueType {
-        match self.nodes[0] {
+        match self.nodes.at(0) {
             Node::Static(scalar) => scalar.value_type(),
             Node::String(_) => ValueType::String,
             Node::Array { .. } => ValueType::Array,
@@ -23,7 +23,7 @@ impl<'t, 'i> TypedValue for Value<'t, 'i> {
 
 impl<'t, 'i> ValueAsScalar for Value<'t, 'i> {
     fn as_bool(&self) -> Option<bool> {
-        match self.nodes[0] {
+        match self.nodes.at(0) {
             Node::Static(StaticNode::Bool(truth)) => Some(truth),
             _ => None,
         }
@@ -34,14 +34,14 @@ impl<'t, 'i> ValueAsScalar for Value<'t, 'i> {
     }
 
     fn as_i128(&self) -> Option<i128> {
-        match self.nodes[0] {
+        match self.nodes.at(0) {
             Node::Static(scalar) => scalar.as_i128(),
             _ => None,
         }
     }
 
     fn as_u128(&self) -> Option<u128> {
-        match self.nodes[0] {
+        match self.nodes.at(0) {
             Node::Static(scalar) => scalar.as_u128(),
             _ => None,
         }

@@ -1,8 +1,9 @@
 //! Parts of a tape, level by level, and their prints.
 
 use super::Value;
+use crate::node::Node;
 use crate::{array, object};
-use sj_print::{Level, Parts, display, encode, write};
+use sj_print::{Level, Parts, display, encode, encode_counted, write, write_counted};
 use sj_text_core::{Writable, WriteError};
 use std::alloc::Global;
 use std::fmt;
@@ -26,20 +27,24 @@ impl<'t, 'i> Parts for Value<'t, 'i> {
 
     ghost key_of = { λ s. s.now };
 
+    #[inline(always)]
     fn level(&self) -> Level<'_, array::Iter<'t, 'i>, object::Iter<'t, 'i>> {
-        if let Some(scalar) = self.as_static() {
-            return Level::Static(scalar);
+        match self.nodes.at(0) {
+            Node::Static(scalar) => Level::Static(scalar),
+            Node::String(text) => Level::String(text),
+            Node::Array { .. } => {
+                let Some(items) = self.as_array() else {
+                    unreachable!()
+                };
+                Level::Array(items.iter())
+            }
+            Node::Object { .. } => {
+                let Some(members) = self.as_object() else {
+                    unreachable!()
+                };
+                Level::Object(members.iter())
+            }
         }
-        if let Some(text) = self.into_string() {
-            return Level::String(text);
-        }
-        if let Some(items) = self.as_array() {
-            return Level::Array(items.iter());
-        }
-        let Some(members) = self.as_object() else {
-            unreachable!()
-        };
-        Level::Object(members.iter())
     }
 
     fn next_item(items: &mut array::Iter<'t, 'i>) -> Option<Value<'t, 'i>> {
@@ -55,21 +60,57 @@ impl<'t, 'i> Parts for Value<'t, 'i> {
     }
 }
 
+impl<'t, 'i> Value<'t, 'i> {
+    ghost use Rattle.std.specs.Prelude.{◌≡◌, ◌↔◌, ◌+◌, ◌^◌, ◌≤◌, ◌++◌, length, IfOk, OnOk, OnErr, IsErrOf, string_bytes};
+    ghost use Rattle.sj_print.specs.Layouts.{laid, top};
+    ghost use Rattle.sj_tape.specs.Value.{tree};
+
+    /// The print, over the nodes themselves where they are packed.
+    fn encode_as(&self, pretty: bool, alloc: Global) -> Result<String, WriteError>
+        ensures ok { IfOk result (λ s. string_bytes s ≡ laid (top pretty) (tree self.now)) }
+        ensures too_long { IsErrOf result WriteError.TooLong ↔ (2 ^ 64 ≤ length (laid (top pretty) (tree self.now))) }
+    {
+        match self.packed() {
+            Some(packed) => {
+                let len = packed.count(pretty, 0)?;
+                Ok(encode_counted(&packed, pretty, len, alloc)?)
+            }
+            None => encode(self, pretty, alloc),
+        }
+    }
+
+    /// Appends the print, over the nodes themselves where they are packed. Refused, it leaves the
+    /// bytes as they were.
+    fn write_as(&self, pretty: bool, out: &mut Vec<u8>) -> Result<(), WriteError>
+        ensures ok { OnOk result (out.new.items ≡ out.old.items ++ laid (top pretty) (tree self.now)) }
+        ensures err { OnErr result (out.new.items ≡ out.old.items) }
+        ensures too_long { IsErrOf result WriteError.TooLong ↔ (2 ^ 64 ≤ length out.old.items + length (laid (top pretty) (tree self.now))) }
+    {
+        match self.packed() {
+            Some(packed) => {
+                let end = packed.count(pretty, out.len())?;
+                Ok(write_counted(&packed, pretty, end, out)?)
+            }
+            None => write(self, pretty, out),
+        }
+    }
+}
+
 impl<'t, 'i> Writable for Value<'t, 'i> {
     fn encode(&self, alloc: Global) -> Result<String, WriteError> {
-        encode(self, false, alloc)
+        self.encode_as(false, alloc)
     }
 
     fn encode_pp(&self, alloc: Global) -> Result<String, WriteError> {
-        encode(self, true, alloc)
+        self.encode_as(true, alloc)
     }
 
     fn write(&self, out: &mut Vec<u8>) -> Result<(), WriteError> {
-        write(self, false, out)
+        self.write_as(false, out)
     }
 
     fn write_pp(&self, out: &mut Vec<u8>) -> Result<(), WriteError> {
-        write(self, true, out)
+        self.write_as(true, out)
     }
 }
 
@@ -87,6 +128,9 @@ impl<'t, 'i> fmt::Display for Value<'t, 'i> {
         if let Some(text) = self.into_string() {
             return write!(f, "{text}");
         }
-        display(self, f)
+        match self.packed() {
+            Some(packed) => display(&packed, f),
+            None => display(self, f),
+        }
     }
 }

@@ -1,43 +1,57 @@
-use Rattle.std.proofs.Common.{◌≡◌, ◌-◌, drop, refl, sym, ap, ◌∙◌, subst, arith}
+use Rattle.std.proofs.Common.{rules, ◌≡◌, ◌-◌, [], All, drop, refl, sym, ap, ◌∙◌, subst, arith}
+use Rattle.std.proofs.lemmas.List.Elements.{All-nil}
 use Rattle.std.proofs.lemmas.Result.{IfOk-weaker}
-use Rattle.sj_tape.specs.Marks.{mark, marks}
-use Rattle.sj_tape.specs.declared.node.Node.TheVariants.{Static}
-use Rattle.sj_text_core.specs.declared.static_node.StaticNode.TheVariants.{Null}
+use Rattle.sj_tape.specs.Stretches.{nodes_in}
 use Rattle.sj_object.specs.Piles.{pile, made_of, IsThere, Needs, grown}
-use Rattle.std.proofs.lemmas.List.{take_rest}
-use Rattle.sj_object.proofs.Piles.{ahead, turn_at, last_one, first_of}
+use Rattle.sj_object.proofs.Piles.{ahead, turn_at, last_one, first_at, preorder_some, nothing_ahead}
 use Rattle.sj_object.proofs.build.build.Goals as goal
+
+pub loop-at-init : goal.loop-at-init
+loop-at-init g c =
+    let none : c.new-made.result.items ≡ [] = search rules in
+    record {
+      within = omega (arith, c.len-at.ensures);
+      read = ap (pile g.V.Made.tree) none ∙ nothing_ahead c.args.repeats (nodes_in c.args.nodes) c.len-at.result c.len-at.ensures;
+      made = subst (All g.V.Made.built) (sym none) (All-nil g.V.Made.built);
+    }
+
+pub from-requires : goal.from-requires
+from-requires g c = omega (arith, c.loop-at.invariant.within)
 
 pub put-requires : goal.put-requires
 put-requires g c κs =
-    let nodes = c.args.nodes.now in
-    let t = turn_at c.args.repeats mark nodes c.loop-at.at (c.loop-at.at - 1) (omega arith) (omega arith) c.requires in
-    ((refl, tt), subst (λ l. Needs (marks l) (pile g.V.Made.tree c.loop-at.made.items)) (sym (take_rest nodes (c.loop-at.at - 1))) (subst (Needs _) (sym c.loop-at.invariant.read) t.0))
+    let ns = nodes_in c.args.nodes in
+    let t = turn_at c.args.repeats ns c.loop-at.at (c.loop-at.at - 1) (omega arith) (omega (arith, c.loop-at.invariant.within)) c.requires in
+    ((refl, tt), subst (λ l. Needs l (pile g.V.Made.tree c.loop-at.made.items)) (sym c.from.ensures) (subst (Needs _) (sym c.loop-at.invariant.read) t.0))
 
 pub loop-at-preserved : goal.loop-at-preserved
 loop-at-preserved g c =
-    let nodes = c.args.nodes.now in
+    let ns = nodes_in c.args.nodes in
     let inv = c.loop-at.invariant in
-    let t = turn_at c.args.repeats mark nodes c.loop-at.at (c.loop-at.at - 1) (omega arith) (omega arith) c.requires in
+    let t = turn_at c.args.repeats ns c.loop-at.at (c.loop-at.at - 1) (omega arith) (omega (arith, inv.within)) c.requires in
     record {
-      within = omega arith;
-      read = c.in_ok-put.ensures.means ∙ (λ i. grown c.args.repeats (marks (take_rest nodes (c.loop-at.at - 1) i)) (inv.read i)) ∙ t.1;
+      within = omega (arith, inv.within);
+      read = c.in_ok-put.ensures.means ∙ (λ i. grown c.args.repeats (c.from.ensures i) (inv.read i)) ∙ t.1;
       made = c.in_ok-put.ensures.property inv.made;
     }
 
+pub at-requires : goal.at-requires
+at-requires g c = preorder_some (nodes_in c.args.nodes) c.requires
+
 pub take_value-requires : goal.take_value-requires
 take_value-requires g c κs =
-    let nodes = c.args.nodes.now in
+    let ns = nodes_in c.args.nodes in
     let zero : c.loop-at.at ≡ 0 = omega arith in
-    let all : pile g.V.Made.tree c.loop-at.made.items ≡ ahead c.args.repeats (marks nodes) = c.loop-at.invariant.read ∙ ap (λ n. ahead c.args.repeats (marks (drop n nodes))) zero in
-    ((refl, tt), subst (IsThere _) (sym all) (subst (λ m. IsThere m (ahead c.args.repeats (marks nodes))) (first_of mark nodes (Static Null) c.requires) (last_one c.args.repeats (marks nodes) c.requires).0))
+    let all : pile g.V.Made.tree c.loop-at.made.items ≡ ahead c.args.repeats ns = c.loop-at.invariant.read ∙ ap (λ n. ahead c.args.repeats (drop n ns)) zero in
+    ((refl, tt), subst (IsThere _) (sym all) (subst (λ m. IsThere m (ahead c.args.repeats ns)) (first_at 0 ns ∙ sym c.at.ensures) (last_one c.args.repeats ns c.requires).0))
 
 pub returns-clause-means : goal.returns-clause-means
 returns-clause-means g c =
-    let nodes = c.args.nodes.now in
+    let ns = nodes_in c.args.nodes in
     let zero : c.loop-at.at ≡ 0 = omega arith in
-    let all : pile g.V.Made.tree c.loop-at.made.items ≡ ahead c.args.repeats (marks nodes) = c.loop-at.invariant.read ∙ ap (λ n. ahead c.args.repeats (marks (drop n nodes))) zero in
-    IfOk-weaker c.take_value.result _ _ (λ v h. h ∙ (λ i. made_of (sym (first_of mark nodes (Static Null) c.requires) i) (all i)) ∙ (last_one c.args.repeats (marks nodes) c.requires).1) c.take_value.ensures.means
+    let all : pile g.V.Made.tree c.loop-at.made.items ≡ ahead c.args.repeats ns = c.loop-at.invariant.read ∙ ap (λ n. ahead c.args.repeats (drop n ns)) zero in
+    let first = c.at.ensures ∙ sym (first_at 0 ns) in
+    IfOk-weaker c.take_value.result _ _ (λ v h. h ∙ (λ i. made_of (first i) (all i)) ∙ (last_one c.args.repeats ns c.requires).1) c.take_value.ensures.means
 
 pub returns-clause-property : goal.returns-clause-property
 returns-clause-property g c = IfOk-weaker c.take_value.result _ _ (λ v h. h.0) (c.take_value.ensures.property c.loop-at.invariant.made)

@@ -1,5 +1,5 @@
 use Rattle.std.proofs.Common.{◌≡◌, ◌≤◌, drop, length, All}
-use Rattle.sj_tape.specs.Marks.{marks}
+use Rattle.sj_tape.specs.Stretches.{nodes_in}
 use Rattle.sj_object.specs.Piles.{pile}
 use Rattle.sj_object.proofs.Piles.{ahead}
 use Rattle.sj_object.proofs.build.build.Given as goal
@@ -7,8 +7,8 @@ use Rattle.sj_object.proofs.build.build.Given as goal
 abbrev pub invariant-loop-at : goal.invariant-loop-at
 invariant-loop-at g l =
     record {
-      within : l.at ≤ length l.nodes;
-      read : pile g.V.Made.tree l.made.items ≡ ahead l.repeats (marks (drop l.at l.nodes));
+      within : l.at ≤ length (nodes_in l.nodes);
+      read : pile g.V.Made.tree l.made.items ≡ ahead l.repeats (drop l.at (nodes_in l.nodes));
       made : All g.V.Made.built l.made.items;
     }
 

@@ -1,8 +1,7 @@
 use Rattle.std.proofs.Common.{rules, ◌≡◌, ◌+◌, ◌-◌, ◌<◌, ◌^◌, suc, [], ◌++◌, map, drop, length, All, arith, refl, sym, ap, ◌∙◌, subst}
 use Rattle.std.proofs.lemmas.List.Elements.{All-nil, All-push}
-use Rattle.sj_tape.specs.Marks.{mark, marks}
-use Rattle.sj_tape.specs.declared.node.Node.TheVariants.{Static}
-use Rattle.sj_text_core.specs.declared.static_node.StaticNode.TheVariants.{Null}
+use Rattle.sj_tape.specs.Stretches.{nodes_in}
+use Rattle.sj_tape.proofs.Stretched.{few}
 use Rattle.sj_object.specs.Piles.{pile, taken, left, CanTakeItems}
 use Rattle.sj_object.proofs.Piles.{one_item, map_push}
 use Rattle.sj_object.proofs.build.take_items.Goals as goal
@@ -11,7 +10,7 @@ pub loop-i-init : goal.loop-i-init
 loop-i-init g c =
     let tree = g.V.Made.tree in
     let ps = pile tree c.args.made.now.items in
-    let ns = marks c.args.nodes.now in
+    let ns = nodes_in c.args.nodes in
     let none : c.in_ok-items.items.items ≡ [] = search rules in
     let n : c.args.len - 0 ≡ c.args.len = omega arith in
     record {
@@ -21,36 +20,27 @@ loop-i-init g c =
       made = λ h. (subst (All g.V.Made.built) (sym none) (All-nil g.V.Made.built), h);
     }
 
-pub offset_bounds-nodes-at : goal.offset_bounds-nodes-at
-offset_bounds-nodes-at g c =
+pub at-node-requires : goal.at-node-requires
+at-node-requires g c =
     let e : c.args.len - c.loop-i.i ≡ suc (c.args.len - (c.loop-i.i + 1)) = omega arith in
-    let one = one_item mark c.args.nodes.now c.loop-i.at _ _ (Static Null) _ e c.loop-i.invariant.can in
-    let l = one.whole.inside in
-    search (rules, l, c.well_formed)
-
-pub bounds-nodes-at : goal.bounds-nodes-at
-bounds-nodes-at g c =
-    let e : c.args.len - c.loop-i.i ≡ suc (c.args.len - (c.loop-i.i + 1)) = omega arith in
-    (one_item mark c.args.nodes.now c.loop-i.at _ _ (Static Null) _ e c.loop-i.invariant.can).whole.inside
+    (one_item (nodes_in c.args.nodes) c.loop-i.at _ _ _ _ e refl c.loop-i.invariant.can).whole.inside
 
 pub take_value-requires : goal.take_value-requires
 take_value-requires g c κs =
     let e : c.args.len - c.loop-i.i ≡ suc (c.args.len - (c.loop-i.i + 1)) = omega arith in
-    ((refl, tt), (one_item mark c.args.nodes.now c.loop-i.at _ _ (Static Null) _ e c.loop-i.invariant.can).whole.there)
+    ((refl, tt), (one_item (nodes_in c.args.nodes) c.loop-i.at _ _ _ _ e c.at-node.ensures c.loop-i.invariant.can).whole.there)
 
-pub width_of-requires : goal.width_of-requires
-width_of-requires g c =
+pub width-requires : goal.width-requires
+width-requires g c =
     let e : c.args.len - c.loop-i.i ≡ suc (c.args.len - (c.loop-i.i + 1)) = omega arith in
-    let w = (one_item mark c.args.nodes.now c.loop-i.at _ _ (Static Null) _ e c.loop-i.invariant.can).whole.wide in
-    let f : length c.args.nodes.now < 2 ^ 64 = search (rules, c.well_formed) in
-    omega (arith, w, f)
+    let w = (one_item (nodes_in c.args.nodes) c.loop-i.at _ _ _ _ e c.at-node.ensures c.loop-i.invariant.can).whole.wide in
+    omega (arith, w, few c.args.nodes)
 
 pub overflow_add-at : goal.overflow_add-at
 overflow_add-at g c =
     let e : c.args.len - c.loop-i.i ≡ suc (c.args.len - (c.loop-i.i + 1)) = omega arith in
-    let w = (one_item mark c.args.nodes.now c.loop-i.at _ _ (Static Null) _ e c.loop-i.invariant.can).whole.wide in
-    let f : length c.args.nodes.now < 2 ^ 64 = search (rules, c.well_formed) in
-    omega (arith, w, c.width_of.ensures, f)
+    let w = (one_item (nodes_in c.args.nodes) c.loop-i.at _ _ _ _ e c.at-node.ensures c.loop-i.invariant.can).whole.wide in
+    omega (arith, w, c.width.ensures, few c.args.nodes)
 
 pub loop-i-preserved : goal.loop-i-preserved
 loop-i-preserved g c =
@@ -59,10 +49,10 @@ loop-i-preserved g c =
     let inv = c.loop-i.invariant in
     let m = c.args.len - (c.loop-i.i + 1) in
     let e : c.args.len - c.loop-i.i ≡ suc (c.args.len - (c.loop-i.i + 1)) = omega arith in
-    let one = one_item mark c.args.nodes.now c.loop-i.at _ _ (Static Null) _ e inv.can in
-    let ns = marks (drop c.loop-i.at c.args.nodes.now) in
+    let one = one_item (nodes_in c.args.nodes) c.loop-i.at _ _ _ _ e c.at-node.ensures inv.can in
+    let ns = drop c.loop-i.at (nodes_in c.args.nodes) in
     let ps = pile tree c.loop-i.made.items in
-    let after = ap (λ w. marks (drop (c.loop-i.at + w) c.args.nodes.now)) c.width_of.ensures in
+    let after = ap (λ w. drop (c.loop-i.at + w) (nodes_in c.args.nodes)) c.width.ensures in
     let rest = c.in_ok-take_value.ensures.rest in
     record {
       can = subst (λ l. CanTakeItems m l (pile tree c.take_value.new.made.items)) (sym after) (subst (CanTakeItems m _) (sym rest) one.can);

@@ -1,4 +1,4 @@
-use Rattle.std.proofs.Common.{ℕ, ◌≤◌, ◌+◌, ◌*◌, length}
+use Rattle.std.proofs.Common.{◌≤◌, ◌+◌, ◌*◌, length}
 use Rattle.sj_text_core.specs.Tree.{AreProper, HasProper, items_from, members_from, depth, items_depth, members_depth}
 use Rattle.sj_print.proofs.laws.+is_proper.Given as goal
 

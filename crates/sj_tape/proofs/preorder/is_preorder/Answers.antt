@@ -1,9 +1,14 @@
-use Rattle.std.proofs.Common.{◌≡◌, ◌-◌, ◌<◌, length, drop, sym, subst, arith}
+use Rattle.std.proofs.Common.{rules, ◌≡◌, ◌∙◌, ◌-◌, ◌<◌, ◌^◌, ℕ, List, nat_eq, length, drop, ap, sym, subst, arith}
 use Rattle.std.proofs.lemmas.Bool.Decides.{nat_tests}
 use Rattle.std.proofs.lemmas.List.{length-map}
-use Rattle.sj_tape.specs.Fronts.{AllBegin}
+use Rattle.sj_tape.specs.Fronts.{AllBegin, BeginsTree}
 use Rattle.sj_tape.specs.Marks.{mark, marks}
 use Rattle.sj_tape.proofs.Counts.{begins_first}
+use Rattle.std.proofs.Math.ListN.{get_or-map}
+use Rattle.sj_text_core.specs.Nodes.{Mark, width}
+use Rattle.sj_text_core.specs.declared.static_node.StaticNode.TheVariants.{Null}
+use Rattle.sj_tape.specs.declared.node.Node.TheVariants.{Static}
+use Rattle.sj_tape.proofs.Splits.{first_width}
 use Rattle.sj_tape.proofs.Preorders.{AllBegin-behind, begins_within, marks_from, whole_test}
 use Rattle.sj_tape.proofs.preorder.is_preorder.Goals as goal
 
@@ -21,13 +26,20 @@ loop-at-preserved c =
     subst (λ l. AllBegin l) (sym (marks_from c.args.nodes.now (c.loop-at.at - 1) (omega arith)))
     (c.begins_tree.ensures.0 c.if-not-begins_tree.false, AllBegin-behind c.args.nodes.now (c.loop-at.at - 1) c.loop-at.at (omega arith) c.loop-at.invariant)
 
-pub split_tree-requires : goal.split_tree-requires
-split_tree-requires c =
+begun : (ns : List Mark) (at : ℕ) → at ≡ 0 → 0 < length ns → AllBegin (drop at ns) → BeginsTree ns
+begun ns at e h b = begins_first ns (subst (λ n. AllBegin (drop n ns)) e b) h
+
+pub width-requires : goal.width-requires
+width-requires c =
     let some : 0 < length c.args.nodes.now = grind (arith, nat_tests) in
-    let zero : c.loop-at.at ≡ 0 = omega arith in
-    begins_first (marks c.args.nodes.now) (subst (λ n. AllBegin (drop n (marks c.args.nodes.now))) zero c.loop-at.invariant) (omega (arith, length-map c.args.nodes.now mark))
+    let lens = length-map c.args.nodes.now mark in
+    let t = begun (marks c.args.nodes.now) c.loop-at.at (omega arith) (omega (arith, some, lens)) c.loop-at.invariant in
+    let f : length c.args.nodes.now < 2 ^ 64 = search (rules, c.well_formed) in
+    omega (arith, (first_width (marks c.args.nodes.now) t).fits, ap width (get_or-map mark c.args.nodes.now 0 (Static Null)), lens, f)
 
 pub returns-then-not-is_empty : goal.returns-then-not-is_empty
 returns-then-not-is_empty c =
-    whole_test c.args.nodes.now c.split_tree.result.0.now c.split_tree.result.1.now c.is_empty-then-not-is_empty.result
-    c.split_tree.ensures.whole c.split_tree.ensures.all c.is_empty-then-not-is_empty.ensures
+    let some : 0 < length c.args.nodes.now = grind (arith, nat_tests) in
+    let lens = length-map c.args.nodes.now mark in
+    let t = begun (marks c.args.nodes.now) c.loop-at.at (omega arith) (omega (arith, some, lens)) c.loop-at.invariant in
+    whole_test (marks c.args.nodes.now) _ _ t (c.width.ensures ∙ ap width (sym (get_or-map mark c.args.nodes.now 0 (Static Null)))) (ap (λ n. nat_eq c.width.result n) (sym lens))

@@ -12,20 +12,20 @@ pub returns-then-at-nodes-clause-none : goal.returns-then-at-nodes-clause-none
 returns-then-at-nodes-clause-none c =
     items_none c.loop.counter c.loop.at c.args.len c.args.nodes.now c.loop.invariant.done (omega arith) (omega arith)
 
-pub width_of-at-requires : goal.width_of-at-requires
-width_of-at-requires c =
+pub width-at-requires : goal.width-at-requires
+width-at-requires c =
     let step = item_step c.loop.counter c.loop.at c.args.nodes.now c.requires c.loop.invariant.done (omega arith) in
     omega (arith, step.inside)
 
 pub overflow_add-at : goal.overflow_add-at
 overflow_add-at c =
     let step = item_step c.loop.counter c.loop.at c.args.nodes.now c.requires c.loop.invariant.done (omega arith) in
-    omega (arith, step.inside, c.width_of-at.ensures)
+    omega (arith, step.inside, c.width-at.ensures)
 
 pub loop-preserved : goal.loop-preserved
 loop-preserved c =
     let step = item_step c.loop.counter c.loop.at c.args.nodes.now c.requires c.loop.invariant.done (omega arith) in
     record {
-      inside = omega (arith, step.inside, c.width_of-at.ensures);
-      done = subst (λ n. BeginsItems (c.loop.counter + 1) (c.loop.at + n) (marks c.args.nodes.now)) (sym c.width_of-at.ensures) step.next;
+      inside = omega (arith, step.inside, c.width-at.ensures);
+      done = subst (λ n. BeginsItems (c.loop.counter + 1) (c.loop.at + n) (marks c.args.nodes.now)) (sym c.width-at.ensures) step.next;
     }

@@ -26,8 +26,8 @@ returns-then-at-nodes-clause-none c =
       | then-at-nodes-via-else-at-nodes+then-not-is_text w ↦ is_not _ _ w.is_text.ensures w.if-not-is_text.true k
     ])
 
-pub width_of-requires : goal.width_of-requires
-width_of-requires c =
+pub width-requires : goal.width-requires
+width-requires c =
     let text = is_so _ _ c.is_text.ensures c.if-not-is_text.false in
     let step = member_step c.loop.counter c.loop.at c.args.nodes.now c.requires c.loop.invariant.done (omega arith) text in
     omega (arith, step.inside)
@@ -36,19 +36,19 @@ pub overflow_add-at-in-loop-2 : goal.overflow_add-at-in-loop-2
 overflow_add-at-in-loop-2 c =
     let text = is_so _ _ c.is_text.ensures c.if-not-is_text.false in
     let step = member_step c.loop.counter c.loop.at c.args.nodes.now c.requires c.loop.invariant.done (omega arith) text in
-    omega (arith, step.inside, c.width_of.ensures)
+    omega (arith, step.inside, c.width.ensures)
 
 pub overflow_add-at-in-loop-3 : goal.overflow_add-at-in-loop-3
 overflow_add-at-in-loop-3 c =
     let text = is_so _ _ c.is_text.ensures c.if-not-is_text.false in
     let step = member_step c.loop.counter c.loop.at c.args.nodes.now c.requires c.loop.invariant.done (omega arith) text in
-    omega (arith, step.inside, c.width_of.ensures)
+    omega (arith, step.inside, c.width.ensures)
 
 pub loop-preserved : goal.loop-preserved
 loop-preserved c =
     let text = is_so _ _ c.is_text.ensures c.if-not-is_text.false in
     let step = member_step c.loop.counter c.loop.at c.args.nodes.now c.requires c.loop.invariant.done (omega arith) text in
     record {
-      inside = omega (arith, step.inside, c.width_of.ensures);
-      done = subst (λ n. BeginsMembers (c.loop.counter + 1) (c.loop.at + (1 + n)) (marks c.args.nodes.now)) (sym c.width_of.ensures) step.next;
+      inside = omega (arith, step.inside, c.width.ensures);
+      done = subst (λ n. BeginsMembers (c.loop.counter + 1) (c.loop.at + (1 + n)) (marks c.args.nodes.now)) (sym c.width.ensures) step.next;
     }

@@ -1,26 +1,26 @@
 use Rattle.std.proofs.Common.{IsUtf8, rules}
 use Rattle.std.proofs.lemmas.Result.{err_from_is_err_and}
-use Rattle.sj_tape.specs.Marks.{marks}
+use Rattle.sj_tape.specs.Marks.{packed_marks}
 use Rattle.sj_tape.proofs.Reading.{is_read, is_taped, preorder_is, unreadable}
 use Rattle.sj_tape.proofs.reader.read.Goals as goal
 
-pub from_nodes-requires : goal.from_nodes-requires
-from_nodes-requires c = preorder_is (marks c.whole.new.nodes.items) c.in_ok-whole.ensures.ok.tree c.in_ok-whole.ensures.ok.nodes
+pub from_packed-requires : goal.from_packed-requires
+from_packed-requires c = preorder_is (packed_marks c.whole.new.nodes.items) c.in_ok-whole.ensures.ok.tree c.in_ok-whole.ensures.ok.nodes
 
 pub returns-clause-spelled : goal.returns-clause-spelled
 returns-clause-spelled c =
     let utf8 : IsUtf8 c.args.bytes.now = search rules in
-    (is_read c.args.bytes.now c.from_nodes.result utf8 (is_taped c.args.bytes.now _ _ c.in_ok-whole.ensures.ok c.from_nodes.ensures)).spelled
+    (is_read c.args.bytes.now c.from_packed.result utf8 (is_taped c.args.bytes.now _ _ c.in_ok-whole.ensures.ok c.from_packed.ensures)).spelled
 
 pub returns-clause-within : goal.returns-clause-within
 returns-clause-within c =
     let utf8 : IsUtf8 c.args.bytes.now = search rules in
-    (is_read c.args.bytes.now c.from_nodes.result utf8 (is_taped c.args.bytes.now _ _ c.in_ok-whole.ensures.ok c.from_nodes.ensures)).within
+    (is_read c.args.bytes.now c.from_packed.result utf8 (is_taped c.args.bytes.now _ _ c.in_ok-whole.ensures.ok c.from_packed.ensures)).within
 
 pub returns-clause-only : goal.returns-clause-only
 returns-clause-only c =
     let utf8 : IsUtf8 c.args.bytes.now = search rules in
-    (is_read c.args.bytes.now c.from_nodes.result utf8 (is_taped c.args.bytes.now _ _ c.in_ok-whole.ensures.ok c.from_nodes.ensures)).only
+    (is_read c.args.bytes.now c.from_packed.result utf8 (is_taped c.args.bytes.now _ _ c.in_ok-whole.ensures.ok c.from_packed.ensures)).only
 
 pub returns-in_err-whole-clause-err : goal.returns-in_err-whole-clause-err
 returns-in_err-whole-clause-err c =

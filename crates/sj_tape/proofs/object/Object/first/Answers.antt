@@ -4,7 +4,7 @@ use Rattle.sj_text_core.specs.Tree.{Tree, members_from}
 use Rattle.sj_text_core.proofs.Shapes.{members_from-paired}
 use Rattle.sj_tape.specs.Members.{members, members_ahead}
 use Rattle.sj_tape.specs.Value.{tree, part}
-use Rattle.sj_tape.proofs.Chosen.{member_step}
+use Rattle.sj_tape.proofs.Chosen.{member_step, members_end}
 use Rattle.sj_tape.proofs.object.Object.first.Goals as goal
 
 -- the lookup by the test of the first pair
@@ -29,3 +29,8 @@ pub loop-name-preserved : goal.loop-name-preserved
 loop-name-preserved c =
     let step = member_step c.loop-name.name-iterator.repeats c.next.new.self.repeats c.in-Some.name.now (part c.in-Some.value) (members_ahead c.loop-name.name-iterator) (members_ahead c.next.new.self) c.in-Some.ensures.steps in
     by_first c.args.key.now c.in-Some.name.now (tree c.in-Some.value) _ _ _ _ _ c.loop-name.invariant step c.is_named.ensures c.if-is_named.false
+
+pub returns : goal.returns
+returns c =
+    let none = members_end c.loop-name.name-iterator.repeats (members_ahead c.loop-name.name-iterator) c.in-None.ensures.steps.0 in
+    sym (ap (λ ps. find_member c.args.key.now (members_from ps)) none) ∙ c.loop-name.invariant

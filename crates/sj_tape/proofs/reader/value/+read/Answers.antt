@@ -2,7 +2,7 @@ use Rattle.std.proofs.Common.{◌≡◌, ℕ, List, MutBor, set, ◌+◌, ◌-�
 use Rattle.std.proofs.lemmas.Result.{IfOk-weaker, err_from_is_err_and}
 use Rattle.sj_text_core.specs.Tree.{list, obj, items_from, members_from}
 use Rattle.sj_text_core.specs.Nodes.{flat, array, object}
-use Rattle.sj_tape.specs.Marks.{marks}
+use Rattle.sj_tape.specs.Marks.{packed_marks}
 use Rattle.sj_text_core.specs.Parse.{value_at, parts_at, list_at, obj_at, member_at}
 use Rattle.sj_tape.proofs.Gives.{ends_drop, behind_quote, gives_by, list_is, obj_is, member_by, member_gives, member_errs, filled, empty}
 use Rattle.sj_tape.proofs.Parts.{fails, parts_none, parts_unseparated, last_turn, next_turn, item_flats, member_flats, member_flat, item_flats-push, member_flats-push}
@@ -16,53 +16,53 @@ pub value-returns-then-byte-le57-clause-ok : goal.value-returns-then-byte-le57-c
 value-returns-then-byte-le57-clause-ok t c =
     gives_by _ _ c.in_ok-left.left.now _ _ (value_scalar c.args.depth c.args.rest.now 0 (filled (length c.args.rest.now) c.if-is_empty.ensures) (omega (arith, c.if-byte-le57.true)) (omega (arith, c.if-byte-le57.true))) c.in_ok-left.ensures.ok
 
-pub value-returns-then-depth-eq0-clause-err : goal.value-returns-then-depth-eq0-clause-err
-value-returns-then-depth-eq0-clause-err t c = λ _. value_too_deep c.args.depth c.args.rest.now 0 (filled (length c.args.rest.now) c.if-is_empty.ensures) c.if-byte-eq91.true c.if-depth-eq0.true
-
-pub value-returns-then-depth-eq0-2-clause-err : goal.value-returns-then-depth-eq0-2-clause-err
-value-returns-then-depth-eq0-2-clause-err t c = λ _. value_too_deep_2 c.args.depth c.args.rest.now 0 (filled (length c.args.rest.now) c.if-is_empty.ensures) c.if-byte-eq123.true c.if-depth-eq0-2.true
-
-pub value-array-requires : goal.value-array-requires
-value-array-requires t c = (omega (arith, c.decreases), ends_drop c.args.rest.now _ 1 c.requires c.split_at_mut-inside.ensures.back)
-
-pub value-returns-then-byte-eq91-clause-ok : goal.value-returns-then-byte-eq91-clause-ok
-value-returns-then-byte-eq91-clause-ok t c =
-    let e = value_in_list c.args.depth c.args.rest.now 0 (filled (length c.args.rest.now) c.if-is_empty.ensures) c.if-byte-eq91.true c.if-depth-eq0.false in
-    let f = e ∙ ap (λ l. list_at (value_at (c.args.depth - 1)) l) (sym c.split_at_mut-inside.ensures.back) in
-    gives_by _ _ c.in_ok-left-2.left.now _ _ f c.in_ok-left-2.ensures.ok
-
-pub value-object-requires : goal.value-object-requires
-value-object-requires t c = (omega (arith, c.decreases), ends_drop c.args.rest.now _ 1 c.requires c.split_at_mut-inside-then-byte-eq123.ensures.back)
-
-pub value-returns-then-byte-eq123-clause-ok : goal.value-returns-then-byte-eq123-clause-ok
-value-returns-then-byte-eq123-clause-ok t c =
-    let e = value_in_obj c.args.depth c.args.rest.now 0 (filled (length c.args.rest.now) c.if-is_empty.ensures) c.if-byte-eq123.true c.if-depth-eq0-2.false in
-    let f = e ∙ ap (λ l. obj_at (value_at (c.args.depth - 1)) l) (sym c.split_at_mut-inside-then-byte-eq123.ensures.back) in
-    gives_by _ _ c.in_ok-left-3.left.now _ _ f c.in_ok-left-3.ensures.ok
-
-pub value-returns-clause-ok : goal.value-returns-clause-ok
-value-returns-clause-ok t c =
-    gives_by _ _ c.in_ok-left-4.left.now _ _ (value_scalar c.args.depth c.args.rest.now 0 (filled (length c.args.rest.now) c.if-is_empty.ensures) c.if-byte-eq91.false c.if-byte-eq123.false) c.in_ok-left-4.ensures.ok
-
 pub value-returns-in_err-left-clause-err : goal.value-returns-in_err-left-clause-err
 value-returns-in_err-left-clause-err t c =
     let p = err_from_is_err_and c.from_residual.result c.from_residual.ensures.1 in
     rw (p.1, p.2) (λ n. value_scalar c.args.depth c.args.rest.now 0 (filled (length c.args.rest.now) c.if-is_empty.ensures) (omega (arith, c.if-byte-le57.true)) (omega (arith, c.if-byte-le57.true)) ∙ c.in_err-left.ensures.err n)
 
-pub value-returns-in_err-left-2-clause-err : goal.value-returns-in_err-left-2-clause-err
-value-returns-in_err-left-2-clause-err t c =
+pub other_value-returns-then-depth-eq0-clause-err : goal.other_value-returns-then-depth-eq0-clause-err
+other_value-returns-then-depth-eq0-clause-err t c = λ _. value_too_deep c.args.depth c.args.rest.now 0 c.requires.some c.if-byte-eq91.true c.if-depth-eq0.true
+
+pub other_value-returns-then-depth-eq0-2-clause-err : goal.other_value-returns-then-depth-eq0-2-clause-err
+other_value-returns-then-depth-eq0-2-clause-err t c = λ _. value_too_deep_2 c.args.depth c.args.rest.now 0 c.requires.some c.if-byte-eq123.true c.if-depth-eq0-2.true
+
+pub other_value-array-requires : goal.other_value-array-requires
+other_value-array-requires t c = (omega (arith, c.decreases), ends_drop c.args.rest.now _ 1 c.requires.ends c.split_at_mut-inside.ensures.back)
+
+pub other_value-returns-then-byte-eq91-clause-ok : goal.other_value-returns-then-byte-eq91-clause-ok
+other_value-returns-then-byte-eq91-clause-ok t c =
+    let e = value_in_list c.args.depth c.args.rest.now 0 c.requires.some c.if-byte-eq91.true c.if-depth-eq0.false in
+    let f = e ∙ ap (λ l. list_at (value_at (c.args.depth - 1)) l) (sym c.split_at_mut-inside.ensures.back) in
+    gives_by _ _ c.in_ok-left.left.now _ _ f c.in_ok-left.ensures.ok
+
+pub other_value-object-requires : goal.other_value-object-requires
+other_value-object-requires t c = (omega (arith, c.decreases), ends_drop c.args.rest.now _ 1 c.requires.ends c.split_at_mut-inside-then-byte-eq123.ensures.back)
+
+pub other_value-returns-then-byte-eq123-clause-ok : goal.other_value-returns-then-byte-eq123-clause-ok
+other_value-returns-then-byte-eq123-clause-ok t c =
+    let e = value_in_obj c.args.depth c.args.rest.now 0 c.requires.some c.if-byte-eq123.true c.if-depth-eq0-2.false in
+    let f = e ∙ ap (λ l. obj_at (value_at (c.args.depth - 1)) l) (sym c.split_at_mut-inside-then-byte-eq123.ensures.back) in
+    gives_by _ _ c.in_ok-left-2.left.now _ _ f c.in_ok-left-2.ensures.ok
+
+pub other_value-returns-clause-ok : goal.other_value-returns-clause-ok
+other_value-returns-clause-ok t c =
+    gives_by _ _ c.in_ok-left-3.left.now _ _ (value_scalar c.args.depth c.args.rest.now 0 c.requires.some c.if-byte-eq91.false c.if-byte-eq123.false) c.in_ok-left-3.ensures.ok
+
+pub other_value-returns-in_err-left-clause-err : goal.other_value-returns-in_err-left-clause-err
+other_value-returns-in_err-left-clause-err t c =
+    let p = err_from_is_err_and c.from_residual.result c.from_residual.ensures.1 in
+    rw (p.1, p.2) (λ n. value_in_list c.args.depth c.args.rest.now 0 c.requires.some c.if-byte-eq91.true c.if-depth-eq0.false ∙ ap (λ l. list_at (value_at (c.args.depth - 1)) l) (sym c.split_at_mut-inside.ensures.back) ∙ c.in_err-left.ensures.err n)
+
+pub other_value-returns-in_err-left-2-clause-err : goal.other_value-returns-in_err-left-2-clause-err
+other_value-returns-in_err-left-2-clause-err t c =
     let p = err_from_is_err_and c.from_residual-in_err-left-2.result c.from_residual-in_err-left-2.ensures.1 in
-    rw (p.1, p.2) (λ n. value_in_list c.args.depth c.args.rest.now 0 (filled (length c.args.rest.now) c.if-is_empty.ensures) c.if-byte-eq91.true c.if-depth-eq0.false ∙ ap (λ l. list_at (value_at (c.args.depth - 1)) l) (sym c.split_at_mut-inside.ensures.back) ∙ c.in_err-left-2.ensures.err n)
+    rw (p.1, p.2) (λ n. value_in_obj c.args.depth c.args.rest.now 0 c.requires.some c.if-byte-eq123.true c.if-depth-eq0-2.false ∙ ap (λ l. obj_at (value_at (c.args.depth - 1)) l) (sym c.split_at_mut-inside-then-byte-eq123.ensures.back) ∙ c.in_err-left-2.ensures.err n)
 
-pub value-returns-in_err-left-3-clause-err : goal.value-returns-in_err-left-3-clause-err
-value-returns-in_err-left-3-clause-err t c =
+pub other_value-returns-in_err-left-3-clause-err : goal.other_value-returns-in_err-left-3-clause-err
+other_value-returns-in_err-left-3-clause-err t c =
     let p = err_from_is_err_and c.from_residual-in_err-left-3.result c.from_residual-in_err-left-3.ensures.1 in
-    rw (p.1, p.2) (λ n. value_in_obj c.args.depth c.args.rest.now 0 (filled (length c.args.rest.now) c.if-is_empty.ensures) c.if-byte-eq123.true c.if-depth-eq0-2.false ∙ ap (λ l. obj_at (value_at (c.args.depth - 1)) l) (sym c.split_at_mut-inside-then-byte-eq123.ensures.back) ∙ c.in_err-left-3.ensures.err n)
-
-pub value-returns-in_err-left-4-clause-err : goal.value-returns-in_err-left-4-clause-err
-value-returns-in_err-left-4-clause-err t c =
-    let p = err_from_is_err_and c.from_residual-in_err-left-4.result c.from_residual-in_err-left-4.ensures.1 in
-    rw (p.1, p.2) (λ n. value_scalar c.args.depth c.args.rest.now 0 (filled (length c.args.rest.now) c.if-is_empty.ensures) c.if-byte-eq91.false c.if-byte-eq123.false ∙ c.in_err-left-4.ensures.err n)
+    rw (p.1, p.2) (λ n. value_scalar c.args.depth c.args.rest.now 0 c.requires.some c.if-byte-eq91.false c.if-byte-eq123.false ∙ c.in_err-left-3.ensures.err n)
 
 pub array-returns-then-byte_at-eq93-clause-ends : goal.array-returns-then-byte_at-eq93-clause-ends
 array-returns-then-byte_at-eq93-clause-ends t c = ends_drop c.args.rest.now _ (c.skip-first.result + 1) c.requires c.split_at_mut-rest.ensures.back
@@ -72,8 +72,8 @@ array-items-requires t c = (omega (arith, c.decreases), ends_drop c.args.rest.no
 
 pub array-returns-clause-ok : goal.array-returns-clause-ok
 array-returns-clause-ok t c =
-    let old = marks c.args.nodes.now.items in
-    let new = marks c.items.new.nodes.items in
+    let old = packed_marks c.args.nodes.now.items in
+    let new = packed_marks c.items.new.nodes.items in
     let k = c.in_ok-rest.ensures.ok in
     let inner = c.count.result - c.count-place.result - 1 in
     let at_end : c.count-place.result ≡ length old = c.count-place.ensures in
@@ -104,7 +104,7 @@ items-loop-after-preserved t c =
       progress = next_turn 93 (value_at c.args.depth) item_flats (λ t. flat t) item_flats-push (length c.args.bytes.now) c.loop-after.len c.loop-after.rest.now
           c.in_ok-after.after.now c.split_at_mut-next.result.1.now true
           (parts_at 93 (value_at c.args.depth) (length c.args.bytes.now) c.args.bytes.now)
-          (marks c.args.nodes.now.items) (marks c.loop-after.nodes.items) (marks c.value.new.nodes.items)
+          (packed_marks c.args.nodes.now.items) (packed_marks c.loop-after.nodes.items) (packed_marks c.value.new.nodes.items)
           a.ok.tree (omega (arith, c.loop-after.invariant.room, a.shorter)) c.loop-after.invariant.progress a.ok.was (s.2 ∙ ap (λ l. Some (true, l)) (sym k.back)) refl a.ok.nodes;
     }
 
@@ -115,7 +115,7 @@ items-returns-in-Close-clause-ok t c =
     let d = last_turn 93 (value_at c.args.depth) item_flats (λ t. flat t) item_flats-push (length c.args.bytes.now) c.loop-after.len c.loop-after.rest.now
     c.in_ok-after.after.now c.split_at_mut-behind.result.1.now false
     (parts_at 93 (value_at c.args.depth) (length c.args.bytes.now) c.args.bytes.now)
-    (marks c.args.nodes.now.items) (marks c.loop-after.nodes.items) (marks c.value.new.nodes.items)
+    (packed_marks c.args.nodes.now.items) (packed_marks c.loop-after.nodes.items) (packed_marks c.value.new.nodes.items)
     a.ok.tree (omega (arith, c.loop-after.invariant.room, a.shorter)) c.loop-after.invariant.progress a.ok.was (s.2 ∙ ap (λ l. Some (false, l)) (sym c.split_at_mut-behind.ensures.back)) refl a.ok.nodes in
     record { trees = d.parts; was = d.was; nodes = d.nodes; count = d.count }
 
@@ -135,8 +135,8 @@ object-members-requires t c = (omega (arith, c.decreases), ends_drop c.args.rest
 
 pub object-returns-clause-ok : goal.object-returns-clause-ok
 object-returns-clause-ok t c =
-    let old = marks c.args.nodes.now.items in
-    let new = marks c.members.new.nodes.items in
+    let old = packed_marks c.args.nodes.now.items in
+    let new = packed_marks c.members.new.nodes.items in
     let k = c.in_ok-rest.ensures.ok in
     let inner = c.count.result - c.count-place.result - 1 in
     let at_end : c.count-place.result ≡ length old = c.count-place.ensures in
@@ -167,7 +167,7 @@ members-loop-after-preserved t c =
       progress = next_turn 125 (member_at (value_at c.args.depth)) member_flats member_flat member_flats-push (length c.args.bytes.now) c.loop-after.len c.loop-after.rest.now
           c.in_ok-after.after.now c.split_at_mut-next.result.1.now true
           (parts_at 125 (member_at (value_at c.args.depth)) (length c.args.bytes.now) c.args.bytes.now)
-          (marks c.args.nodes.now.items) (marks c.loop-after.nodes.items) (marks c.member.new.nodes.items)
+          (packed_marks c.args.nodes.now.items) (packed_marks c.loop-after.nodes.items) (packed_marks c.member.new.nodes.items)
           (a.ok.key, a.ok.tree) (omega (arith, c.loop-after.invariant.room, a.shorter)) c.loop-after.invariant.progress a.ok.was (s.2 ∙ ap (λ l. Some (true, l)) (sym k.back)) refl a.ok.nodes;
     }
 
@@ -178,7 +178,7 @@ members-returns-in-Close-clause-ok t c =
     let d = last_turn 125 (member_at (value_at c.args.depth)) member_flats member_flat member_flats-push (length c.args.bytes.now) c.loop-after.len c.loop-after.rest.now
     c.in_ok-after.after.now c.split_at_mut-behind.result.1.now false
     (parts_at 125 (member_at (value_at c.args.depth)) (length c.args.bytes.now) c.args.bytes.now)
-    (marks c.args.nodes.now.items) (marks c.loop-after.nodes.items) (marks c.member.new.nodes.items)
+    (packed_marks c.args.nodes.now.items) (packed_marks c.loop-after.nodes.items) (packed_marks c.member.new.nodes.items)
     (a.ok.key, a.ok.tree) (omega (arith, c.loop-after.invariant.room, a.shorter)) c.loop-after.invariant.progress a.ok.was (s.2 ∙ ap (λ l. Some (false, l)) (sym c.split_at_mut-behind.ensures.back)) refl a.ok.nodes in
     record { pairs = d.parts; was = d.was; nodes = d.nodes; count = d.count }
 

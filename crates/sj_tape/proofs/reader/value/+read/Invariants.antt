@@ -1,27 +1,30 @@
 use Rattle.std.proofs.Common.{◌*◌, ◌+◌, ◌-◌, ◌≤◌, length}
 use Rattle.sj_tape.specs.Gives.{EndsUtf8}
-use Rattle.sj_tape.specs.Marks.{marks}
+use Rattle.sj_tape.specs.Marks.{packed_marks}
 use Rattle.sj_text_core.specs.Parse.{parts_at, value_at, member_at}
 use Rattle.sj_tape.proofs.Parts.{Progress, item_flats, member_flats}
 use Rattle.sj_tape.proofs.reader.value.+read.Given as goal
 
 abbrev pub decreases-value : goal.decreases-value
-decreases-value l = 4 * l.depth
+decreases-value l = 5 * l.depth + 1
+
+abbrev pub decreases-other_value : goal.decreases-other_value
+decreases-other_value l = 5 * l.depth
 
 abbrev pub decreases-array : goal.decreases-array
-decreases-array l = 4 * l.depth + 3
+decreases-array l = 5 * l.depth + 4
 
 abbrev pub decreases-object : goal.decreases-object
-decreases-object l = 4 * l.depth + 3
+decreases-object l = 5 * l.depth + 4
 
 abbrev pub decreases-items : goal.decreases-items
-decreases-items l = 4 * l.depth + 2
+decreases-items l = 5 * l.depth + 3
 
 abbrev pub decreases-members : goal.decreases-members
-decreases-members l = 4 * l.depth + 2
+decreases-members l = 5 * l.depth + 3
 
 abbrev pub decreases-member : goal.decreases-member
-decreases-member l = 4 * l.depth + 1
+decreases-member l = 5 * l.depth + 2
 
 abbrev pub invariant-items-loop-after : goal.invariant-items-loop-after
 invariant-items-loop-after l = record {
@@ -29,7 +32,7 @@ invariant-items-loop-after l = record {
   ends : EndsUtf8 l.rest;
   progress : Progress item_flats (parts_at 93 (value_at l.depth) (length l.fn.bytes - l.len) l.rest)
       (parts_at 93 (value_at l.depth) (length l.fn.bytes) l.fn.bytes)
-      (marks l.initial.nodes.items) (marks l.nodes.items) l.len;
+      (packed_marks l.initial.nodes.items) (packed_marks l.nodes.items) l.len;
 }
 
 abbrev pub decreases-items-loop-after : goal.decreases-items-loop-after
@@ -41,7 +44,7 @@ invariant-members-loop-after l = record {
   ends : EndsUtf8 l.rest;
   progress : Progress member_flats (parts_at 125 (member_at (value_at l.depth)) (length l.fn.bytes - l.len) l.rest)
       (parts_at 125 (member_at (value_at l.depth)) (length l.fn.bytes) l.fn.bytes)
-      (marks l.initial.nodes.items) (marks l.nodes.items) l.len;
+      (packed_marks l.initial.nodes.items) (packed_marks l.nodes.items) l.len;
 }
 
 abbrev pub decreases-members-loop-after : goal.decreases-members-loop-after

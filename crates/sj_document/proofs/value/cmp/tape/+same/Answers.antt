@@ -6,15 +6,22 @@ use Rattle.sj_tape.specs.Items.{items, items_ahead}
 use Rattle.sj_tape.specs.Members.{members, members_ahead}
 use Rattle.sj_tape.specs.Value.{tree as tape_tree, part}
 use Rattle.sj_tape.proofs.Chosen.{item_step, member_step, members_end}
-use Rattle.sj_tape.proofs.Compared.{length-listed, place_within, length-paired, drop_next, pair_within, same_here, further_repeat, further_in_step, texts_further, same_at_end, same_found, differ_absent, further_found, same_if_has, has_if_same, allowed, denied, agree_less}
+use Rattle.sj_tape.proofs.Compared.{scalar_is, length-listed, place_within, length-paired, drop_next, pair_within, same_here, further_repeat, further_in_step, texts_further, same_at_end, same_found, differ_absent, further_found, same_if_has, has_if_same, allowed, denied, agree_less}
 use Rattle.sj_object.specs.Texts.{no_repeats}
 use Rattle.sj_object.specs.Entries.{entries_of}
 use Rattle.sj_object.specs.Members.{entry_members}
 use Rattle.sj_document.specs.Document.{tree}
-use Rattle.sj_document.proofs.Trees.{tree-Object}
+use Rattle.sj_document.proofs.Trees.{tree-Static, tree-Object}
 use Rattle.sj_document.proofs.Mixed.{lens_mixed, taken_mixed, joined_mixed, lens_next, texts_paired, found_at, absent_at, first_here}
 use Rattle.sj_document.proofs.value.cmp.tape.+same.Goals as goal
 use Rattle.sj_document.proofs.value.cmp.tape.+same.Goals.{same_rest-then-at-place+then-not-has_before+in-Some-get+else-not-first_as_tape, same_rest-else-at-place, same_rest-else-at-place-via-then-at-place+else-not-has_before, same_rest-else-at-place-via-else-at-place}
+
+pub first_as_tape-returns-in-Some : goal.first_as_tape-returns-in-Some
+first_as_tape-returns-in-Some g t c =
+    let u = g.T.KeyText.text_of in
+    let mine = scalar_is (tape_tree c.args.left) _ c.in-Some.ensures in
+    let other = ap (tree u) c.in-Static.is ∙ tree-Static u c.in-Static.other in
+    rw (mine, other) c.eq.ensures.same
 
 pub first_as_tape-returns-in-Some-as_object : goal.first_as_tape-returns-in-Some-as_object
 first_as_tape-returns-in-Some-as_object g r c =

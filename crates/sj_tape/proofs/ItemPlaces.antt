@@ -1,0 +1,86 @@
+-- Where the items of an array begin among its nodes.
+use Rattle.std.specs.Prelude.{slice_get}
+use Rattle.std.proofs.Common.{◌≡◌, ℕ, Some, None, ◌++◌, zero, suc, ◌+◌, ◌<◌, ◌≤◌, List, [], ◌∷◌, map, length, take, drop, get_or, refl, sym, ap, ◌∙◌, subst, arith}
+use Rattle.std.proofs.lemmas.List.{length-drop, length-map, get_or-drop, get_or-map, take-append-drop, drop-drop}
+use Rattle.std.proofs.lemmas.Option.{slice_get_past}
+use Rattle.sj_text_core.specs.Tree.{Tree, Items, items_len, listed}
+use Rattle.sj_text_core.specs.Find.{nth_item}
+use Rattle.sj_text_core.specs.Nodes.{Mark, nothing, width, tree_of, IsPreorder}
+use Rattle.sj_tape.specs.Fronts.{BeginsTree}
+use Rattle.sj_tape.specs.Parts.{items_in, AreItemNodes, ItemsFrom}
+use Rattle.sj_tape.proofs.Compared.{length-listed}
+use Rattle.sj_tape.proofs.Splits.{first_width, BeginsTree-items, items_len-le, next_item, slice_get-listed}
+
+pub first_place : (ns : List Mark) → AreItemNodes ns → ItemsFrom ns 0 0
+first_place ns a = record { inside = omega arith; are = a; items = refl }
+
+has_item : (ns : List Mark) (i place : ℕ) → ItemsFrom ns i place → i < items_len (items_in ns) → 0 < length (drop place ns)
+has_item ns i place h more =
+    let l = drop place ns in
+    let left : 0 < items_len (items_in l) =
+    omega (arith, more, ap (λ (ts : List Tree). length ts) h.items, length-drop i (listed (items_in ns)), length-listed (items_in ns), length-listed (items_in l)) in
+    omega (arith, left, items_len-le (items_in l), ap (λ (ms : List Mark). length ms) h.are)
+
+-- where items are left, the first node says where the next one begins
+pub record NextPlace (ns : List Mark) (i place : ℕ) : Type 0 where
+  pub inside : place < length ns
+  pub fits : place + width (get_or ns place nothing) ≤ length ns
+  pub next : ItemsFrom ns (i + 1) (place + width (get_or ns place nothing))
+
+pub next_place : (ns : List Mark) (i place n : ℕ) → ItemsFrom ns i place → i < n → n ≤ items_len (items_in ns) → NextPlace ns i place
+next_place ns i place n h more some =
+    let l = drop place ns in
+    let long = has_item ns i place h (omega (arith, more, some)) in
+    let first = first_width l (BeginsTree-items l h.are long) in
+    let step = next_item l (take (width (get_or l 0 nothing)) l) (drop (width (get_or l 0 nothing)) l) h.are long first.whole (sym (take-append-drop (width (get_or l 0 nothing)) l)) in
+    let same : width (get_or l 0 nothing) ≡ width (get_or ns place nothing) = ap width (get_or-drop place ns 0 nothing ∙ ap (λ k. get_or ns k nothing) (omega arith)) in
+    let behind : drop (width (get_or l 0 nothing)) l ≡ drop (place + width (get_or ns place nothing)) ns = drop-drop (width (get_or l 0 nothing)) place ns ∙ ap (λ n. drop (place + n) ns) same in
+    let lens = length-drop place ns in
+    record {
+      inside = omega (arith, long, lens);
+      fits = omega (arith, first.fits, same, lens, h.inside);
+      next = record {
+        inside = omega (arith, first.fits, same, lens, h.inside);
+        are = subst AreItemNodes behind step.rest_are;
+        items = ap (λ ms. listed (items_in ms)) (sym behind) ∙ ap (λ is. drop 1 (listed is)) (sym step.items) ∙ ap (λ (ts : List Tree). drop 1 ts) h.items ∙ drop-drop 1 i (listed (items_in ns));
+      };
+    }
+
+-- the same of nodes in any form, where the first one is x
+pub record NextNode {X : Type 0} (f : X → Mark) (xs : List X) (i place : ℕ) (x : X) : Type 0 where
+  pub fits : place + width (f x) ≤ length xs
+  pub next : ItemsFrom (map f xs) (i + 1) (place + width (f x))
+
+pub next_node : {X : Type 0} (f : X → Mark) (xs : List X) (i place n : ℕ) (x : X) → x ≡ get_or xs place x → ItemsFrom (map f xs) i place → i < n → n ≤ items_len (items_in (map f xs)) → NextNode f xs i place x
+next_node f xs i place n x e h more some =
+    let next = next_place (map f xs) i place n h more some in
+    let long = length-map xs f in
+    let node : width (get_or (map f xs) place nothing) ≡ width (f x) = ap width (get_or-map f xs place x nothing (omega (arith, next.inside, long)) ∙ ap f (sym e)) in
+    record {
+      fits = omega (arith, next.fits, node, long);
+      next = subst (λ w. ItemsFrom (map f xs) (i + 1) (place + w)) node next.next;
+    }
+
+slice_get-drop : {X : Type 0} (xs : List X) (i : ℕ) → slice_get xs i ≡ slice_get (drop i xs) 0
+slice_get-drop [] zero = refl
+slice_get-drop [] (suc i) = refl
+slice_get-drop (x ∷ xs) zero = refl
+slice_get-drop (x ∷ xs) (suc i) = slice_get-drop xs i
+
+-- the item at position i is the tree that begins at its place
+pub record ItemThere (ns : List Mark) (i place : ℕ) : Type 0 where
+  pub begins : BeginsTree (drop place ns)
+  pub item : (first rest : List Mark) → IsPreorder first → drop place ns ≡ first ++ rest → nth_item i (items_in ns) ≡ Some (tree_of first)
+
+pub item_there : (ns : List Mark) (i place : ℕ) → ItemsFrom ns i place → i < items_len (items_in ns) → ItemThere ns i place
+item_there ns i place h more =
+    let long = has_item ns i place h more in
+    record {
+      begins = BeginsTree-items (drop place ns) h.are long;
+      item = λ first rest p e.
+          sym (slice_get-listed (items_in ns) i) ∙ slice_get-drop (listed (items_in ns)) i ∙ ap (λ (ts : List Tree). slice_get ts 0) (sym h.items)
+          ∙ ap (λ is. slice_get (listed is) 0) (next_item (drop place ns) first rest h.are long p e).items;
+    }
+
+pub no_item : (is : Items) (i : ℕ) → items_len is ≤ i → nth_item i is ≡ None
+no_item is i h = sym (slice_get-listed is i) ∙ slice_get_past (listed is) i (omega (arith, h, length-listed is))

@@ -1,0 +1,57 @@
+//! How long prints of packed nodes are. A compact print is counted node by node, with no levels.
+
+ghost use Rattle.std.specs.Prelude.{◌≡◌, ◌+◌, ◌^◌, ◌≤◌, length, IfOk, IfErr, OnOk, OnErr};
+ghost use Rattle.sj_print.specs.Layouts.{laid, top};
+ghost use Rattle.sj_print.specs.Printed.{mark_len, marks_len, Counts};
+ghost use Rattle.sj_tape.specs.Marks.{packed_mark, packed_marks};
+ghost use Rattle.sj_tape.specs.PackedTree.{packed_tree};
+
+use super::packed_tree::PackedTree;
+use crate::list::Kept;
+use crate::node::Node;
+use crate::packed::Packed;
+use sj_print::{Count, Output, count};
+use sj_text_core::WriteError;
+
+/// Counts what the node adds to a compact print.
+#[inline(always)]
+fn count_node(node: &Packed, count: &mut Count)
+    ensures { Counts (mark_len (packed_mark node.now)) count.old count.new }
+{
+    match node.node() {
+        Node::Static(scalar) => count.put_static(scalar),
+        Node::String(text) => count.put_quoted(text),
+        Node::Array { len, .. } => count.add_array(len),
+        Node::Object { len, .. } => count.add_object(len),
+    }
+}
+
+/// How many bytes there are with the nodes' compact print behind so many.
+fn count_compact(nodes: &[Packed], before: usize) -> Result<usize, WriteError>
+    ensures ok { IfOk result (λ n. n ≡ before + marks_len (packed_marks nodes.now)) }
+    ensures err { OnErr result (2 ^ 64 ≤ before + marks_len (packed_marks nodes.now)) }
+    ensures why { IfErr result (λ e. e ≡ WriteError.TooLong) }
+    ensures fits { OnOk result (before + marks_len (packed_marks nodes.now) + 1 ≤ 2 ^ 64) }
+{
+    let mut count = Count::behind(before);
+    for node in nodes {
+        count_node(node, &mut count);
+    }
+    count.end()
+}
+
+impl<'t, 'i> PackedTree<'t, 'i> {
+    /// How many bytes there are with the print behind so many.
+    pub(super) fn count(&self, pretty: bool, before: usize) -> Result<usize, WriteError>
+        ensures ok { IfOk result (λ n. n ≡ before + length (laid (top pretty) (packed_tree self.now))) }
+        ensures err { OnErr result (2 ^ 64 ≤ before + length (laid (top pretty) (packed_tree self.now))) }
+        ensures why { IfErr result (λ e. e ≡ WriteError.TooLong) }
+        ensures fits { OnOk result (before + length (laid (top pretty) (packed_tree self.now)) + 1 ≤ 2 ^ 64) }
+    {
+        if pretty {
+            count(self, pretty, before)
+        } else {
+            count_compact(self.nodes(), before)
+        }
+    }
+}
