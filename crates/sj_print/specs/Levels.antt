@@ -8,5 +8,6 @@ use Rattle.sj_print.specs.declared.parts.Level.TheVariants as level
 abbrev pub level_tree : {I M : Type 0} → (I → List Tree) → (M → List (List ℕ × Tree)) → Level I M → Tree
 level_tree items members (level.Static s) = static_tree s
 level_tree items members (level.String s) = text s.now
+level_tree items members (level.Plain p) = text p.text.now
 level_tree items members (level.Array i) = list (items_from (items i))
 level_tree items members (level.Object m) = obj (members_from (members m))

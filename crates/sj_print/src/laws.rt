@@ -46,6 +46,7 @@ pub fn is_proper<P: Parts>(value: &P)
     match value.level() {
         Level::Static(node) => is_proper_static(node),
         Level::String(text) => is_proper_text(text),
+        Level::Plain(plain) => is_proper_text(plain.text),
         Level::Array(items) => are_proper::<P>(items),
         Level::Object(members) => have_proper::<P>(members),
     }

@@ -27,6 +27,7 @@ pub mod laws;
 mod layout;
 mod output;
 mod parts;
+mod plain_text;
 mod print;
 mod whole;
 
@@ -37,4 +38,5 @@ pub use generator::{
 pub use layout::Layout;
 pub use output::{Count, Output};
 pub use parts::{Level, Parts};
+pub use plain_text::PlainText;
 pub use whole::{count, encode, encode_counted, write, write_counted};

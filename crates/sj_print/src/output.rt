@@ -15,6 +15,7 @@ mod plain;
 mod quote;
 
 use crate::layout::Layout;
+use crate::plain_text::PlainText;
 pub use count::Count;
 pub(crate) use growing::append_quoted;
 pub(crate) use line::append_line;
@@ -76,11 +77,30 @@ pub trait Output {
         }
     }
 
+    /// The same for a text that needs no escape.
+    #[inline(always)]
+    final fn put_plain(&mut self, before: &str, plain: PlainText<'_>, behind: &str)
+        ensures { AppendsText holds self.old self.new (before.now ++ (flat_map escaped plain.entry.text.now ++ behind.now)) }
+    {
+        let before = before.as_bytes();
+        let bytes = plain.text.as_bytes();
+        let behind = behind.as_bytes();
+        self.put_between(before, bytes, behind);
+    }
+
     /// Appends the text between quotes, with escapes where they are needed.
     final fn put_quoted(&mut self, text: &str)
         ensures { AppendsText holds self.old self.new (quoted text.now) }
     {
         self.put_text("\"", text, "\"");
+    }
+
+    /// The same for a text that needs no escape.
+    #[inline(always)]
+    final fn put_quoted_plain(&mut self, plain: PlainText<'_>)
+        ensures { AppendsText holds self.old self.new (quoted plain.entry.text.now) }
+    {
+        self.put_plain("\"", plain, "\"");
     }
 
     /// Appends what the layout has between tokens.

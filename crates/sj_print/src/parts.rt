@@ -1,17 +1,20 @@
 //! Values that are taken apart level by level.
 
-ghost use Rattle.std.specs.Prelude.{◌≡◌, ℕ, List};
+ghost use Rattle.std.specs.Prelude.{◌≡◌, ℕ, List, IfSome};
 ghost use Rattle.std.specs.Iterator.{YieldsFirstBy};
 ghost use Rattle.sj_text_core.specs.Tree.{Tree};
 ghost use Rattle.sj_print.specs.Levels.{level_tree};
 
+use crate::plain_text::PlainText;
 use sj_text_core::StaticNode;
 
-/// One level of a value: a scalar, a text, or the parts of an array or an object to go over.
+/// One level of a value: a scalar, a text, maybe one that is known to need no escape, or the parts of
+/// an array or an object to go over.
 #[derive(Drop)]
 pub enum Level<'a, I, M> {
     Static(StaticNode),
     String(&'a str),
+    Plain(PlainText<'a>),
     Array(I),
     Object(M),
 }
@@ -54,4 +57,12 @@ pub trait Parts: Sized + Drop {
     /// The text of a key.
     fn key_text<'k>(key: &'k Self::Key) -> &'k str
         ensures { result.now ≡ key_of key.now };
+
+    /// The text of a key that is known to need no escape.
+    #[inline(always)]
+    fn plain_key<'k>(_key: &'k Self::Key) -> Option<PlainText<'k>>
+        ensures { IfSome result (λ plain. plain.text.now ≡ key_of _key.now) }
+    {
+        None
+    }
 }

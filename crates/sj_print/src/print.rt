@@ -1,10 +1,10 @@
 //! The walk over a value.
 
-ghost use Rattle.std.specs.Prelude.{◌≡◌, [], ◌∷◌, ◌++◌};
-ghost use Rattle.sj_text_core.specs.Print.{quoted};
+ghost use Rattle.std.specs.Prelude.{◌≡◌, [], ◌∷◌, ◌++◌, flat_map};
+ghost use Rattle.sj_text_core.specs.Print.{escaped, quoted};
 ghost use Rattle.sj_text_core.specs.Tree.{list, obj, items_from, members_from};
 ghost use Rattle.sj_print.specs.Layouts.{laid, gap, colon};
-ghost use Rattle.sj_print.specs.Outputs.{Lays};
+ghost use Rattle.sj_print.specs.Outputs.{AppendsText, Lays};
 
 use crate::layout::Layout;
 use crate::output::Output;
@@ -19,18 +19,29 @@ fn put_then_gap<O: Output>(text: &str, layout: Layout, out: &mut O)
     out.put_gap(layout);
 }
 
+/// Appends a key's text between `before` and `behind`, with escapes where they are needed.
+#[inline(always)]
+fn put_text_of<P: Parts, O: Output>(before: &str, key: &P::Key, behind: &str, out: &mut O)
+    ensures { AppendsText O.holds out.old out.new (before.now ++ (flat_map escaped (P.key_of key.now) ++ behind.now)) }
+{
+    match P::plain_key(key) {
+        Some(plain) => out.put_plain(before, plain, behind),
+        None => out.put_text(before, P::key_text(key), behind),
+    }
+}
+
 /// Appends what stands before a member's value: the mark, which `marked` has with a quote behind it,
 /// the key and a colon.
 #[inline(always)]
-fn put_key<O: Output>(mark: &str, marked: &str, key: &str, layout: Layout, out: &mut O)
+fn put_key<P: Parts, O: Output>(mark: &str, marked: &str, key: &P::Key, layout: Layout, out: &mut O)
     requires { marked.now ≡ mark.now ++ 34 ∷ [] }
-    ensures { Lays O.holds out.old out.new layout (λ s. (mark.now ++ gap s) ++ (quoted key.now ++ colon s)) }
+    ensures { Lays O.holds out.old out.new layout (λ s. (mark.now ++ gap s) ++ (quoted (P.key_of key.now) ++ colon s)) }
 {
     match layout {
-        Layout::Compact => out.put_text(marked, key, "\":"),
+        Layout::Compact => put_text_of::<P, O>(marked, key, "\":", out),
         Layout::Pretty { .. } => {
             put_then_gap(mark, layout, out);
-            out.put_text("\"", key, "\": ");
+            put_text_of::<P, O>("\"", key, "\": ", out);
         }
     }
 }
@@ -44,6 +55,7 @@ pub(crate) fn print<P: Parts, O: Output>(value: &P, layout: Layout, out: &mut O)
     match value.level() {
         Level::Static(node) => out.put_static(node),
         Level::String(text) => out.put_quoted(text),
+        Level::Plain(plain) => out.put_quoted_plain(plain),
         Level::Array(items) => print_items::<P, O>(items, layout, out),
         Level::Object(members) => print_members::<P, O>(members, layout, out),
     }
@@ -77,10 +89,10 @@ fn print_members<P: Parts, O: Output>(mut members: P::Members, layout: Layout, o
         return;
     };
     let inner = layout.deeper();
-    put_key("{", "{\"", P::key_text(&key), inner, out);
+    put_key::<P, O>("{", "{\"", &key, inner, out);
     print(&first, inner, out);
     while let Some((key, value)) = P::next_member(&mut members) {
-        put_key(",", ",\"", P::key_text(&key), inner, out);
+        put_key::<P, O>(",", ",\"", &key, inner, out);
         print(&value, inner, out);
     }
     out.put_gap(layout);

@@ -6,7 +6,7 @@ use Rattle.std.proofs.lemmas.Bool.Decides.{nat_tests}
 use Rattle.std.proofs.lemmas.List.{take-append-drop, drop-drop, get_or-drop}
 use Rattle.std.proofs.lemmas.List.Sums.{prefix_len_stops}
 use Rattle.sj_text_core.specs.Parse.{with_front, text_at}
-use Rattle.sj_print.specs.Runs.{is_plain}
+use Rattle.sj_print.specs.Runs.{is_plain, IsAllPlain}
 use Rattle.sj_text_core.proofs.parse.Escapes.{IsPlain, text_run}
 use Rattle.sj_tape.proofs.Places.{SoFar}
 
@@ -32,6 +32,23 @@ all_plain (c ∷ l) = by_byte c l (is_plain c) refl (all_plain l)
     by_byte : (c : ℕ) (l : List ℕ) (t : Bool) → is_plain c ≡ t → AllByRecursion IsPlain (take (prefix_len is_plain l) l) → AllByRecursion IsPlain (take (cond t (1 + prefix_len is_plain l) 0) (c ∷ l))
     by_byte c l true e h = subst (λ x. AllByRecursion IsPlain x) (sym (one_more (prefix_len is_plain l) c l)) (plain_is c e, h)
     by_byte c l false e h = tt
+
+all_copied : (l : List ℕ) → IsAllPlain (take (prefix_len is_plain l) l)
+all_copied [] = refl
+all_copied (c ∷ l) = by_byte c l (is_plain c) refl (all_copied l)
+  where
+    by_byte : (c : ℕ) (l : List ℕ) (t : Bool) → is_plain c ≡ t → IsAllPlain (take (prefix_len is_plain l) l) → IsAllPlain (take (cond t (1 + prefix_len is_plain l) 0) (c ∷ l))
+    by_byte c l true e h =
+        let front = take (prefix_len is_plain l) l in
+        let longer : prefix_len is_plain (c ∷ front) ≡ 1 + length front = ap (λ t. cond t (1 + prefix_len is_plain front) 0) e ∙ ap (λ n. 1 + n) h in
+        subst (λ x. IsAllPlain x) (sym (one_more (prefix_len is_plain l) c l)) (omega (arith, longer))
+    by_byte c l false e h = refl
+
+-- the run is printed as it stands
+pub run_is_plain : (b : List ℕ) (at e : ℕ) → e ≡ at + prefix_len is_plain (drop at b) → IsAllPlain (slice_range b at e)
+run_is_plain b at e h =
+    let m : e - at ≡ prefix_len is_plain (drop at b) = omega (arith, h) in
+    subst (λ k. IsAllPlain (take k (drop at b))) (sym m) (all_copied (drop at b))
 
 -- the run is read as it stands
 pub plain_so_far : (b : List ℕ) (at e : ℕ) → e ≡ at + prefix_len is_plain (drop at b) → SoFar (slice_range b at e) b at e

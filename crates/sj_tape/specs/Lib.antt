@@ -10,6 +10,7 @@ pub mod Fronts
 pub mod Value
 pub mod Items
 pub mod Members
+pub mod PackedKey
 pub mod PackedTree
 pub mod Lookup
 pub use Rattle.sj_text_core.specs.Tree

@@ -37,6 +37,7 @@ packed_mark (packed.U64 n) = number (pos n) u64
 packed_mark (packed.I128 high low) = number (cast_signed w128 (high * 2 ^ 64 + low)) i128
 packed_mark (packed.U128 high low) = number (pos (high * 2 ^ 64 + low)) u128
 packed_mark (packed.String s) = string s.now
+packed_mark (packed.Plain p) = string p.text.now
 packed_mark (packed.Array len count) = array len count
 packed_mark (packed.Object len count) = object len count
 

@@ -1,11 +1,12 @@
 //! Nodes in half the room.
 
-ghost use Rattle.std.specs.Prelude.{◌≡◌, ◌<◌, ◌^◌, ◌*◌, ◌+◌, option_map};
-ghost use Rattle.sj_text_core.specs.Nodes.{width};
+ghost use Rattle.std.specs.Prelude.{◌≡◌, ◌<◌, ◌^◌, ◌*◌, ◌+◌, option_map, IfSome};
+ghost use Rattle.sj_text_core.specs.Nodes.{string, width};
 ghost use Rattle.sj_tape.specs.Marks.{static_mark, mark, packed_mark, text_in};
 
 use crate::list::Kept;
 use crate::node::Node;
+use sj_print::PlainText;
 use sj_text_core::StaticNode;
 use std::fmt;
 
@@ -13,7 +14,8 @@ use std::fmt;
 const WORD: u128 = 1 << 64;
 
 /// A node as the reader puts it: 24 bytes, where a `Node` takes 48 for the sake of its numbers of
-/// 128 bits. The bits of such a number are `high * 2^64 + low` here.
+/// 128 bits. The bits of such a number are `high * 2^64 + low` here. A text that was read without an
+/// escape is kept as one that is printed without one.
 #[derive(Clone, Copy)]
 pub(crate) enum Packed<'i> {
     Null,
@@ -23,6 +25,7 @@ pub(crate) enum Packed<'i> {
     I128 { high: u64, low: u64 },
     U128 { high: u64, low: u64 },
     String(&'i str),
+    Plain(PlainText<'i>),
     Array { len: usize, count: usize },
     Object { len: usize, count: usize },
 }
@@ -75,6 +78,17 @@ impl<'i> Packed<'i> {
             Node::Object { len, count } => Packed::Object { len, count },
         }
     }
+
+    /// Its text, where it is known to need no escape.
+    #[inline(always)]
+    pub(crate) fn plain(&self) -> Option<PlainText<'i>>
+        ensures { IfSome result (λ plain. packed_mark self.now ≡ string plain.text.now) }
+    {
+        match *self {
+            Packed::Plain(plain) => Some(plain),
+            _ => None,
+        }
+    }
 }
 
 impl<'i> Kept<'i> for Packed<'i> {
@@ -92,6 +106,7 @@ impl<'i> Kept<'i> for Packed<'i> {
             }
             Packed::U128 { high, low } => Node::Static(StaticNode::U128(number(high, low))),
             Packed::String(text) => Node::String(text),
+            Packed::Plain(plain) => Node::String(plain.text),
             Packed::Array { len, count } => Node::Array { len, count },
             Packed::Object { len, count } => Node::Object { len, count },
         }
@@ -109,6 +124,7 @@ impl<'i> Kept<'i> for Packed<'i> {
     fn text(&self) -> Option<&'i str> {
         match *self {
             Packed::String(text) => Some(text),
+            Packed::Plain(plain) => Some(plain.text),
             _ => None,
         }
     }

@@ -9,6 +9,7 @@ ghost use Rattle.sj_tape.specs.Stretches.{nodes_in};
 mod access;
 mod cmp;
 mod packed_count;
+mod packed_key;
 mod packed_tree;
 mod scalar;
 mod serialize;

@@ -2,7 +2,7 @@
 
 ghost use Rattle.std.specs.Prelude.{◌≡◌, ◌<◌, ◌++◌, ◌∷◌, [], length, set, OnOk, IfErr};
 ghost use Rattle.std.specs.Vec.{vec_len, vec_capacity};
-ghost use Rattle.sj_tape.specs.Marks.{mark, packed_marks};
+ghost use Rattle.sj_tape.specs.Marks.{mark, packed_mark, packed_marks};
 
 use crate::node::Node;
 use crate::packed::Packed;
@@ -19,18 +19,30 @@ fn grow(nodes: &mut Vec<Packed<'_>>) -> Result<(), ErrorKind>
     Ok(())
 }
 
-/// Puts a node at the end.
+/// Puts a packed node at the end.
 #[tactic(auto, using(crate::proofs::NodeMarks::marks_push))]
 #[inline(always)]
-pub(crate) fn push_node<'i>(nodes: &mut Vec<Packed<'i>>, node: Node<'i>) -> Result<(), ErrorKind>
-    ensures marks { OnOk result (packed_marks nodes.new.items ≡ packed_marks nodes.old.items ++ mark node.entry ∷ []) }
+pub(crate) fn push_packed<'i>(
+    nodes: &mut Vec<Packed<'i>>,
+    node: Packed<'i>,
+) -> Result<(), ErrorKind>
+    ensures marks { OnOk result (packed_marks nodes.new.items ≡ packed_marks nodes.old.items ++ packed_mark node.entry ∷ []) }
     ensures err { IfErr result (λ e. e ≡ ErrorKind.OutOfMemory) }
 {
     if nodes.len() >= nodes.capacity() {
         grow(nodes)?;
     }
-    nodes.push_reserved(Packed::of(node));
+    nodes.push_reserved(node);
     Ok(())
+}
+
+/// Puts a node at the end.
+#[inline(always)]
+pub(crate) fn push_node<'i>(nodes: &mut Vec<Packed<'i>>, node: Node<'i>) -> Result<(), ErrorKind>
+    ensures marks { OnOk result (packed_marks nodes.new.items ≡ packed_marks nodes.old.items ++ mark node.entry ∷ []) }
+    ensures err { IfErr result (λ e. e ≡ ErrorKind.OutOfMemory) }
+{
+    push_packed(nodes, Packed::of(node))
 }
 
 /// How many nodes there are.

@@ -11,8 +11,9 @@ ghost use Rattle.sj_print.specs.Runs.{is_plain};
 use crate::node::Node;
 use crate::packed::Packed;
 use crate::reader::escape::escape;
-use crate::reader::nodes::push_node;
+use crate::reader::nodes::{push_node, push_packed};
 use crate::reader::run::plain_end;
+use sj_print::PlainText;
 use sj_text_core::ErrorKind;
 use std::str::from_utf8_unchecked;
 
@@ -37,7 +38,8 @@ pub(crate) fn text<'i>(
     if rest[end] == b'"' {
         let (head, tail) = rest.split_at_mut(end + 1);
         let lent: &'i [u8] = head;
-        push_node(nodes, Node::String(str_of(&lent[..end])))?;
+        let text = str_of(&lent[..end]);
+        push_packed(nodes, Packed::Plain(PlainText { text }))?;
         return Ok(tail);
     }
     if rest[end] != b'\\' {

@@ -18,6 +18,10 @@ use sj_text_core::WriteError;
 fn count_node(node: &Packed, count: &mut Count)
     ensures { Counts (mark_len (packed_mark node.now)) count.old count.new }
 {
+    if let Some(plain) = node.plain() {
+        count.put_quoted_plain(plain);
+        return;
+    }
     match node.node() {
         Node::Static(scalar) => count.put_static(scalar),
         Node::String(text) => count.put_quoted(text),

@@ -1,18 +1,19 @@
 //! Packed nodes as a tree that is printed: each step is over the slice alone.
 
-ghost use Rattle.std.specs.Prelude.{◌≡◌, ◌++◌, option_map, IfSome};
+ghost use Rattle.std.specs.Prelude.{◌≡◌, ◌++◌, IfSome};
 ghost use Rattle.std.specs.Coded.{Coded-set, coded_list};
 ghost use Rattle.sj_text_core.specs.Code.{mark_code};
 ghost use Rattle.sj_text_core.specs.Nodes.{AreMembers, IsPreorder};
 ghost use Rattle.sj_tape.specs.Fronts.{BeginsTree};
-ghost use Rattle.sj_tape.specs.Marks.{packed_marks, split_text};
+ghost use Rattle.sj_tape.specs.Marks.{packed_marks};
 ghost use Rattle.sj_tape.specs.Parts.{AreItemNodes};
 
 use super::Value;
+use super::packed_key::{PackedKey, split_key};
 use crate::list::Kept;
 use crate::node::Node;
 use crate::packed::Packed;
-use sj_print::{Level, Parts};
+use sj_print::{Level, Parts, PlainText};
 
 /// The packed nodes of one tree.
 #[derive(Clone, Copy)]
@@ -43,16 +44,6 @@ fn split_packed<'t, 'i>(nodes: &'t [Packed<'i>]) -> (&'t [Packed<'i>], &'t [Pack
     ensures all { packed_marks nodes.now ≡ packed_marks result.0.now ++ packed_marks result.1.now }
 {
     nodes.split_at(nodes[0].width())
-}
-
-/// The first node's text and the nodes behind it; None where the first is no text, or there is
-/// none.
-#[inline(always)]
-fn split_packed_text<'t, 'i>(nodes: &'t [Packed<'i>]) -> Option<(&'i str, &'t [Packed<'i>])>
-    ensures { option_map (λ p. (p.0.now, packed_marks p.1.now)) result ≡ split_text (packed_marks nodes.now) }
-{
-    let (first, behind) = nodes.split_first()?;
-    Some((first.text()?, behind))
 }
 
 impl<'t, 'i> Value<'t, 'i> {
@@ -86,8 +77,9 @@ impl<'t, 'i> Parts for PackedTree<'t, 'i> {
 
     type Members = PackedMembers<'t, 'i>;
 
-    type Key = &'i str;
+    type Key = PackedKey<'i>;
 
+    ghost use Rattle.sj_tape.specs.PackedKey.{packed_key};
     ghost use Rattle.sj_tape.specs.PackedTree.{packed_tree, packed_items, packed_members};
 
     ghost tree_of = { packed_tree };
@@ -96,13 +88,16 @@ impl<'t, 'i> Parts for PackedTree<'t, 'i> {
 
     ghost members_left = { packed_members };
 
-    ghost key_of = { λ s. s.now };
+    ghost key_of = { packed_key };
 
     #[inline(always)]
     fn level(&self) -> Level<'_, PackedItems<'t, 'i>, PackedMembers<'t, 'i>> {
         let Some((first, behind)) = self.nodes.split_first() else {
             unreachable!()
         };
+        if let Some(plain) = first.plain() {
+            return Level::Plain(plain);
+        }
         match first.node() {
             Node::Static(scalar) => Level::Static(scalar),
             Node::String(text) => Level::String(text),
@@ -122,15 +117,28 @@ impl<'t, 'i> Parts for PackedTree<'t, 'i> {
     }
 
     #[inline(always)]
-    fn next_member(members: &mut PackedMembers<'t, 'i>) -> Option<(&'i str, PackedTree<'t, 'i>)> {
-        let (key, values) = split_packed_text(members.nodes)?;
+    fn next_member(
+        members: &mut PackedMembers<'t, 'i>,
+    ) -> Option<(PackedKey<'i>, PackedTree<'t, 'i>)> {
+        let (key, values) = split_key(members.nodes)?;
         let (nodes, rest) = split_packed(values);
         *members = PackedMembers { nodes: rest };
         Some((key, PackedTree { nodes }))
     }
 
     #[inline(always)]
-    fn key_text<'k>(key: &'k &'i str) -> &'k str {
-        key
+    fn key_text<'k>(key: &'k PackedKey<'i>) -> &'k str {
+        match *key {
+            PackedKey::Text(text) => text,
+            PackedKey::Plain(plain) => plain.text,
+        }
+    }
+
+    #[inline(always)]
+    fn plain_key<'k>(key: &'k PackedKey<'i>) -> Option<PlainText<'k>> {
+        match *key {
+            PackedKey::Text(_) => None,
+            PackedKey::Plain(plain) => Some(plain),
+        }
     }
 }

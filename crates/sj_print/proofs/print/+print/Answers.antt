@@ -1,7 +1,6 @@
-use Rattle.std.proofs.Common.{◌∷◌, ◌++◌, ap, subst, arith}
+use Rattle.std.proofs.Common.{ap, subst, arith}
 use Rattle.sj_text_core.specs.Tree.{items_from, members_from, items_depth, members_depth}
-use Rattle.sj_text_core.specs.Print.{quoted}
-use Rattle.sj_print.specs.Layouts.{laid, deeper, gap, colon}
+use Rattle.sj_print.specs.Layouts.{laid, deeper}
 use Rattle.sj_print.specs.Outputs.{AppendsText, HoldsText}
 use Rattle.sj_print.proofs.Walks.{items_first, items_next, items_last, members_first, members_next, members_last}
 use Rattle.sj_print.proofs.print.+print.Goals as goal
@@ -42,7 +41,7 @@ print_members-loop-key-init g r c =
       within = omega (arith, ap (λ ps. members_depth (members_from ps)) c.in-Some.ensures);
       put = λ s l. members_first (HoldsText g.O.Output.holds) s (g.P.Parts.key_of c.in-Some.key) (g.P.Parts.tree_of c.in-Some.first) (members_from (g.P.Parts.members_left c.next_member.new.members)) (members_from (g.P.Parts.members_left c.args.members))
           c.args.out.now c.put_key.new.out c.print.new.out (ap members_from c.in-Some.ensures)
-          (subst (λ k. AppendsText g.O.Output.holds c.args.out.now c.put_key.new.out ((123 ∷ gap (deeper s)) ++ (quoted k ++ colon (deeper s)))) c.key_text.ensures (c.put_key.ensures (deeper s) (c.deeper-inner.ensures s l))) (c.print.ensures (deeper s) (c.deeper-inner.ensures s l));
+          (c.put_key.ensures (deeper s) (c.deeper-inner.ensures s l)) (c.print.ensures (deeper s) (c.deeper-inner.ensures s l));
     }
 
 pub print_members-loop-key-preserved : goal.print_members-loop-key-preserved
@@ -51,7 +50,7 @@ print_members-loop-key-preserved g r c =
       within = omega (arith, c.loop-key.invariant.within, ap (λ ps. members_depth (members_from ps)) c.in-Some-next_member.ensures);
       put = λ s l. members_next (HoldsText g.O.Output.holds) s (g.P.Parts.key_of c.in-Some-next_member.key) (g.P.Parts.tree_of c.in-Some-next_member.value) (members_from (g.P.Parts.members_left c.next_member-in-loop-key.new.members)) (members_from (g.P.Parts.members_left c.loop-key.members)) _
           c.args.out.now c.loop-key.out c.put_key-in-Some-next_member.new.out c.print-in-Some-next_member.new.out (ap members_from c.in-Some-next_member.ensures) (c.loop-key.invariant.put s l)
-          (subst (λ k. AppendsText g.O.Output.holds c.loop-key.out c.put_key-in-Some-next_member.new.out ((44 ∷ gap (deeper s)) ++ (quoted k ++ colon (deeper s)))) c.key_text-in-Some-next_member.ensures (c.put_key-in-Some-next_member.ensures (deeper s) (c.deeper-inner.ensures s l))) (c.print-in-Some-next_member.ensures (deeper s) (c.deeper-inner.ensures s l));
+          (c.put_key-in-Some-next_member.ensures (deeper s) (c.deeper-inner.ensures s l)) (c.print-in-Some-next_member.ensures (deeper s) (c.deeper-inner.ensures s l));
     }
 
 pub print_members-returns : goal.print_members-returns
