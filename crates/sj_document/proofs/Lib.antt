@@ -7,6 +7,7 @@ pub mod Arrays
 pub mod Subsets
 pub mod Compared
 pub mod Mixed
+pub mod Sorts
 pub mod Maps
 pub mod Levels
 pub mod Pairs

@@ -1,22 +1,65 @@
-use Rattle.std.proofs.Common.{◌≡◌, ℕ, ◌+◌, ◌<◌, ◌^◌, ◌↔◌, List, map, sym, ap, ◌∙◌, arith, rules, length, IsTrue}
+use Rattle.std.proofs.Common.{◌≡◌, ℕ, ◌+◌, ◌<◌, ◌^◌, ◌↔◌, List, map, sym, ap, ◌∙◌, arith, rules, length, IsTrue, bytes_eq}
 use Rattle.std.proofs.lemmas.List.{drop-map}
-use Rattle.sj_text_core.specs.Tree.{Tree, obj, items_depth, items_from, listed, paired}
+use Rattle.sj_text_core.specs.Tree.{Tree, list, obj, items_depth, items_from, listed, paired}
 use Rattle.sj_text_core.specs.Agree.{HasTexts, texts}
 use Rattle.sj_text_core.specs.Keep.{is_seen}
 use Rattle.sj_text_core.specs.Repeats.{keep_last, keep_last_items}
 use Rattle.sj_text_core.specs.declared.repeats.Repeats.TheVariants.{First, Last}
-use Rattle.sj_text_core.proofs.Shapes.{items_from-listed, obj_is}
+use Rattle.sj_text_core.proofs.Shapes.{items_from-listed, list_is, obj_is}
 use Rattle.sj_tape.specs.Items.{items, items_ahead, parts_ahead}
 use Rattle.sj_tape.specs.Members.{members, members_ahead, parts_ahead as pairs_ahead}
 use Rattle.sj_tape.specs.Value.{tree as tape_tree, part}
 use Rattle.sj_tape.proofs.Chosen.{item_step, member_step, members_end}
-use Rattle.sj_tape.proofs.Compared.{length-listed, place_within, length-paired, drop_next, pair_within, allowed, denied}
+use Rattle.sj_tape.proofs.Compared.{scalar_is, length-listed, place_within, length-paired, drop_next, pair_within, allowed, denied}
 use Rattle.sj_tape.proofs.Counted.{part_choice, member_choice, parts, items_last, len_last, counted_again, counted_same, same_last, not_same_last, same_if_counted, has_if_counted}
 use Rattle.sj_object.specs.Members.{entry_members}
 use Rattle.sj_document.specs.Document.{tree}
-use Rattle.sj_document.proofs.Trees.{tree-Object}
+use Rattle.sj_document.proofs.Trees.{tree-Static, tree-Array, tree-Object}
 use Rattle.sj_document.proofs.Mixed.{lens_mixed, taken_mixed, joined_mixed, lens_next, found_at, absent_at}
+use Rattle.sj_document.proofs.Sorts.{text_is, same_text, tree-String, keep_static, keep_sort, unlike_static, unlike_text, unlike_list, unlike_obj}
 use Rattle.sj_document.proofs.value.cmp.tape.+last.Goals as goal
+
+pub last_as_tape-returns-in-Some : goal.last_as_tape-returns-in-Some
+last_as_tape-returns-in-Some g r c =
+    let u = g.T.KeyText.text_of in
+    let mine = scalar_is (tape_tree c.args.left) _ c.in-Some.ensures in
+    let other = ap (tree u) c.in-Static.is ∙ tree-Static u c.in-Static.other in
+    rw (mine, keep_static c.in-Some.scalar, other) c.eq.ensures.same
+
+pub last_as_tape-returns-in-Some-into_string : goal.last_as_tape-returns-in-Some-into_string
+last_as_tape-returns-in-Some-into_string g r c =
+    let u = g.T.KeyText.text_of in
+    let s = c.in-Some-into_string.text.now in
+    let mine = text_is (tape_tree c.args.left) s c.in-Some-into_string.ensures in
+    let other = ap (tree u) c.in-String.is ∙ tree-String u c.in-String.other in
+    rw (mine, other) (same_text s (u c.in-String.other) _ (c.eq-in-Some-into_string.ensures ∙ ap (bytes_eq s) c.text.ensures))
+
+pub last_as_tape-returns-in-Some-as_array : goal.last_as_tape-returns-in-Some-as_array
+last_as_tape-returns-in-Some-as_array g r c =
+    let u = g.T.KeyText.text_of in
+    let mine = list_is (tape_tree c.args.left) (items c.in-Some-as_array.items) c.in-Some-as_array.ensures.items in
+    let other = ap (tree u) c.in-Array.is ∙ tree-Array u c.in-Array.others ∙ ap (λ v. list (items_from (map (tree u) v.items))) (sym c.deref.ensures) in
+    rw (mine, other) c.last_items.ensures
+
+pub last_as_tape-returns-in-None : goal.last_as_tape-returns-in-None
+last_as_tape-returns-in-None g r c =
+    let u = g.T.KeyText.text_of in
+    (λ f. absurd (cc), λ h. absurd (unlike_static (tape_tree c.args.left) (keep_last (tape_tree c.args.left)) (tree u c.args.right.now) (keep_sort (tape_tree c.args.left)) c.in-None.ensures c.in-Static.other (ap (tree u) c.in-Static.is ∙ tree-Static u c.in-Static.other) h))
+
+pub last_as_tape-returns-in-None-into_string : goal.last_as_tape-returns-in-None-into_string
+last_as_tape-returns-in-None-into_string g r c =
+    let u = g.T.KeyText.text_of in
+    (λ f. absurd (cc), λ h. absurd (unlike_text (tape_tree c.args.left) (keep_last (tape_tree c.args.left)) (tree u c.args.right.now) (keep_sort (tape_tree c.args.left)) c.in-None-into_string.ensures _ (ap (tree u) c.in-String.is ∙ tree-String u c.in-String.other) h))
+
+pub last_as_tape-returns-in-None-as_array : goal.last_as_tape-returns-in-None-as_array
+last_as_tape-returns-in-None-as_array g r c =
+    let u = g.T.KeyText.text_of in
+    (λ f. absurd (cc), λ h. absurd (unlike_list (tape_tree c.args.left) (keep_last (tape_tree c.args.left)) (tree u c.args.right.now) (keep_sort (tape_tree c.args.left)) c.in-None-as_array.ensures.items _ (ap (tree u) c.in-Array.is ∙ tree-Array u c.in-Array.others) h))
+
+pub last_as_tape-returns-in-None-as_object : goal.last_as_tape-returns-in-None-as_object
+last_as_tape-returns-in-None-as_object g r c =
+    let u = g.T.KeyText.text_of in
+    (λ f. absurd (cc), λ h. absurd (unlike_obj (tape_tree c.args.left) (keep_last (tape_tree c.args.left)) (tree u c.args.right.now) (keep_sort (tape_tree c.args.left)) c.in-None-as_object.ensures.members _ (ap (tree u) c.in-Object.is ∙ tree-Object u c.in-Object.others) h))
 
 pub last_as_tape-returns-in-Some-as_object : goal.last_as_tape-returns-in-Some-as_object
 last_as_tape-returns-in-Some-as_object g r c =

@@ -1,7 +1,7 @@
-use Rattle.std.proofs.Common.{◌≡◌, ◌+◌, ◌<◌, ◌^◌, ◌↔◌, refl, sym, ap, ◌∙◌, arith, rules, length, IsTrue, bytes_eq}
-use Rattle.sj_text_core.specs.Tree.{obj, items_depth, items_from, paired}
+use Rattle.std.proofs.Common.{◌≡◌, ◌+◌, ◌<◌, ◌^◌, ◌↔◌, refl, sym, ap, ◌∙◌, arith, rules, length, map, IsTrue, bytes_eq}
+use Rattle.sj_text_core.specs.Tree.{list, obj, items_depth, items_from, paired}
 use Rattle.sj_text_core.specs.Agree.{HasTexts, is_before}
-use Rattle.sj_text_core.proofs.Shapes.{items_from-listed, obj_is}
+use Rattle.sj_text_core.proofs.Shapes.{items_from-listed, list_is, obj_is}
 use Rattle.sj_tape.specs.Items.{items, items_ahead}
 use Rattle.sj_tape.specs.Members.{members, members_ahead}
 use Rattle.sj_tape.specs.Value.{tree as tape_tree, part}
@@ -11,8 +11,9 @@ use Rattle.sj_object.specs.Texts.{no_repeats}
 use Rattle.sj_object.specs.Entries.{entries_of}
 use Rattle.sj_object.specs.Members.{entry_members}
 use Rattle.sj_document.specs.Document.{tree}
-use Rattle.sj_document.proofs.Trees.{tree-Static, tree-Object}
+use Rattle.sj_document.proofs.Trees.{tree-Static, tree-Array, tree-Object}
 use Rattle.sj_document.proofs.Mixed.{lens_mixed, taken_mixed, joined_mixed, lens_next, texts_paired, found_at, absent_at, first_here}
+use Rattle.sj_document.proofs.Sorts.{text_is, same_text, tree-String, unlike_static, unlike_text, unlike_list, unlike_obj}
 use Rattle.sj_document.proofs.value.cmp.tape.+same.Goals as goal
 use Rattle.sj_document.proofs.value.cmp.tape.+same.Goals.{same_rest-then-at-place+then-not-has_before+in-Some-get+else-not-first_as_tape, same_rest-else-at-place, same_rest-else-at-place-via-then-at-place+else-not-has_before, same_rest-else-at-place-via-else-at-place}
 
@@ -22,6 +23,41 @@ first_as_tape-returns-in-Some g t c =
     let mine = scalar_is (tape_tree c.args.left) _ c.in-Some.ensures in
     let other = ap (tree u) c.in-Static.is ∙ tree-Static u c.in-Static.other in
     rw (mine, other) c.eq.ensures.same
+
+pub first_as_tape-returns-in-Some-into_string : goal.first_as_tape-returns-in-Some-into_string
+first_as_tape-returns-in-Some-into_string g r c =
+    let u = g.T.KeyText.text_of in
+    let s = c.in-Some-into_string.text.now in
+    let mine = text_is (tape_tree c.args.left) s c.in-Some-into_string.ensures in
+    let other = ap (tree u) c.in-String.is ∙ tree-String u c.in-String.other in
+    rw (mine, other) (same_text s (u c.in-String.other) _ (c.eq-in-Some-into_string.ensures ∙ ap (bytes_eq s) c.text.ensures))
+
+pub first_as_tape-returns-in-Some-as_array : goal.first_as_tape-returns-in-Some-as_array
+first_as_tape-returns-in-Some-as_array g r c =
+    let u = g.T.KeyText.text_of in
+    let mine = list_is (tape_tree c.args.left) (items c.in-Some-as_array.items) c.in-Some-as_array.ensures.items in
+    let other = ap (tree u) c.in-Array.is ∙ tree-Array u c.in-Array.others ∙ ap (λ v. list (items_from (map (tree u) v.items))) (sym c.deref.ensures) in
+    rw (mine, other) c.same_items.ensures
+
+pub first_as_tape-returns-in-None : goal.first_as_tape-returns-in-None
+first_as_tape-returns-in-None g r c =
+    let u = g.T.KeyText.text_of in
+    (λ f. absurd (cc), λ h. absurd (unlike_static (tape_tree c.args.left) (tape_tree c.args.left) (tree u c.args.right.now) (refl) c.in-None.ensures c.in-Static.other (ap (tree u) c.in-Static.is ∙ tree-Static u c.in-Static.other) h))
+
+pub first_as_tape-returns-in-None-into_string : goal.first_as_tape-returns-in-None-into_string
+first_as_tape-returns-in-None-into_string g r c =
+    let u = g.T.KeyText.text_of in
+    (λ f. absurd (cc), λ h. absurd (unlike_text (tape_tree c.args.left) (tape_tree c.args.left) (tree u c.args.right.now) (refl) c.in-None-into_string.ensures _ (ap (tree u) c.in-String.is ∙ tree-String u c.in-String.other) h))
+
+pub first_as_tape-returns-in-None-as_array : goal.first_as_tape-returns-in-None-as_array
+first_as_tape-returns-in-None-as_array g r c =
+    let u = g.T.KeyText.text_of in
+    (λ f. absurd (cc), λ h. absurd (unlike_list (tape_tree c.args.left) (tape_tree c.args.left) (tree u c.args.right.now) (refl) c.in-None-as_array.ensures.items _ (ap (tree u) c.in-Array.is ∙ tree-Array u c.in-Array.others) h))
+
+pub first_as_tape-returns-in-None-as_object : goal.first_as_tape-returns-in-None-as_object
+first_as_tape-returns-in-None-as_object g r c =
+    let u = g.T.KeyText.text_of in
+    (λ f. absurd (cc), λ h. absurd (unlike_obj (tape_tree c.args.left) (tape_tree c.args.left) (tree u c.args.right.now) (refl) c.in-None-as_object.ensures.members _ (ap (tree u) c.in-Object.is ∙ tree-Object u c.in-Object.others) h))
 
 pub first_as_tape-returns-in-Some-as_object : goal.first_as_tape-returns-in-Some-as_object
 first_as_tape-returns-in-Some-as_object g r c =
