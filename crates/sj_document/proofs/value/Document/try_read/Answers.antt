@@ -1,0 +1,13 @@
+use Rattle.std.proofs.Common.{Ok, option_map, sym, ap, ◌∙◌}
+use Rattle.sj_text_core.specs.Find.{find}
+use Rattle.sj_text_core.specs.Reads.{as_members, kind_of}
+use Rattle.sj_document.specs.Document.{tree}
+use Rattle.sj_document.proofs.Read.{none_read}
+use Rattle.sj_document.proofs.value.Document.try_read.Goals as goal
+
+pub returns-in-None : goal.returns-in-None
+returns-in-None g c =
+    let t = tree g.T.KeyText.text_of in
+    let whole = t c.args.self.now in
+    let absent = ap (λ o. Ok (option_map (λ v. t v.now) o)) (sym c.in-None.is) ∙ c.in_ok-member.ensures in
+    none_read g.S.Scalar.reading g.S.Scalar.kind (kind_of whole) (as_members whole) (find c.args.key.now whole) absent
