@@ -1,12 +1,13 @@
-use Rattle.std.proofs.Common.{sym, ap, ◌∙◌, arith}
-use Rattle.sj_text_core.specs.Tree.{obj, depth, members_depth}
+use Rattle.std.proofs.Common.{map, sym, ap, ◌∙◌, arith}
+use Rattle.sj_text_core.specs.Tree.{text, list, obj, depth, items_depth, members_depth, items_from}
 use Rattle.sj_text_core.specs.Edits as members
 use Rattle.sj_object.specs.Entries.{entries_of}
 use Rattle.sj_object.specs.Members.{entry_members}
 use Rattle.sj_object.proofs.Shown.{entry_members-put}
 use Rattle.sj_object.proofs.Walks.{put_all, put_all-distinct}
 use Rattle.sj_document.specs.Document.{tree}
-use Rattle.sj_document.proofs.Trees.{tree-Object}
+use Rattle.sj_document.proofs.Trees.{tree-Array, tree-Object}
+use Rattle.sj_document.proofs.Sorts.{tree-String}
 use Rattle.sj_document.proofs.value.convert.+convert.Goals as goal
 
 pub convert-convert_members-requires : goal.convert-convert_members-requires
@@ -45,3 +46,21 @@ convert_members-loop-key-preserved g r c =
           ∙ ap (put_all (tree t) (entry_members (tree u) old)) (sym ahead) ∙ c.loop-key.invariant.made;
       within = omega (arith, c.loop-key.invariant.within, ap (λ es. members_depth (entry_members (tree t) es)) ahead);
     }
+
+pub convert-convert_items-requires : goal.convert-convert_items-requires
+convert-convert_items-requires g r c κs within =
+    let t = g.T.KeyText.text_of in
+    (omega (arith, c.decreases, ap depth (ap (tree t) c.in-Array.is ∙ tree-Array t c.in-Array.items), ap (λ v. items_depth (items_from (map (tree t) v.items))) c.into_inner.ensures), within)
+
+pub convert-returns-in_ok-text_from-in-String : goal.convert-returns-in_ok-text_from-in-String
+convert-returns-in_ok-text_from-in-String g r c =
+    let t = g.T.KeyText.text_of in
+    tree-String g.U.KeyText.text_of c.in_ok-text_from-in-String.field-0 ∙ ap text c.in_ok-text_from-in-String.ensures ∙ sym (ap (tree t) c.in-String.is ∙ tree-String t c.in-String.text)
+
+pub convert-returns-in_ok-new-in-Array : goal.convert-returns-in_ok-new-in-Array
+convert-returns-in_ok-new-in-Array g r c =
+    let t = g.T.KeyText.text_of in
+    let u = g.U.KeyText.text_of in
+    tree-Array u c.in_ok-new-in-Array.field-0
+    ∙ ap (λ us. list (items_from us)) (ap (λ v. map (tree u) v.items) c.in_ok-new-in-Array.ensures.ok ∙ c.in_ok-items-in-Array.ensures ∙ ap (λ v. map (tree t) v.items) c.into_inner.ensures)
+    ∙ sym (ap (tree t) c.in-Array.is ∙ tree-Array t c.in-Array.items)

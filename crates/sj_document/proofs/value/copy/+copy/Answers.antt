@@ -1,12 +1,13 @@
 use Rattle.std.proofs.Common.{map, sym, ap, ◌∙◌, arith}
-use Rattle.sj_text_core.specs.Tree.{obj, depth, items_depth, members_depth, items_from}
+use Rattle.sj_text_core.specs.Tree.{text, list, obj, depth, items_depth, members_depth, items_from}
 use Rattle.sj_text_core.specs.Edits as members
 use Rattle.sj_object.specs.Entries.{entries_of}
 use Rattle.sj_object.specs.Members.{entry_members}
 use Rattle.sj_object.proofs.Shown.{entry_members-put}
 use Rattle.sj_object.proofs.Walks.{put_all, put_all-distinct}
 use Rattle.sj_document.specs.Document.{tree}
-use Rattle.sj_document.proofs.Trees.{tree-Object}
+use Rattle.sj_document.proofs.Trees.{tree-Array, tree-Object}
+use Rattle.sj_document.proofs.Sorts.{tree-String}
 use Rattle.sj_document.proofs.Walks.{item_within, copied_next}
 use Rattle.sj_document.proofs.value.copy.+copy.Goals as goal
 
@@ -59,3 +60,20 @@ copy_members-loop-key-preserved g r c =
           ∙ ap (put_all (tree t) (entry_members (tree t) old)) (sym ahead) ∙ c.loop-key.invariant.copied;
       within = omega (arith, c.loop-key.invariant.within, ap (λ es. members_depth (entry_members (tree t) es)) ahead);
     }
+
+pub copy-copy_items-requires : goal.copy-copy_items-requires
+copy-copy_items-requires g r c κs within =
+    let t = g.T.KeyText.text_of in
+    (omega (arith, c.decreases, ap depth (ap (tree t) c.in-Array.is ∙ tree-Array t c.in-Array.items), ap (λ v. items_depth (items_from (map (tree t) v.items))) c.deref.ensures), within)
+
+pub copy-returns-in_ok-copy-in-String : goal.copy-returns-in_ok-copy-in-String
+copy-returns-in_ok-copy-in-String g r c =
+    let t = g.T.KeyText.text_of in
+    tree-String t c.in_ok-copy-in-String.field-0 ∙ ap text c.in_ok-copy-in-String.ensures ∙ sym (ap (tree t) c.in-String.is ∙ tree-String t c.in-String.text)
+
+pub copy-returns-in_ok-new-in-Array : goal.copy-returns-in_ok-new-in-Array
+copy-returns-in_ok-new-in-Array g r c =
+    let t = g.T.KeyText.text_of in
+    tree-Array t c.in_ok-new-in-Array.field-0
+    ∙ ap (λ us. list (items_from us)) (ap (λ v. map (tree t) v.items) c.in_ok-new-in-Array.ensures.ok ∙ c.in_ok-copies-in-Array.ensures ∙ ap (λ v. map (tree t) v.items) c.deref.ensures)
+    ∙ sym (ap (tree t) c.in-Array.is ∙ tree-Array t c.in-Array.items)

@@ -1,9 +1,10 @@
-use Rattle.std.proofs.Common.{◌<◌, length, map, refl, sym, ap, ◌∙◌, arith}
-use Rattle.sj_text_core.specs.Tree.{obj, depth, members_depth, items_depth, items_from}
+use Rattle.std.proofs.Common.{◌<◌, length, map, refl, sym, ap, ◌∙◌, arith, bytes_eq}
+use Rattle.sj_text_core.specs.Tree.{list, obj, depth, members_depth, items_depth, items_from}
 use Rattle.sj_object.specs.Entries.{entries_of}
 use Rattle.sj_object.specs.Members.{entry_members}
 use Rattle.sj_document.specs.Document.{tree}
-use Rattle.sj_document.proofs.Trees.{tree-Object}
+use Rattle.sj_document.proofs.Trees.{tree-Static, tree-Array, tree-Object}
+use Rattle.sj_document.proofs.Sorts.{tree-String, same_text}
 use Rattle.sj_document.proofs.Walks.{item_within}
 use Rattle.sj_document.proofs.Compared.{lens_same, taken, joined, at_end, next_same, next_there, next_found, found_on, maps_same, maps_each, maps_len, each_there, near_there}
 use Rattle.sj_tape.proofs.Compared.{allowed, denied}
@@ -146,3 +147,32 @@ same_values-returns-in-Object-right g r c =
     let mine = ap (tree t) c.in-Object.is ∙ tree-Object t c.in-Object.members ∙ ap (λ m. obj (entry_members (tree t) m.entries)) (sym c.deref-in-Object-right.ensures) in
     let other = ap (tree u) c.in-Object-right.is ∙ tree-Object u c.in-Object-right.others ∙ ap (λ m. obj (entry_members (tree u) m.entries)) (sym c.deref-in-Object-right-2.ensures) in
     rw (mine, other) c.same_members.ensures
+
+pub same_values-same_items-requires : goal.same_values-same_items-requires
+same_values-same_items-requires g r c κs within =
+    let t = g.T.KeyText.text_of in
+    (omega (arith, c.decreases, ap depth (ap (tree t) c.in-Array.is ∙ tree-Array t c.in-Array.items), ap (λ v. items_depth (items_from (map (tree t) v.items))) c.deref.ensures), within)
+
+pub same_values-returns-in-Static-right : goal.same_values-returns-in-Static-right
+same_values-returns-in-Static-right g r c =
+    let t = g.T.KeyText.text_of in
+    let u = g.U.KeyText.text_of in
+    let mine = ap (tree t) c.in-Static.is ∙ tree-Static t c.in-Static.scalar in
+    let other = ap (tree u) c.in-Static-right.is ∙ tree-Static u c.in-Static-right.other in
+    rw (mine, other) c.eq.ensures.same
+
+pub same_values-returns-in-String-right : goal.same_values-returns-in-String-right
+same_values-returns-in-String-right g r c =
+    let t = g.T.KeyText.text_of in
+    let u = g.U.KeyText.text_of in
+    let mine = ap (tree t) c.in-String.is ∙ tree-String t c.in-String.text in
+    let other = ap (tree u) c.in-String-right.is ∙ tree-String u c.in-String-right.other in
+    rw (mine, other) (same_text (t c.in-String.text) (u c.in-String-right.other) _ (c.eq-in-String-right.ensures ∙ (λ i. bytes_eq (c.text.ensures i) (c.text-in-String-right.ensures i))))
+
+pub same_values-returns-in-Array-right : goal.same_values-returns-in-Array-right
+same_values-returns-in-Array-right g r c =
+    let t = g.T.KeyText.text_of in
+    let u = g.U.KeyText.text_of in
+    let mine = ap (tree t) c.in-Array.is ∙ tree-Array t c.in-Array.items ∙ ap (λ v. list (items_from (map (tree t) v.items))) (sym c.deref.ensures) in
+    let other = ap (tree u) c.in-Array-right.is ∙ tree-Array u c.in-Array-right.others ∙ ap (λ v. list (items_from (map (tree u) v.items))) (sym c.deref-in-Array-right.ensures) in
+    rw (mine, other) c.same_items.ensures
