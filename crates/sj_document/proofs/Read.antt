@@ -1,8 +1,11 @@
 -- A typed read of what was found in a document.
-use Rattle.std.proofs.Common.{◌≡◌, Option, Some, None, Ok, refl, ap}
+use Rattle.std.proofs.Common.{◌≡◌, Option, Some, None, Result, Ok, Err, refl, sym, ap, true≢false}
+use Rattle.std.specs.Result.{IsErr, IsErrAnd}
 use Rattle.sj_text_core.specs.Tree.{Tree}
 use Rattle.sj_text_core.specs.Reads.{kind_of, found_in, read_as, some_as, member_read_in}
 use Rattle.sj_text_core.specs.declared.value_type.ValueType.{ValueType}
+use Rattle.sj_text_core.specs.declared.value_type.ValueType.TheVariants as kind
+use Rattle.sj_text_core.specs.declared.value_type.TryTypeError.{TryTypeError}
 
 module _ {P A : Type 0} (read : Tree → Option A) (expected got : ValueType) where
   pub none_read : (m : Option P) (found : Option Tree) → Ok None ≡ found_in m got found → Ok None ≡ member_read_in read expected m got found
@@ -18,3 +21,15 @@ module _ {P A : Type 0} (read : Tree → Option A) (expected got : ValueType) wh
 pub there_as : {A : Type 0} (o : Option A) (x : A) (expected got : ValueType) → Ok x ≡ read_as o expected got → Ok (Some x) ≡ some_as o expected got
 there_as None x expected got e = cc
 there_as (Some y) x expected got e = let s : x ≡ y = cc in ap (λ x. Ok (Some x)) s
+
+pub no_object : {P A : Type 0} (read : Tree → Option A) (expected got : ValueType) (m : Option P) (found : Option Tree) (e : TryTypeError) → Err e ≡ found_in m got found → Err e ≡ member_read_in read expected m got found
+no_object read expected got None found e h = let s : e ≡ record { expected = kind.Object; got = got } = cc in ap Err s
+no_object read expected got (Some ms) found e h = cc
+
+pub not_there_as : {A : Type 0} (o : Option A) (e : TryTypeError) (expected got : ValueType) → Err e ≡ read_as o expected got → Err e ≡ some_as o expected got
+not_there_as None e expected got h = let s : e ≡ record { expected = expected; got = got } = cc in ap Err s
+not_there_as (Some x) e expected got h = cc
+
+pub fault_is : {A E : Type 0} (r : Result A E) (x : E) → IsErr r × IsErrAnd r (λ e. e ≡ x) → r ≡ Err x
+fault_is (Ok a) x h = absurd (true≢false (sym h.0))
+fault_is (Err e) x h = ap Err h.1
