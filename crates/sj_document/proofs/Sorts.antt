@@ -10,7 +10,7 @@ use Rattle.sj_text_core.specs.declared.static_node.StaticNode.{StaticNode}
 use Rattle.sj_text_core.specs.declared.static_node.StaticNode.TheVariants.{Null, Bool as Truth, I64, U64, I128, U128}
 use Rattle.sj_tape.specs.Value.{as_scalar}
 use Rattle.sj_document.specs.Document.{tree}
-use Rattle.sj_document.specs.declared.value.Document.{Document, String, the_lemmas}
+use Rattle.sj_document.specs.declared.value.Document.{String, the_lemmas}
 
 abbrev sort : Tree → ℕ
 sort null = 0
