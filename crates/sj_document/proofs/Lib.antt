@@ -8,7 +8,6 @@ pub mod Subsets
 pub mod Compared
 pub mod Mixed
 pub mod Sorts
-pub mod Read
 pub mod Maps
 pub mod Levels
 pub mod Pairs

@@ -9,6 +9,7 @@ pub mod Digits
 pub mod Fronts
 pub mod Gives
 pub mod Lookups
+pub mod Read
 pub mod NodeMarks
 pub mod Overwrites
 pub mod PackedCounts

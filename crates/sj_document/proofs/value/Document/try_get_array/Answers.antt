@@ -5,7 +5,7 @@ use Rattle.sj_text_core.specs.Tree.{items_from}
 use Rattle.sj_text_core.specs.Reads.{as_members, as_items, kind_of}
 use Rattle.sj_text_core.specs.declared.value_type.ValueType.TheVariants as kind
 use Rattle.sj_document.specs.Document.{tree}
-use Rattle.sj_document.proofs.Read.{none_read, some_read, there_as, no_object, not_there_as, fault_is}
+use Rattle.sj_tape.proofs.Read.{none_read, some_read, there_as, no_object, not_there_as, fault_is}
 use Rattle.sj_document.proofs.value.Document.try_get_array.Goals as goal
 
 pub returns-in_ok-try_as_array-in-Some : goal.returns-in_ok-try_as_array-in-Some

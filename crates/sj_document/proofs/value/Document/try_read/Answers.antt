@@ -2,7 +2,7 @@ use Rattle.std.proofs.Common.{Ok, option_map, sym, ap, ◌∙◌}
 use Rattle.sj_text_core.specs.Find.{find}
 use Rattle.sj_text_core.specs.Reads.{as_members, kind_of}
 use Rattle.sj_document.specs.Document.{tree}
-use Rattle.sj_document.proofs.Read.{none_read, no_object, fault_is}
+use Rattle.sj_tape.proofs.Read.{none_read, no_object, fault_is}
 use Rattle.sj_document.proofs.value.Document.try_read.Goals as goal
 
 pub returns-in-None : goal.returns-in-None

@@ -1,4 +1,4 @@
--- A typed read of what was found in a document.
+-- A typed read of what was found under a key.
 use Rattle.std.proofs.Common.{◌≡◌, Option, Some, None, Result, Ok, Err, refl, sym, ap, true≢false}
 use Rattle.std.specs.Result.{IsErr, IsErrAnd}
 use Rattle.sj_text_core.specs.Tree.{Tree}
