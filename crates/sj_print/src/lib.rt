@@ -18,7 +18,8 @@
 //! walk: once for the exact length, which is asked for at once, and once for the bytes. Where the
 //! length is known another way, `write_counted` and `encode_counted` go over the value once.
 //!
-//! Both put a text between quotes by one loop, which copies runs of plain bytes.
+//! Both put a text between quotes by one loop, which copies runs of plain bytes; a text that is known
+//! to need no escape (`PlainText`) is copied at once.
 #![tactic(auto)]
 
 mod formatter;
