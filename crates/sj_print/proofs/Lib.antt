@@ -7,5 +7,6 @@ pub mod Puts
 pub mod Layouts
 pub mod Walks
 pub mod Ends
+mod Places
 pub mod Printed
 pub mod rows

@@ -27,18 +27,21 @@ impl<'f, W: fmt::Write> Output for Shown<'f, W> {
 
     ghost holds = { λ start s b. (s.formatter.ghost_name ≡ start.0) × (IsPlainFormatter start.1 → IsOk s.result → HasWritten W.write_str_gives start.1 b s.formatter.now) };
 
-    fn put_bytes(&mut self, bytes: &[u8]) {
-        if self.result.is_ok() {
-            self.result = match str::from_utf8(bytes) {
-                Ok(text) => self.formatter.write_str(text),
-                Err(_) => Err(fmt::Error),
-            };
-        }
+    fn put_bytes(self, bytes: &[u8]) -> Self {
+        let Shown { formatter, result } = self;
+        let result = match (result, str::from_utf8(bytes)) {
+            (Ok(()), Ok(text)) => formatter.write_str(text),
+            _ => Err(fmt::Error),
+        };
+        Shown { formatter, result }
     }
 
     // A compact print has no lines.
-    fn put_line(&mut self, _spaces: usize) {
-        self.result = Err(fmt::Error);
+    fn put_line(self, _spaces: usize) -> Self {
+        Shown {
+            formatter: self.formatter,
+            result: Err(fmt::Error),
+        }
     }
 }
 
@@ -46,10 +49,9 @@ impl<'f, W: fmt::Write> Output for Shown<'f, W> {
 pub fn display<P: Parts, W: fmt::Write>(value: &P, formatter: &mut fmt::Formatter<W>) -> fmt::Result
     ensures { WritesOnOk W.write_str_gives formatter.old result (compact (P.tree_of value.now)) formatter.new }
 {
-    let mut shown = Shown {
+    let shown = Shown {
         formatter,
         result: Ok(()),
     };
-    print(value, Layout::Compact, &mut shown);
-    shown.result
+    print(value, Layout::Compact, shown).result
 }

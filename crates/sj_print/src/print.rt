@@ -12,17 +12,16 @@ use crate::parts::{Level, Parts};
 
 /// Appends the text, and then what the layout has between tokens.
 #[inline(always)]
-fn put_then_gap<O: Output>(text: &str, layout: Layout, out: &mut O)
-    ensures { Lays O.holds out.old out.new layout (λ s. text.now ++ gap s) }
+fn put_then_gap<O: Output>(text: &str, layout: Layout, out: O) -> O
+    ensures { Lays O.holds out result layout (λ s. text.now ++ gap s) }
 {
-    out.put(text);
-    out.put_gap(layout);
+    out.put(text).put_gap(layout)
 }
 
 /// Appends a key's text between `before` and `behind`, with escapes where they are needed.
 #[inline(always)]
-fn put_text_of<P: Parts, O: Output>(before: &str, key: &P::Key, behind: &str, out: &mut O)
-    ensures { AppendsText O.holds out.old out.new (before.now ++ (flat_map escaped (P.key_of key.now) ++ behind.now)) }
+fn put_text_of<P: Parts, O: Output>(before: &str, key: &P::Key, behind: &str, out: O) -> O
+    ensures { AppendsText O.holds out result (before.now ++ (flat_map escaped (P.key_of key.now) ++ behind.now)) }
 {
     match P::plain_key(key) {
         Some(plain) => out.put_plain(before, plain, behind),
@@ -33,15 +32,14 @@ fn put_text_of<P: Parts, O: Output>(before: &str, key: &P::Key, behind: &str, ou
 /// Appends what stands before a member's value: the mark, which `marked` has with a quote behind it,
 /// the key and a colon.
 #[inline(always)]
-fn put_key<P: Parts, O: Output>(mark: &str, marked: &str, key: &P::Key, layout: Layout, out: &mut O)
+fn put_key<P: Parts, O: Output>(mark: &str, marked: &str, key: &P::Key, layout: Layout, out: O) -> O
     requires { marked.now ≡ mark.now ++ 34 ∷ [] }
-    ensures { Lays O.holds out.old out.new layout (λ s. (mark.now ++ gap s) ++ (quoted (P.key_of key.now) ++ colon s)) }
+    ensures { Lays O.holds out result layout (λ s. (mark.now ++ gap s) ++ (quoted (P.key_of key.now) ++ colon s)) }
 {
     match layout {
         Layout::Compact => put_text_of::<P, O>(marked, key, "\":", out),
         Layout::Pretty { .. } => {
-            put_then_gap(mark, layout, out);
-            put_text_of::<P, O>("\"", key, "\": ", out);
+            put_text_of::<P, O>("\"", key, "\": ", put_then_gap(mark, layout, out))
         }
     }
 }
@@ -49,8 +47,8 @@ fn put_key<P: Parts, O: Output>(mark: &str, marked: &str, key: &P::Key, layout: 
 /// Appends the value's print.
 #[cycle(print)]
 #[inline(always)]
-pub(crate) fn print<P: Parts, O: Output>(value: &P, layout: Layout, out: &mut O)
-    ensures { Lays O.holds out.old out.new layout (λ s. laid s (P.tree_of value.now)) }
+pub(crate) fn print<P: Parts, O: Output>(value: &P, layout: Layout, out: O) -> O
+    ensures { Lays O.holds out result layout (λ s. laid s (P.tree_of value.now)) }
 {
     match value.level() {
         Level::Static(node) => out.put_static(node),
@@ -62,39 +60,31 @@ pub(crate) fn print<P: Parts, O: Output>(value: &P, layout: Layout, out: &mut O)
 }
 
 #[cycle(print)]
-fn print_items<P: Parts, O: Output>(mut items: P::Items, layout: Layout, out: &mut O)
-    ensures { Lays O.holds out.old out.new layout (λ s. laid s (list (items_from (P.items_left items)))) }
+fn print_items<P: Parts, O: Output>(mut items: P::Items, layout: Layout, out: O) -> O
+    ensures { Lays O.holds out result layout (λ s. laid s (list (items_from (P.items_left items)))) }
 {
     let Some(first) = P::next_item(&mut items) else {
-        out.put("[]");
-        return;
+        return out.put("[]");
     };
     let inner = layout.deeper();
-    put_then_gap("[", inner, out);
-    print(&first, inner, out);
+    let mut out = print(&first, inner, put_then_gap("[", inner, out));
     while let Some(item) = P::next_item(&mut items) {
-        put_then_gap(",", inner, out);
-        print(&item, inner, out);
+        out = print(&item, inner, put_then_gap(",", inner, out));
     }
-    out.put_gap(layout);
-    out.put("]");
+    out.put_gap(layout).put("]")
 }
 
 #[cycle(print)]
-fn print_members<P: Parts, O: Output>(mut members: P::Members, layout: Layout, out: &mut O)
-    ensures { Lays O.holds out.old out.new layout (λ s. laid s (obj (members_from (P.members_left members)))) }
+fn print_members<P: Parts, O: Output>(mut members: P::Members, layout: Layout, out: O) -> O
+    ensures { Lays O.holds out result layout (λ s. laid s (obj (members_from (P.members_left members)))) }
 {
     let Some((key, first)) = P::next_member(&mut members) else {
-        out.put("{}");
-        return;
+        return out.put("{}");
     };
     let inner = layout.deeper();
-    put_key::<P, O>("{", "{\"", &key, inner, out);
-    print(&first, inner, out);
+    let mut out = print(&first, inner, put_key::<P, O>("{", "{\"", &key, inner, out));
     while let Some((key, value)) = P::next_member(&mut members) {
-        put_key::<P, O>(",", ",\"", &key, inner, out);
-        print(&value, inner, out);
+        out = print(&value, inner, put_key::<P, O>(",", ",\"", &key, inner, out));
     }
-    out.put_gap(layout);
-    out.put("}");
+    out.put_gap(layout).put("}")
 }

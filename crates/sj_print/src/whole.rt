@@ -1,10 +1,10 @@
 //! Prints with their exact length reserved first.
 
-ghost use Rattle.std.specs.Prelude.{◌≡◌, ◌↔◌, ◌+◌, ◌^◌, ◌≤◌, ◌++◌, length, IfOk, OnOk, OnErr, IfErr, IsErrOf, string_bytes};
+ghost use Rattle.std.specs.Prelude.{◌≡◌, ◌↔◌, ◌+◌, ◌^◌, ◌≤◌, ◌++◌, length, take, IfOk, OnOk, OnErr, IfErr, IsErrOf, IsUtf8, string_bytes};
 ghost use Rattle.sj_print.specs.Layouts.{laid, top};
 
 use crate::layout::Layout;
-use crate::output::Count;
+use crate::output::{Count, Filling};
 use crate::parts::Parts;
 use crate::print::print;
 use sj_text_core::WriteError;
@@ -18,9 +18,16 @@ pub fn count<P: Parts>(value: &P, pretty: bool, before: usize) -> Result<usize, 
     ensures why { IfErr result (λ e. e ≡ WriteError.TooLong) }
     ensures fits { OnOk result (before + length (laid (top pretty) (P.tree_of value.now)) + 1 ≤ 2 ^ 64) }
 {
-    let mut count = Count::behind(before);
-    print(value, Layout::top(pretty), &mut count);
-    count.end()
+    print(value, Layout::top(pretty), Count::behind(before)).end()
+}
+
+/// Writes the value's print over the bytes from `at` on, up to their end.
+fn fill<P: Parts>(value: &P, pretty: bool, out: &mut Vec<u8>, at: usize)
+    requires { at + length (laid (top pretty) (P.tree_of value.now)) ≡ length out.old.items }
+    ensures bytes { out.new.items ≡ take at out.old.items ++ laid (top pretty) (P.tree_of value.now) }
+    ensures utf8 { IsUtf8 (laid (top pretty) (P.tree_of value.now)) }
+{
+    print(value, Layout::top(pretty), Filling { out, at });
 }
 
 /// Appends the value's print, which ends where `end` tells. It asks for its room at once; refused,
@@ -35,8 +42,9 @@ pub fn write_counted<P: Parts>(
     ensures ok { OnOk result (out.new.items ≡ out.old.items ++ laid (top pretty) (P.tree_of value.now)) }
     ensures err { OnErr result (out.new.items ≡ out.old.items) }
 {
-    out.reserve(end - out.len())?;
-    print(value, Layout::top(pretty), out);
+    let at = out.len();
+    out.resize(end, 0)?;
+    fill(value, pretty, out, at);
     Ok(())
 }
 
@@ -50,8 +58,8 @@ pub fn encode_counted<P: Parts>(
     requires { len ≡ length (laid (top pretty) (P.tree_of value.now)) }
     ensures { IfOk result (λ s. string_bytes s ≡ laid (top pretty) (P.tree_of value.now)) }
 {
-    let mut out = Vec::with_capacity(alloc, len)?;
-    print(value, Layout::top(pretty), &mut out);
+    let mut out = Vec::from_elem(alloc, 0, len)?;
+    fill(value, pretty, &mut out, 0);
     // SAFETY: every part of a print is a text, which the check proves.
     Ok(unsafe { String::from_utf8_unchecked(out) })
 }

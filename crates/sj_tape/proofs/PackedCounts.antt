@@ -1,8 +1,8 @@
 -- What packed nodes add to a compact print.
-use Rattle.std.proofs.Common.{◌≡◌, Bool, false, ℕ, ◌+◌, ◌<◌, List, take, length, get_or, refl, sym, ap, ◌∙◌, subst, arith}
+use Rattle.std.proofs.Common.{◌≡◌, Bool, false, ℕ, ◌+◌, ◌<◌, ◌≤◌, List, take, length, get_or, refl, sym, ap, ◌∙◌, subst, arith}
 use Rattle.std.proofs.Math.ListN.{get_or-map}
 use Rattle.std.proofs.lemmas.List.{length-map}
-use Rattle.std.proofs.lemmas.List.Sums.{sum_by_more}
+use Rattle.std.proofs.lemmas.List.Sums.{sum_by_more, sum_by-take-le}
 use Rattle.sj_text_core.specs.Nodes.{Mark, flat}
 use Rattle.sj_text_core.specs.Print.{compact}
 use Rattle.sj_text_core.specs.Scalars.{static_tree}
@@ -36,6 +36,9 @@ marks_len_more ps i d h =
     let more : marks_len (take (i + 1) (packed_marks ps)) ≡ marks_len (take i (packed_marks ps)) + mark_len (get_or (packed_marks ps) i (packed_mark d)) =
     sum_by_more mark_len (packed_marks ps) i (packed_mark d) (omega (arith, h, length-map ps packed_mark)) in
     more ∙ ap (λ m. marks_len (take i (packed_marks ps)) + mark_len m) (get_or-map packed_mark ps i d)
+
+pub marks_len_within : (ps : List Packed) (i : ℕ) → marks_len (take i (packed_marks ps)) ≤ marks_len (packed_marks ps)
+marks_len_within ps i = sum_by-take-le mark_len (packed_marks ps) i
 
 -- a compact print is as long as its nodes tell
 pub printed_len : (pretty : Bool) (t : Tree) (ns : List Mark) → pretty ≡ false → ns ≡ flat t → marks_len ns ≡ length (laid (top pretty) t)

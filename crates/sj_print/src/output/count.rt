@@ -25,6 +25,16 @@ impl Count {
     ghost use Rattle.std.specs.Prelude.{◌≤◌, IfOk, OnOk, OnErr, IfErr};
     ghost use Rattle.sj_print.specs.Printed.{IsCounted, Counts};
 
+    /// With so many bytes more.
+    #[inline(always)]
+    fn with(self, more: u128) -> Count
+        ensures { Counts more self result }
+    {
+        Count {
+            total: self.total.saturating_add(more),
+        }
+    }
+
     /// A count that begins behind so many bytes.
     pub fn behind(before: usize) -> Count
         ensures { result.total ≡ before }
@@ -34,24 +44,22 @@ impl Count {
         }
     }
 
-    /// Counts the brackets of an array of so many items and the commas between them, in a compact
+    /// With the brackets of an array of so many items and the commas between them, in a compact
     /// print.
     #[inline(always)]
-    pub fn add_array(&mut self, items: usize)
-        ensures { Counts (frame_len items) self.old self.new }
+    pub fn with_array(self, items: usize) -> Count
+        ensures { Counts (frame_len items) self result }
     {
-        self.total = self.total.saturating_add(frame_len(items));
+        self.with(frame_len(items))
     }
 
-    /// Counts the brackets of an object of so many members, the commas between them and their
-    /// colons, in a compact print.
+    /// With the brackets of an object of so many members, the commas between them and their colons,
+    /// in a compact print.
     #[inline(always)]
-    pub fn add_object(&mut self, members: usize)
-        ensures { Counts (frame_len members + members) self.old self.new }
+    pub fn with_object(self, members: usize) -> Count
+        ensures { Counts (frame_len members + members) self result }
     {
-        self.total = self
-            .total
-            .saturating_add(frame_len(members) + members as u128);
+        self.with(frame_len(members) + members as u128)
     }
 
     /// How many bytes they are; `TooLong` where that is past `usize::MAX`.
@@ -76,22 +84,23 @@ impl Output for Count {
     ghost holds = { λ start c b. min c.total (2 ^ 64) ≡ min (start + length b) (2 ^ 64) };
 
     #[inline(always)]
-    fn put_bytes(&mut self, bytes: &[u8]) {
-        self.total = self.total.saturating_add(bytes.len() as u128);
+    fn put_bytes(self, bytes: &[u8]) -> Self {
+        self.with(bytes.len() as u128)
     }
 
     #[inline(always)]
-    fn put_between(&mut self, before: &[u8], bytes: &[u8], behind: &[u8]) {
+    fn put_between(self, before: &[u8], bytes: &[u8], behind: &[u8]) -> Self {
         let around = before.len() as u128 + behind.len() as u128;
-        self.total = self.total.saturating_add(around + bytes.len() as u128);
+        self.with(around + bytes.len() as u128)
     }
 
     #[inline(always)]
-    fn put_static(&mut self, node: StaticNode) {
-        self.total = self.total.saturating_add(static_len(node) as u128);
+    fn put_static(self, node: StaticNode) -> Self {
+        self.with(static_len(node) as u128)
     }
 
-    fn put_line(&mut self, spaces: usize) {
-        self.total = self.total.saturating_add(spaces as u128 + 1);
+    #[inline(always)]
+    fn put_line(self, spaces: usize) -> Self {
+        self.with(spaces as u128 + 1)
     }
 }

@@ -20,16 +20,16 @@ impl Output for Growing<'_> {
 
     ghost holds = { λ start g b. (g.out.ghost_name ≡ start.0) × (take (length start.1) g.out.now.items ≡ start.1) × (g.is_refused ≡ false → g.out.now.items ≡ start.1 ++ b) };
 
-    fn put_bytes(&mut self, bytes: &[u8]) {
-        if self.out.extend_from_slice(bytes).is_err() {
-            self.is_refused = true;
-        }
+    fn put_bytes(self, bytes: &[u8]) -> Self {
+        let Growing { out, is_refused } = self;
+        let is_refused = is_refused || out.extend_from_slice(bytes).is_err();
+        Growing { out, is_refused }
     }
 
-    fn put_line(&mut self, spaces: usize) {
-        if append_line(self.out, spaces).is_err() {
-            self.is_refused = true;
-        }
+    fn put_line(self, spaces: usize) -> Self {
+        let Growing { out, is_refused } = self;
+        let is_refused = is_refused || append_line(out, spaces).is_err();
+        Growing { out, is_refused }
     }
 }
 
@@ -41,12 +41,11 @@ pub(crate) fn append_quoted(out: &mut Vec<u8>, text: &str) -> Result<(), AllocEr
 {
     let start = out.len();
     out.reserve(text.len() + 2)?;
-    let mut growing = Growing {
+    let growing = Growing {
         out,
         is_refused: false,
     };
-    growing.put_quoted(text);
-    let is_refused = growing.is_refused;
+    let is_refused = growing.put_quoted(text).is_refused;
     if is_refused {
         out.truncate(start);
         return Err(AllocError);

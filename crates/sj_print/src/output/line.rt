@@ -1,7 +1,6 @@
 //! Lines of pretty prints.
 
-ghost use Rattle.std.specs.Prelude.{◌≡◌, ◌+◌, ◌^◌, ◌<◌, ◌≤◌, ◌∷◌, ◌++◌, IsOk, OnOk, OnErr, replicate};
-ghost use Rattle.std.specs.Vec.{vec_capacity, vec_len};
+ghost use Rattle.std.specs.Prelude.{◌≡◌, ◌∷◌, ◌++◌, OnOk, OnErr, replicate};
 
 use std::alloc::AllocError;
 
@@ -10,8 +9,6 @@ use std::alloc::AllocError;
 pub(crate) fn append_line(out: &mut Vec<u8>, spaces: usize) -> Result<(), AllocError>
     ensures ok { OnOk result (out.new.items ≡ out.old.items ++ 10 ∷ replicate spaces 32) }
     ensures err { OnErr result (out.new.items ≡ out.old.items) }
-    ensures capacity { vec_capacity out.old ≤ vec_capacity out.new }
-    ensures succeeds { vec_len out.old + (spaces + 1) ≤ vec_capacity out.old → IsOk result }
 {
     out.reserve(spaces.saturating_add(1))?;
     out.push(b'\n').unwrap();

@@ -17,9 +17,9 @@ fn hex_digit(n: u8) -> u8
 }
 
 /// Appends the escape of a quote, a backslash or a control byte.
-fn put_escape<O: Output>(out: &mut O, byte: u8)
+fn put_escape<O: Output>(out: O, byte: u8) -> O
     requires { IsTrue (is_stop byte) }
-    ensures { Appends O.holds out.old out.new (escaped byte) }
+    ensures { Appends O.holds out result (escaped byte) }
 {
     match byte {
         b'"' => out.put_bytes(b"\\\""),
@@ -37,19 +37,18 @@ fn put_escape<O: Output>(out: &mut O, byte: u8)
 /// Appends the text between `before` and `behind`: runs of plain bytes at once, the others by their
 /// escapes.
 #[inline(never)]
-pub(super) fn put_runs<O: Output>(out: &mut O, before: &[u8], text: &[u8], behind: &[u8])
-    ensures { Appends O.holds out.old out.new (before.now ++ (flat_map escaped text.now ++ behind.now)) }
+pub(super) fn put_runs<O: Output>(out: O, before: &[u8], text: &[u8], behind: &[u8]) -> O
+    ensures { Appends O.holds out result (before.now ++ (flat_map escaped text.now ++ behind.now)) }
 {
-    out.put_bytes(before);
+    let mut out = out.put_bytes(before);
     let mut at = 0;
     loop {
         let stop = plain_end(text, at);
-        out.put_bytes(&text[at..stop]);
+        out = out.put_bytes(&text[at..stop]);
         if stop == text.len() {
-            out.put_bytes(behind);
-            return;
+            return out.put_bytes(behind);
         }
-        put_escape(out, text[stop]);
+        out = put_escape(out, text[stop]);
         at = stop + 1;
     }
 }

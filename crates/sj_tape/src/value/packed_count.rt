@@ -13,20 +13,19 @@ use crate::packed::Packed;
 use sj_print::{Count, Output, count};
 use sj_text_core::WriteError;
 
-/// Counts what the node adds to a compact print.
+/// The count with what the node adds to a compact print.
 #[inline(always)]
-fn count_node(node: &Packed, count: &mut Count)
-    ensures { Counts (mark_len (packed_mark node.now)) count.old count.new }
+fn count_node(count: Count, node: &Packed) -> Count
+    ensures { Counts (mark_len (packed_mark node.now)) count result }
 {
     if let Some(plain) = node.plain() {
-        count.put_quoted_plain(plain);
-        return;
+        return count.put_quoted_plain(plain);
     }
     match node.node() {
         Node::Static(scalar) => count.put_static(scalar),
         Node::String(text) => count.put_quoted(text),
-        Node::Array { len, .. } => count.add_array(len),
-        Node::Object { len, .. } => count.add_object(len),
+        Node::Array { len, .. } => count.with_array(len),
+        Node::Object { len, .. } => count.with_object(len),
     }
 }
 
@@ -37,11 +36,11 @@ fn count_compact(nodes: &[Packed], before: usize) -> Result<usize, WriteError>
     ensures why { IfErr result (λ e. e ≡ WriteError.TooLong) }
     ensures fits { OnOk result (before + marks_len (packed_marks nodes.now) + 1 ≤ 2 ^ 64) }
 {
-    let mut count = Count::behind(before);
+    let mut end = before;
     for node in nodes {
-        count_node(node, &mut count);
+        end = count_node(Count::behind(end), node).end()?;
     }
-    count.end()
+    Ok(end)
 }
 
 impl<'t, 'i> PackedTree<'t, 'i> {

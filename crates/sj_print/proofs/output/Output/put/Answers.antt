@@ -5,5 +5,5 @@ use Rattle.sj_print.proofs.output.Output.put.Goals as goal
 
 pub returns : goal.returns
 returns g c =
-    subst (AppendsText g.Self.Output.holds c.args.self.now c.put_bytes.new.self) c.as_bytes.ensures.value
+    subst (AppendsText g.Self.Output.holds c.args.self c.put_bytes.result) c.as_bytes.ensures.value
     (appends_text g.Self.Output.holds _ _ c.as_bytes.result.now c.put_bytes.ensures c.as_bytes.ensures.utf8)

@@ -6,5 +6,5 @@ use Rattle.sj_print.proofs.output.Output.put_gap.Goals as goal
 
 pub returns-in-Pretty : goal.returns-in-Pretty
 returns-in-Pretty g c =
-    subst (λ l. Lays g.Self.Output.holds c.args.self.now c.put_line.new.self l gap) (sym c.in-Pretty.is)
+    subst (λ l. Lays g.Self.Output.holds c.args.self c.put_line.result l gap) (sym c.in-Pretty.is)
     (lays_gap g.Self.Output.holds _ _ c.in-Pretty.spaces c.put_line.ensures)

@@ -14,4 +14,4 @@ returns g c =
     let all = subst (λ t. prefix_len is_plain t ≡ length t) (sym c.as_bytes-bytes.ensures.value) c.args.plain.plain in
     appends_escaped g.Self.Output.holds _ _ o t e _ _ _ c.as_bytes-before.ensures.value c.as_bytes-bytes.ensures.value c.as_bytes-behind.ensures.value
     c.as_bytes-before.ensures.utf8 c.as_bytes-bytes.ensures.utf8 c.as_bytes-behind.ensures.utf8
-    (subst (λ p. Appends g.Self.Output.holds c.args.self.now c.put_between.new.self (o ++ (p ++ e))) (sym (escaped_all_plain t all)) c.put_between.ensures)
+    (subst (λ p. Appends g.Self.Output.holds c.args.self c.put_between.result (o ++ (p ++ e))) (sym (escaped_all_plain t all)) c.put_between.ensures)

@@ -15,7 +15,7 @@ returns-then-is_all_plain g c =
     let all = OnTrue_at {P = prefix_len is_plain t ≡ length t} c.if-is_all_plain.true c.is_all_plain.ensures in
     appends_escaped g.Self.Output.holds _ _ o t e _ _ _ c.as_bytes-before.ensures.value c.as_bytes-bytes.ensures.value c.as_bytes-behind.ensures.value
     c.as_bytes-before.ensures.utf8 c.as_bytes-bytes.ensures.utf8 c.as_bytes-behind.ensures.utf8
-    (subst (λ p. Appends g.Self.Output.holds c.args.self.now c.put_between.new.self (o ++ (p ++ e))) (sym (escaped_all_plain t all)) c.put_between.ensures)
+    (subst (λ p. Appends g.Self.Output.holds c.args.self c.put_between.result (o ++ (p ++ e))) (sym (escaped_all_plain t all)) c.put_between.ensures)
 
 pub returns-else-is_all_plain : goal.returns-else-is_all_plain
 returns-else-is_all_plain g c =

@@ -4,4 +4,4 @@ use Rattle.sj_print.proofs.output.count.CountOutput.put_line.Goals as goal
 
 pub returns : goal.returns
 returns c k e start b h =
-    omega (arith, c.saturating_add-self.ensures, e, h, length-append b (10 ∷ replicate k 32), length-replicate {A = ℕ} k 32)
+    omega (arith, c.with.ensures, e, h, length-append b (10 ∷ replicate k 32), length-replicate {A = ℕ} k 32)

@@ -8,4 +8,4 @@ use Rattle.sj_print.proofs.output.count.CountOutput.put_static.Goals as goal
 pub returns : goal.returns
 returns c start b h =
     let part = compact (static_tree c.args.node) in
-    (IsUtf8-append b part h.0 c.static_len.ensures.utf8, omega (arith, c.saturating_add-self.ensures, c.static_len.ensures.value, h.1, length-append b part))
+    (IsUtf8-append b part h.0 c.static_len.ensures.utf8, omega (arith, c.with.ensures, c.static_len.ensures.value, h.1, length-append b part))
