@@ -24,6 +24,7 @@ impl StaticNode {
     ghost use Rattle.sj_text_core.specs.ScalarValues.{number_in, sign_and_size};
 
     /// `null`, `true`, `false`, or the number in decimal, with its digits in the buffer.
+    #[inline(always)]
     pub fn text_in<'b>(self, digits: &'b mut itoa::Buffer) -> &'b str
         ensures { result.now ≡ compact (static_tree self) }
     {

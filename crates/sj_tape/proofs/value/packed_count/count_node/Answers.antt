@@ -10,6 +10,3 @@ returns-in-Static c =
 
 pub returns-in-String : goal.returns-in-String
 returns-in-String c = counts_text _ _ _ _ c.put_quoted.ensures (ap (λ m. mark_len m) (sym c.node.ensures ∙ ap (λ n. mark n) c.in-String.is))
-
-pub returns-in-Some : goal.returns-in-Some
-returns-in-Some c = counts_text _ _ _ _ c.put_quoted_plain.ensures (ap (λ m. mark_len m) c.in-Some.ensures)
