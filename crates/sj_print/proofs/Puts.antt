@@ -21,6 +21,10 @@ module _ {S O : Type 0} (holds : S → O → List ℕ → Type 0) where
   pub appends_text : (a b : O) (p : List ℕ) → Appends holds a b p → IsUtf8 p → AppendsText holds a b p
   appends_text a b p f u start x h = (IsUtf8-append x p h.0 u, f start x h.1)
 
+  -- the same, of a text that has these bytes
+  pub appends_as : (a b : O) (p q : List ℕ) → p ≡ q → Appends holds a b p → IsUtf8 p → AppendsText holds a b q
+  appends_as a b p q e f u = subst (AppendsText holds a b) e (appends_text a b p f u)
+
   -- a text with its escapes, between two others
   pub appends_escaped : (a b : O) (o t e before key behind : List ℕ) → o ≡ before → t ≡ key → e ≡ behind → IsUtf8 o → IsUtf8 t → IsUtf8 e
       → Appends holds a b (o ++ (flat_map escaped t ++ e)) → AppendsText holds a b (before ++ (flat_map escaped key ++ behind))

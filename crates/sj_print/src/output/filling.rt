@@ -61,6 +61,7 @@ impl Output for Filling<'_> {
         Filling { out, at: end }
     }
 
+    // As the trait has it, whose own body would be a call for each scalar.
     #[inline(always)]
     fn put_static(self, node: StaticNode) -> Self {
         self.put_bytes(node.text_in(&mut itoa::Buffer::new()).as_bytes())

@@ -14,9 +14,9 @@ use crate::packed::Packed;
 use sj_print::{Count, Output, PlainText, count};
 use sj_text_core::WriteError;
 
-/// Where a text that needs no escape ends in print, which begins there.
+/// Where a text in quotes ends that needs no escape and begins there.
 #[inline(always)]
-fn plain_end(begin: usize, plain: PlainText<'_>) -> Option<usize>
+fn quoted_end(begin: usize, plain: PlainText<'_>) -> Option<usize>
     ensures some { IfSome result (λ end. end ≡ begin + length (quoted plain.entry.text.now)) }
     ensures none { IfNone result (2 ^ 64 ≤ begin + length (quoted plain.entry.text.now)) }
 {
@@ -45,7 +45,7 @@ fn node_end(begin: usize, node: &Packed) -> Result<usize, WriteError>
     ensures fits { OnOk result (begin + mark_len (packed_mark node.now) + 1 ≤ 2 ^ 64) }
 {
     match node.plain() {
-        Some(plain) => plain_end(begin, plain).ok_or(WriteError::TooLong),
+        Some(plain) => quoted_end(begin, plain).ok_or(WriteError::TooLong),
         None => count_node(Count::behind(begin), node).end(),
     }
 }

@@ -1,7 +1,7 @@
 use Rattle.std.proofs.Common.{rules, ◌+◌, ◌^◌, ◌≤◌, length, arith}
 use Rattle.sj_text_core.specs.Print.{quoted}
 use Rattle.sj_tape.proofs.PackedCounts.{plain_len}
-use Rattle.sj_tape.proofs.value.packed_count.plain_end.Goals as goal
+use Rattle.sj_tape.proofs.value.packed_count.quoted_end.Goals as goal
 
 pub returns-in_err-checked_add-clause-none : goal.returns-in_err-checked_add-clause-none
 returns-in_err-checked_add-clause-none c =
