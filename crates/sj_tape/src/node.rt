@@ -34,6 +34,7 @@ impl<'i> Node<'i> {
     }
 }
 
+// Few tapes keep such nodes, so these calls stay out of the loops over packed ones.
 impl<'i> Kept<'i> for Node<'i> {
     ghost mark_of = { mark };
 
@@ -42,12 +43,14 @@ impl<'i> Kept<'i> for Node<'i> {
         self
     }
 
-    #[inline(always)]
+    #[cold]
+    #[inline(never)]
     fn width(&self) -> usize {
         Node::width(self)
     }
 
-    #[inline(always)]
+    #[cold]
+    #[inline(never)]
     fn text(&self) -> Option<&'i str> {
         match *self {
             Node::String(text) => Some(text),
