@@ -1,5 +1,5 @@
 -- Piles, and the trees that nodes are.
-use Rattle.std.proofs.Common.{◌≡◌, ℕ, zero, suc, ◌+◌, ◌-◌, ◌≤◌, ◌<◌, List, [], ◌∷◌, ◌++◌, map, take, drop, length, get_or, refl, ap, sym, ◌∙◌, append_assoc, append-nil, arith, All, subst, Some}
+use Rattle.std.proofs.Common.{◌≡◌, ℕ, zero, suc, ◌+◌, ◌≤◌, ◌<◌, List, [], ◌∷◌, ◌++◌, map, drop, length, get_or, refl, ap, sym, ◌∙◌, append_assoc, append-nil, arith, All, subst, Some}
 use Rattle.std.proofs.lemmas.List.{length-drop, drop-drop, drop_at, drop_all}
 use Rattle.std.proofs.lemmas.List.Elements.{All-pop}
 use Rattle.sj_text_core.specs.Tree.{Tree, null, boolean, int, text, list, obj, Items, no_items, item, Members, no_members, member, items_len, members_len, items_from, members_from, listed}
@@ -7,7 +7,7 @@ use Rattle.sj_text_core.specs.Nodes.{Mark, nothing, string, array, flat, flat_it
 use Rattle.sj_text_core.specs.Repeats.{keep_by}
 use Rattle.sj_text_core.specs.declared.repeats.Repeats.{Repeats}
 use Rattle.sj_text_core.specs.Flat.{trees_of-flat}
-use Rattle.sj_tape.specs.Fronts.{BeginsTree, AllBegin}
+use Rattle.sj_tape.specs.Fronts.{BeginsTree}
 use Rattle.sj_tape.proofs.Counts.{begins_first}
 use Rattle.sj_tape.proofs.Preorders.{AllBegin-drop, AllBegin-preorder}
 use Rattle.sj_object.specs.Entries.{Entry}

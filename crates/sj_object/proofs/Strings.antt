@@ -1,19 +1,14 @@
 -- Nodes that are texts.
-use Rattle.std.proofs.Common.{◌≡◌, ℕ, List, Bor, refl}
-use Rattle.sj_text_core.specs.Nodes.{string}
-use Rattle.sj_text_core.specs.declared.static_node.StaticNode.TheVariants.{Null, Bool, I64, U64, I128, U128}
-use Rattle.sj_tape.specs.declared.node.Node.{Node}
-use Rattle.sj_tape.specs.declared.node.Node.TheVariants.{Static, String, Array, Object}
-use Rattle.sj_tape.specs.Marks.{mark}
+use Rattle.std.proofs.Common.{◌≡◌, ℕ, List, Some}
+use Rattle.sj_text_core.specs.Nodes.{Mark, nothing, truth, number, string, array, object}
+use Rattle.sj_tape.specs.Marks.{text_in}
+use Rattle.sj_object.specs.Piles.{key_of_mark}
 
--- a node that means a text is one
-pub string_node : (n : Node) (k : List ℕ) → mark n ≡ string k → ((x : Bor (List ℕ)) → n ≡ String x → ⊥) → ⊥
-string_node (Static Null) k e f = cc
-string_node (Static (Bool b)) k e f = cc
-string_node (Static (I64 m)) k e f = cc
-string_node (Static (U64 m)) k e f = cc
-string_node (Static (I128 m)) k e f = cc
-string_node (Static (U128 m)) k e f = cc
-string_node (String s) k e f = f s refl
-string_node (Array l m) k e f = cc
-string_node (Object l m) k e f = cc
+-- the text of a node is its key
+pub text_key : (m : Mark) (s : List ℕ) → Some s ≡ text_in m → s ≡ key_of_mark m
+text_key nothing s e = cc
+text_key (truth b) s e = cc
+text_key (number n c) s e = cc
+text_key (string t) s e = cc
+text_key (array l n) s e = cc
+text_key (object l n) s e = cc

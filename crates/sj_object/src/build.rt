@@ -99,7 +99,7 @@ fn take_members<'de, V: Builder<'de, Key>, Key: KeyOf<'de>>(
     let mut members = V::Map::with_capacity(alloc, len)?;
     let mut at = 0;
     for i in 0..len {
-        let Node::String(text) = nodes.at(at) else {
+        let Some(text) = nodes.text_at(at) else {
             unreachable!();
         };
         let node = nodes.at(at + 1);

@@ -24,7 +24,7 @@ pub struct Nodes<'t, 'i> {
 impl<'t, 'i> Nodes<'t, 'i> {
     ghost use Rattle.std.specs.Prelude.{◌≡◌, ◌∷◌, [], nat_eq, get_or, take, drop, IfNone, IfSome, option_map};
     ghost use Rattle.sj_text_core.specs.Nodes.{nothing, width};
-    ghost use Rattle.sj_tape.specs.Marks.{mark, packed_marks, split_text};
+    ghost use Rattle.sj_tape.specs.Marks.{mark, packed_marks, split_text, text_in};
     ghost use Rattle.sj_tape.specs.Stretches.{nodes_in};
     ghost use Rattle.sj_tape.specs.Whole.{list_nodes};
     ghost use Rattle.sj_text_core.specs.Tree.{items_len};
@@ -91,6 +91,15 @@ impl<'t, 'i> Nodes<'t, 'i> {
         }
     }
 
+    /// The text that the node at that place is, which has to be below `len`; None where it is none.
+    #[inline(always)]
+    pub fn text_at(&self, place: usize) -> Option<&'i str>
+        requires { place < length (nodes_in self.now) }
+        ensures { option_map (λ s. s.now) result ≡ text_in (get_or (nodes_in self.now) place nothing) }
+    {
+        self.lists.first()?.text_at(self.from + place)
+    }
+
     /// The first node and those behind it; None where there are none.
     #[inline(always)]
     pub fn split_first(&self) -> Option<(Node<'i>, Nodes<'t, 'i>)>
@@ -138,7 +147,7 @@ impl<'t, 'i> Nodes<'t, 'i> {
         if self.is_empty() {
             return None;
         }
-        let text = self.lists.first()?.text_at(self.from)?;
+        let text = self.text_at(0)?;
         Some((text, self.from(1)))
     }
 

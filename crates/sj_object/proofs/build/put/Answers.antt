@@ -1,6 +1,5 @@
-use Rattle.std.proofs.Common.{◌≡◌, ◌∷◌, [], drop, arith, refl, sym, ap, ◌∙◌, subst}
+use Rattle.std.proofs.Common.{◌∷◌, [], arith, refl, sym, ap, ◌∙◌, subst}
 use Rattle.sj_text_core.specs.Tree.{list, obj, items_from, members_from}
-use Rattle.sj_text_core.specs.Nodes.{array, object}
 use Rattle.sj_tape.specs.Marks.{mark}
 use Rattle.sj_tape.specs.Stretches.{nodes_in}
 use Rattle.sj_object.specs.Piles.{pile, taken, left, taken_pairs, left_pairs, kept_by, grown, Needs, CanTakeItems, CanTakePairs}

@@ -1,55 +1,57 @@
-use Rattle.std.proofs.Common.{rules, ◌≡◌, ◌+◌, ◌-◌, ◌<◌, ◌^◌, suc, ◌∷◌, drop, get_or, length, arith, refl, sym, ap, ◌∙◌, subst}
+use Rattle.std.proofs.Common.{◌≡◌, ◌+◌, ◌-◌, suc, ◌∷◌, drop, arith, refl, sym, ap, ◌∙◌, subst}
 use Rattle.sj_text_core.specs.Nodes.{width}
 use Rattle.sj_tape.specs.Marks.{mark}
 use Rattle.sj_tape.specs.Stretches.{nodes_in}
 use Rattle.sj_tape.proofs.Stretched.{few}
-use Rattle.sj_object.proofs.Strings.{string_node}
-use Rattle.sj_object.specs.Piles.{pile, key_of_mark, made_of, left_of, taken_pairs, left_pairs, CanTakePairs, kept_by, shown}
+use Rattle.sj_tape.specs.Marks.{text_in}
+use Rattle.sj_object.proofs.Strings.{text_key}
+use Rattle.sj_object.specs.Piles.{pile, made_of, left_of, taken_pairs, left_pairs, CanTakePairs, kept_by, shown}
 use Rattle.sj_object.proofs.PileEntries.{kept_more}
 use Rattle.sj_object.proofs.Piles.{one_member}
 use Rattle.sj_object.proofs.build.take_members.Goals as goal
 
-pub at-requires : goal.at-requires
-at-requires g c =
+pub text_at-requires : goal.text_at-requires
+text_at-requires g c =
     let e : c.args.len - c.loop-i.i ≡ suc (c.args.len - (c.loop-i.i + 1)) = omega arith in
     (one_member (nodes_in c.args.nodes) c.loop-i.at _ _ _ _ _ e refl refl c.loop-i.invariant.can).key.inside
 
 pub unreachable-requires : goal.unreachable-requires
 unreachable-requires g c =
     let e : c.args.len - c.loop-i.i ≡ suc (c.args.len - (c.loop-i.i + 1)) = omega arith in
-    string_node _ _ (one_member (nodes_in c.args.nodes) c.loop-i.at _ _ _ _ _ e c.at.ensures refl c.loop-i.invariant.can).text c.in_default.not-String
+    let text = c.in_default.ensures ∙ ap text_in (one_member (nodes_in c.args.nodes) c.loop-i.at _ _ _ _ _ e refl refl c.loop-i.invariant.can).text in
+    cc
 
 pub at-node-requires : goal.at-node-requires
 at-node-requires g c =
     let e : c.args.len - c.loop-i.i ≡ suc (c.args.len - (c.loop-i.i + 1)) = omega arith in
-    (one_member (nodes_in c.args.nodes) c.loop-i.at _ _ _ _ _ e c.at.ensures refl c.loop-i.invariant.can).whole.inside
+    (one_member (nodes_in c.args.nodes) c.loop-i.at _ _ _ _ _ e refl refl c.loop-i.invariant.can).whole.inside
 
 pub put_member-requires : goal.put_member-requires
 put_member-requires g c κs =
     let e : c.args.len - c.loop-i.i ≡ suc (c.args.len - (c.loop-i.i + 1)) = omega arith in
-    ((refl, tt), (one_member (nodes_in c.args.nodes) c.loop-i.at _ _ _ _ _ e c.at.ensures c.at-node.ensures c.loop-i.invariant.can).whole.there)
+    ((refl, tt), (one_member (nodes_in c.args.nodes) c.loop-i.at _ _ _ _ _ e refl c.at-node.ensures c.loop-i.invariant.can).whole.there)
 
 pub width-requires : goal.width-requires
 width-requires g c =
     let e : c.args.len - c.loop-i.i ≡ suc (c.args.len - (c.loop-i.i + 1)) = omega arith in
-    let w = (one_member (nodes_in c.args.nodes) c.loop-i.at _ _ _ _ _ e c.at.ensures c.at-node.ensures c.loop-i.invariant.can).whole.wide in
+    let w = (one_member (nodes_in c.args.nodes) c.loop-i.at _ _ _ _ _ e refl c.at-node.ensures c.loop-i.invariant.can).whole.wide in
     omega (arith, w, few c.args.nodes)
 
 pub overflow_add-at : goal.overflow_add-at
 overflow_add-at g c =
     let e : c.args.len - c.loop-i.i ≡ suc (c.args.len - (c.loop-i.i + 1)) = omega arith in
-    omega (arith, (one_member (nodes_in c.args.nodes) c.loop-i.at _ _ _ _ _ e c.at.ensures refl c.loop-i.invariant.can).whole.inside, few c.args.nodes)
+    omega (arith, (one_member (nodes_in c.args.nodes) c.loop-i.at _ _ _ _ _ e refl refl c.loop-i.invariant.can).whole.inside, few c.args.nodes)
 
 pub overflow_add-at-in-loop-i : goal.overflow_add-at-in-loop-i
 overflow_add-at-in-loop-i g c =
     let e : c.args.len - c.loop-i.i ≡ suc (c.args.len - (c.loop-i.i + 1)) = omega arith in
-    let w = (one_member (nodes_in c.args.nodes) c.loop-i.at _ _ _ _ _ e c.at.ensures c.at-node.ensures c.loop-i.invariant.can).whole.wide in
+    let w = (one_member (nodes_in c.args.nodes) c.loop-i.at _ _ _ _ _ e refl c.at-node.ensures c.loop-i.invariant.can).whole.wide in
     omega (arith, w, c.width.ensures, few c.args.nodes)
 
 pub overflow_add-at-in-loop-i-2 : goal.overflow_add-at-in-loop-i-2
 overflow_add-at-in-loop-i-2 g c =
     let e : c.args.len - c.loop-i.i ≡ suc (c.args.len - (c.loop-i.i + 1)) = omega arith in
-    let w = (one_member (nodes_in c.args.nodes) c.loop-i.at _ _ _ _ _ e c.at.ensures c.at-node.ensures c.loop-i.invariant.can).whole.wide in
+    let w = (one_member (nodes_in c.args.nodes) c.loop-i.at _ _ _ _ _ e refl c.at-node.ensures c.loop-i.invariant.can).whole.wide in
     omega (arith, w, c.width.ensures, few c.args.nodes)
 
 pub loop-i-preserved : goal.loop-i-preserved
@@ -59,7 +61,7 @@ loop-i-preserved g c =
     let inv = c.loop-i.invariant in
     let m = c.args.len - (c.loop-i.i + 1) in
     let e : c.args.len - c.loop-i.i ≡ suc (c.args.len - (c.loop-i.i + 1)) = omega arith in
-    let one = one_member (nodes_in c.args.nodes) c.loop-i.at _ _ _ _ _ e c.at.ensures c.at-node.ensures inv.can in
+    let one = one_member (nodes_in c.args.nodes) c.loop-i.at _ _ _ _ _ e refl c.at-node.ensures inv.can in
     let ns = drop c.loop-i.at (nodes_in c.args.nodes) in
     let ps = pile tree c.loop-i.made.items in
     let es = g.V.Map.MapOf.entries c.loop-i.members in
@@ -69,12 +71,12 @@ loop-i-preserved g c =
     let after = ap (λ k. drop k (nodes_in c.args.nodes)) place in
     let rest = c.in_ok-put_member.ensures.rest in
     let told = c.in_ok-put_member.ensures.means in
-    let key = ap (λ n. key_of_mark (mark n)) c.in-String.is in
+    let key = text_key _ _ c.in-Some.ensures in
     record {
       can = subst (λ l. CanTakePairs m l (pile tree c.put_member.new.made.items)) (sym after) (subst (CanTakePairs m _) (sym rest) one.can);
       told = (λ i. kept_by r (told i) (taken_pairs m (after i) (rest i)))
-          ∙ kept_more r (shown tree es) (c.in-String.text.now, made_of node ps) more
-          ∙ (λ i. kept_by r (shown tree es) ((sym key i, made_of node ps) ∷ more))
+          ∙ kept_more r (shown tree es) (c.in-Some.text.now, made_of node ps) more
+          ∙ (λ i. kept_by r (shown tree es) ((key i, made_of node ps) ∷ more))
           ∙ ap (kept_by r (shown tree es)) (sym one.made) ∙ ap (λ k. kept_by r (shown tree es) (taken_pairs k ns ps)) (sym e) ∙ inv.told;
       less = (λ i. left_pairs m (after i) (rest i)) ∙ sym one.less ∙ ap (λ k. left_pairs k ns ps) (sym e) ∙ inv.less;
       made = λ h.
