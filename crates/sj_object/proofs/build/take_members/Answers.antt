@@ -1,9 +1,8 @@
 use Rattle.std.proofs.Common.{◌≡◌, ◌+◌, ◌-◌, suc, ◌∷◌, drop, arith, refl, sym, ap, ◌∙◌, subst}
 use Rattle.sj_text_core.specs.Nodes.{width}
-use Rattle.sj_tape.specs.Marks.{mark}
+use Rattle.sj_tape.specs.Marks.{mark, text_in}
 use Rattle.sj_tape.specs.Stretches.{nodes_in}
 use Rattle.sj_tape.proofs.Stretched.{few}
-use Rattle.sj_tape.specs.Marks.{text_in}
 use Rattle.sj_object.proofs.Strings.{text_key}
 use Rattle.sj_object.specs.Piles.{pile, made_of, left_of, taken_pairs, left_pairs, CanTakePairs, kept_by, shown}
 use Rattle.sj_object.proofs.PileEntries.{kept_more}
