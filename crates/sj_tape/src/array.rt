@@ -110,11 +110,7 @@ impl<'t, 'i> Iterator for Iter<'t, 'i> {
             return None;
         }
         let (first, rest) = split_tree(self.nodes);
-        let repeats = self.repeats;
-        *self = Iter {
-            nodes: rest,
-            repeats,
-        };
-        Some(Value::from_nodes(first, repeats))
+        self.nodes = rest;
+        Some(Value::from_nodes(first, self.repeats))
     }
 }

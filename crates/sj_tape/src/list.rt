@@ -114,7 +114,8 @@ impl<'i> List<'i> {
     }
 }
 
-/// The place of the item at that position: one step by its width over each item before it.
+/// The place of the item at that position. Items of one width are passed in one run, in which the
+/// place of the next waits for no node.
 #[inline(always)]
 fn item_place<'i, N: Kept<'i>>(nodes: &[N], position: usize) -> usize
     requires are { AreItemNodes (map N.mark_of nodes.now) }
@@ -123,10 +124,41 @@ fn item_place<'i, N: Kept<'i>>(nodes: &[N], position: usize) -> usize
     ensures { ItemsFrom (map N.mark_of nodes.now) position result }
 {
     let mut place = 0;
-    for _ in 0..position {
-        place += nodes[place].width();
+    let mut passed = 0;
+    while passed < position {
+        let behind = pass_run(nodes, passed, place, position);
+        passed = behind.0;
+        place = behind.1;
     }
     place
+}
+
+/// Passes the item at that place, and those behind it that are as wide, up to that position: how
+/// many items are passed then, and where the next one begins.
+#[inline(always)]
+fn pass_run<'i, N: Kept<'i>>(
+    nodes: &[N],
+    passed: usize,
+    place: usize,
+    position: usize,
+) -> (usize, usize)
+    requires from { ItemsFrom (map N.mark_of nodes.now) passed place }
+    requires more { passed < position }
+    requires some { position ≤ items_len (items_in (map N.mark_of nodes.now)) }
+    requires fits { length nodes.now < 2 ^ 64 }
+    ensures from { ItemsFrom (map N.mark_of nodes.now) result.0 result.1 }
+    ensures more { passed < result.0 }
+    ensures within { result.0 ≤ position }
+{
+    let width = nodes[place].width();
+    let mut at = place + width;
+    for count in passed + 1..position {
+        if nodes[at].width() != width {
+            return (count, at);
+        }
+        at += width;
+    }
+    (position, at)
 }
 
 /// The same among the `len` nodes from `from` on.

@@ -183,12 +183,8 @@ impl<'t, 'i> Iterator for Iter<'t, 'i> {
     fn next(&mut self) -> Option<(&'i str, Value<'t, 'i>)> {
         let (name, values) = self.nodes.split_text()?;
         let (value, rest) = split_tree(values);
-        let repeats = self.repeats;
-        *self = Iter {
-            nodes: rest,
-            repeats,
-        };
-        Some((name, Value::from_nodes(value, repeats)))
+        self.nodes = rest;
+        Some((name, Value::from_nodes(value, self.repeats)))
     }
 }
 

@@ -18,14 +18,14 @@ const WORD: u128 = 1 << 64;
 /// escape is kept as one that is printed without one.
 #[derive(Clone, Copy)]
 pub(crate) enum Packed<'i> {
+    String(&'i str),
+    Plain(PlainText<'i>),
     Null,
     Bool(bool),
     I64(i64),
     U64(u64),
     I128 { high: u64, low: u64 },
     U128 { high: u64, low: u64 },
-    String(&'i str),
-    Plain(PlainText<'i>),
     Array { len: usize, count: usize },
     Object { len: usize, count: usize },
 }

@@ -1,6 +1,12 @@
-use Rattle.std.specs.Prelude.{map}
+use Rattle.std.specs.Prelude.{◌-◌, ◌≤◌, map}
 use Rattle.sj_tape.specs.Parts.{ItemsFrom}
 use Rattle.sj_tape.proofs.list.item_place.Given as goal
 
-abbrev pub invariant-loop : goal.invariant-loop
-invariant-loop g l = ItemsFrom (map g.N.Kept.mark_of l.nodes) l.counter l.place
+abbrev pub invariant-loop-passed : goal.invariant-loop-passed
+invariant-loop-passed g l = record {
+  from : ItemsFrom (map g.N.Kept.mark_of l.nodes) l.passed l.place;
+  within : l.passed ≤ l.position;
+}
+
+abbrev pub decreases-loop-passed : goal.decreases-loop-passed
+decreases-loop-passed g l = l.position - l.passed
