@@ -4,8 +4,7 @@
 //! Run `rt run -- ROUNDS` in this folder; without words it does nothing. Each line has the best of
 //! so many rounds, in tenths of a nanosecond a call, by the thread's own clock. The keys are looked
 //! up in an order without a pattern; `the order alone` is what a bench without a map takes, and
-//! each look-up's time has it in it. Keys are of 13 bytes and differ in their last digits alone, which
-//! the fixed hash spreads badly: 1,000 of them stand in 352 of 1,024 buckets.
+//! each look-up's time has it in it.
 #![tactic(auto)]
 
 ghost use Rattle.std.specs.Prelude.{◌≡◌, string_bytes};
@@ -15,7 +14,7 @@ mod edits;
 mod ways;
 
 use sj_object::{KeyHasher, ObjectHasher};
-use std::alloc::Global;
+use std::alloc::{AllocError, Global};
 use std::time::{CpuClock, Duration};
 use std::{env, io};
 use ways::{Alone, Finds, InIndexMap, KnownHash, Text};
@@ -28,11 +27,41 @@ pub struct Known {
     ghost hashed: { hash ≡ hash_of_text (string_bytes text) },
 }
 
-/// Texts of 13 bytes, `members` of them, or as many that are in no map.
-fn texts_of(alloc: Global, members: usize, sign: &str) -> io::Result<Vec<Known>> {
+/// How the keys of a map differ. All are of 13 bytes.
+#[derive(Clone, Copy, Debug)]
+enum Keys {
+    /// In their last digits alone, which the fixed hash spreads badly: 1,000 of them stand in 352
+    /// of 1,024 buckets.
+    Numbered,
+    /// In eight hexadecimal digits without a pattern: 1,000 of them stand in 634 buckets.
+    Scattered,
+}
+
+impl Keys {
+    fn name(self) -> &'static str {
+        match self {
+            Keys::Numbered => "numbered",
+            Keys::Scattered => "scattered",
+        }
+    }
+
+    /// The key with that number, which begins with the sign.
+    fn key(self, alloc: Global, sign: &str, number: usize) -> Result<String, AllocError> {
+        match self {
+            Keys::Numbered => format!(in alloc; "{sign}_of_{number:06}"),
+            Keys::Scattered => {
+                let digits = (number as u64).wrapping_mul(2_654_435_761) & 0xffff_ffff;
+                format!(in alloc; "{sign}_{digits:08x}_")
+            }
+        }
+    }
+}
+
+/// `members` keys that begin with the sign.
+fn texts_of(alloc: Global, keys: Keys, members: usize, sign: &str) -> io::Result<Vec<Known>> {
     let mut texts = Vec::new(alloc);
     for i in 0..members {
-        let text = format!(in alloc; "{sign}_of_{i:06}")?;
+        let text = keys.key(alloc, sign, i)?;
         let hash = ObjectHasher::default().hash_text(text.as_str());
         texts.push(Known { text, hash })?;
     }
@@ -102,14 +131,15 @@ fn tell_best<F: Finds>(
 }
 
 /// Times of maps of so many members.
-fn tell_size(rt: &HostRuntime, members: usize, rounds: u32) -> io::Result<()> {
+fn tell_size(rt: &HostRuntime, keys: Keys, members: usize, rounds: u32) -> io::Result<()> {
     let alloc = rt.alloc();
-    let texts = texts_of(alloc, members, "key")?;
-    let others = texts_of(alloc, members, "not")?;
+    let texts = texts_of(alloc, keys, members, "key")?;
+    let others = texts_of(alloc, keys, members, "not")?;
     let order = order_of(alloc, members, 200_000)?;
     let numbers = edits::filled(alloc, texts.as_slice())?;
     let others_map = edits::filled_index_map(alloc, texts.as_slice())?;
-    println!(rt; "{members} members: found, missing")?;
+    let name = keys.name();
+    println!(rt; "{members} members, {name} keys: found, missing")?;
     let (texts, others, order) = (texts.as_slice(), others.as_slice(), order.as_slice());
     tell_best(rt, &Alone, texts, others, order, rounds)?;
     tell_best(
@@ -139,9 +169,11 @@ fn main(rt: HostRuntime) -> io::Result<()> {
         return Ok(());
     };
     let rounds = rounds.as_str().parse::<u32>().unwrap_or(1);
-    for members in [8, 32, 33, 1000, 100_000] {
-        tell_size(&rt, members, rounds)?;
+    for keys in [Keys::Numbered, Keys::Scattered] {
+        for members in [8, 32, 33, 1000, 100_000] {
+            tell_size(&rt, keys, members, rounds)?;
+        }
     }
-    let texts = texts_of(alloc, 1000, "key")?;
+    let texts = texts_of(alloc, Keys::Numbered, 1000, "key")?;
     edits::tell_removals(&rt, texts.as_slice(), rounds)
 }

@@ -142,8 +142,7 @@ impl<'t, 'i> Value<'t, 'i> {
     pub fn into_string(self) -> Option<&'i str>
         ensures { option_map (λ s. s.now) result ≡ as_text (tree self.entry) }
     {
-        let (text, _) = self.nodes.split_text()?;
-        Some(text)
+        self.nodes.text_at(0)
     }
 
     /// The scalar with its carrier, where it is a null, a truth value or a whole number; else
