@@ -35,6 +35,17 @@ pub fn filled_index_map<'k>(
     Ok(map)
 }
 
+/// The keys with their numbers.
+pub fn listed<'k>(alloc: Global, texts: &'k [Known]) -> io::Result<Vec<(&'k str, u64)>> {
+    let mut pairs = Vec::with_capacity(alloc, texts.len())?;
+    let mut number = 0u64;
+    for known in texts {
+        pairs.push((known.text.as_str(), number))?;
+        number = number.wrapping_add(1);
+    }
+    Ok(pairs)
+}
+
 /// Times of inserts from empty, for each.
 pub fn tell_inserts(rt: &HostRuntime, texts: &[Known], rounds: u32) -> io::Result<()> {
     let alloc = rt.alloc();

@@ -4,7 +4,7 @@
 //! Run `rt run -- ROUNDS` in this folder; without words it does nothing. Each line has the best of
 //! so many rounds, in tenths of a nanosecond a call, by the thread's own clock. The keys are looked
 //! up in an order without a pattern; `the order alone` is what a bench without a map takes, and
-//! each look-up's time has it in it.
+//! each look-up's time has it in it. Small sizes are looked up in a plain list too, by a loop.
 #![tactic(auto)]
 
 ghost use Rattle.std.specs.Prelude.{◌≡◌, string_bytes};
@@ -17,7 +17,7 @@ use sj_object::{KeyHasher, ObjectHasher};
 use std::alloc::{AllocError, Global};
 use std::time::{CpuClock, Duration};
 use std::{env, io};
-use ways::{Alone, Finds, InIndexMap, KnownHash, Text};
+use ways::{Alone, Finds, InIndexMap, InList, KnownHash, Text};
 
 /// A text with its hash.
 #[derive(Drop)]
@@ -137,6 +137,7 @@ fn tell_size(rt: &HostRuntime, keys: Keys, members: usize, rounds: u32) -> io::R
     let others = texts_of(alloc, keys, members, "not")?;
     let order = order_of(alloc, members, 200_000)?;
     let numbers = edits::filled(alloc, texts.as_slice())?;
+    let pairs = edits::listed(alloc, texts.as_slice())?;
     let others_map = edits::filled_index_map(alloc, texts.as_slice())?;
     let name = keys.name();
     println!(rt; "{members} members, {name} keys: found, missing")?;
@@ -159,6 +160,10 @@ fn tell_size(rt: &HostRuntime, keys: Keys, members: usize, rounds: u32) -> io::R
         order,
         rounds,
     )?;
+    if members <= 33 {
+        let pairs = pairs.as_slice();
+        tell_best(rt, &InList { pairs }, texts, others, order, rounds)?;
+    }
     edits::tell_inserts(rt, texts, rounds)
 }
 

@@ -57,6 +57,27 @@ impl<'m, 'k> Finds for Text<'m, 'k> {
     }
 }
 
+/// Looks the text up in a list, key by key from its front.
+#[derive(Drop)]
+pub struct InList<'m, 'k> {
+    pub pairs: &'m [(&'k str, u64)],
+}
+
+impl<'m, 'k> Finds for InList<'m, 'k> {
+    fn name(&self) -> &'static str {
+        "in a plain list"
+    }
+
+    fn find(&self, known: &Known) -> Option<u64> {
+        for (key, value) in self.pairs {
+            if *key == known.text.as_str() {
+                return Some(*value);
+            }
+        }
+        None
+    }
+}
+
 #[derive(Drop)]
 pub struct InIndexMap<'m, 'k> {
     pub map: &'m IndexMap<&'k str, u64>,
