@@ -28,7 +28,7 @@ pub use read::{
     to_borrowed_value, to_borrowed_value_with_buffers, to_value, to_value_repeats,
     to_value_with_buffers,
 };
-pub use sj_document::BorrowedValue;
+pub use sj_document::{BorrowedValue, borrowed_from_tape, replace_at, same};
 pub use sj_object::{HashMap, ObjectHasher};
 pub use sj_tape::Buffers;
 pub use sj_text_core::{

@@ -1,12 +1,14 @@
 -- A part of a tape and a document, compared.
 use Rattle.std.proofs.Common.{◌≡◌, ℕ, suc, zero, ◌+◌, ◌-◌, ◌<◌, Bool, true, false, ◌||◌, List, [], ◌∷◌, length, map, take, drop, get_or, drop-cons, Some, None, option_map, refl, sym, ap, ◌∙◌, subst, arith, true≢false, bytes_eq}
 use Rattle.std.proofs.lemmas.Slice.Eq.{bytes_eq-Decides}
-use Rattle.sj_text_core.specs.Tree.{Tree, Items, items_len, items_from, paired}
+use Rattle.sj_text_core.specs.Tree.{Tree, Items, items_len, items_from, Members, paired}
 use Rattle.sj_text_core.specs.Find.{find_member}
 use Rattle.sj_text_core.specs.Keep.{is_seen}
 use Rattle.sj_text_core.specs.Same.{Same, SameItems}
 use Rattle.sj_text_core.specs.Agree.{texts, is_before}
-use Rattle.sj_text_core.proofs.Shapes.{same_items_len}
+use Rattle.sj_text_core.proofs.Comparing.{found_first}
+use Rattle.sj_text_core.proofs.Shapes.{same_items_len, members_from-paired}
+use Rattle.sj_tape.proofs.Counted.{one_place}
 use Rattle.sj_object.specs.Texts.{no_repeats, not_and, or_of_false}
 use Rattle.sj_object.specs.Entries.{Entry, texts as entry_texts}
 use Rattle.sj_object.specs.Edits.{lookup}
@@ -77,3 +79,28 @@ pub first_here : (n : ℕ) (k l : List ℕ) (u : Tree) (ps qs others more : List
     → texts (take n ps) ≡ texts (take n qs) → no_repeats (texts qs) ≡ true → is_before n k ps ≡ false
 first_here n k l u ps qs others more b also shows asked holds w d =
     ap (is_seen k) w ∙ ap (λ x. is_seen x (texts (take n qs))) ((bytes_eq-Decides k l).0 (sym asked ∙ holds)) ∙ alone n l u qs more d (also ∙ shows)
+
+cons_same : (p q : List ℕ × Tree) (ps qs : List (List ℕ × Tree)) → p ∷ ps ≡ q ∷ qs → (p ≡ q) × (ps ≡ qs)
+cons_same p q ps qs e = (cc, cc)
+
+-- nor behind it
+behind : (n : ℕ) (k : List ℕ) (u : Tree) (qs more : List (List ℕ × Tree)) → no_repeats (texts qs) ≡ true → drop n qs ≡ (k, u) ∷ more → is_seen k (texts more) ≡ false
+behind zero k u [] more d e = cc
+behind zero k u (q ∷ qs) more d e =
+    let f = cons_same q (k, u) qs more e in
+    let r = not_and (is_seen q.0 (texts qs)) (no_repeats (texts qs)) d in
+    ap (λ k. is_seen k (texts more)) (sym (ap (λ (p : List ℕ × Tree). p.0) f.0)) ∙ ap (λ ps. is_seen q.0 (texts ps)) (sym f.1) ∙ r.0
+behind (suc n) k u [] more d e = cc
+behind (suc n) k u (q ∷ qs) more d e = behind n k u qs more (not_and (is_seen q.0 (texts qs)) (no_repeats (texts qs)) d).1 e
+
+-- one place of two objects with the same texts in one order, none of them twice
+module _ (ms ns : Members) (same : texts (paired ms) ≡ texts (paired ns)) (d : no_repeats (texts (paired ns)) ≡ true) (n : ℕ) (k l : List ℕ) (t x : Tree) (ahead rest others more : List (List ℕ × Tree))
+    (at : drop n (paired ms) ≡ ahead) (step : ahead ≡ (k, t) ∷ rest) (also : drop n (paired ns) ≡ others) (shows : others ≡ (l, x) ∷ more) where
+  one : (k ≡ l) × (texts rest ≡ texts more)
+  one = one_place ms ns same n k t ahead rest at step l x others more also shows
+
+  pub last_here : is_seen k (texts rest) ≡ false
+  last_here = ap (is_seen k) one.1 ∙ ap (λ k. is_seen k (texts more)) one.0 ∙ behind n l x (paired ns) more d (also ∙ shows)
+
+  pub found_here : find_member k ns ≡ Some x
+  found_here = ap (λ k. find_member k ns) one.0 ∙ ap (find_member l) (sym (members_from-paired ns)) ∙ found_first n l x (paired ns) more (also ∙ shows) (alone n l x (paired ns) more d (also ∙ shows))

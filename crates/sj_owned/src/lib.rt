@@ -24,7 +24,7 @@ mod read;
 pub use read::{
     to_owned_value, to_owned_value_with_buffers, to_value, to_value_repeats, to_value_with_buffers,
 };
-pub use sj_document::OwnedValue;
+pub use sj_document::{OwnedValue, owned_from_tape, replace_at, same};
 pub use sj_object::{HashMap, ObjectHasher};
 pub use sj_tape::Buffers;
 pub use sj_text_core::{

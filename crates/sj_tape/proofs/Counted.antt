@@ -1,6 +1,7 @@
 -- Parts compared where the last member of each text counts in the first.
 use Rattle.std.proofs.Common.{◌≡◌, ℕ, zero, suc, ◌≤◌, arith, Bool, true, false, ◌||◌, List, [], ◌∷◌, map, drop, Option, Some, None, option_map, if◌then◌else◌, bytes_eq, refl, sym, ap, ◌∙◌, subst, true≢false}
 use Rattle.std.specs.Option.{option_or}
+use Rattle.std.proofs.lemmas.List.{drop-map}
 use Rattle.std.proofs.lemmas.Slice.Eq.{bytes_eq-Decides}
 use Rattle.sj_text_core.specs.Tree.{Tree, null, boolean, int, text, list, obj, Items, no_items, item, items_len, items_from, Members, no_members, member, listed, paired}
 use Rattle.sj_text_core.specs.Find.{find_member}
@@ -158,6 +159,33 @@ module _ (d : Repeats) (ms ns : Members) (k : List ℕ) (t : Tree) (ahead rest :
 
     pub not_same_last : find_member_by d k ns ≡ None → SameBy Last d (obj ms) (obj ns) → ⊥
     not_same_last f h = subst (λ g. SameFound (Some (keep_last t)) (option_map (by_first d) g)) f (subst (λ f. SameFound (option_map keep_last f) (option_map (by_first d) (find_member_by d k ns))) mine (each_counts d ms ns h k))
+
+cons_none : (k : List ℕ) (ks : List (List ℕ)) → k ∷ ks ≡ [] → ⊥
+cons_none k ks e = cc
+
+both_same : (k l : List ℕ) (ks ls : List (List ℕ)) → k ∷ ks ≡ l ∷ ls → (k ≡ l) × (ks ≡ ls)
+both_same k l ks ls e = (cc, cc)
+
+-- one place of two objects with the same texts in one order
+module _ (ms ns : Members) (same : texts (paired ms) ≡ texts (paired ns)) (n : ℕ) (k : List ℕ) (t : Tree) (ahead rest : List (List ℕ × Tree)) (at : drop n (paired ms) ≡ ahead) (step : ahead ≡ (k, t) ∷ rest) where
+  module _ (l : List ℕ) (x : Tree) (others more : List (List ℕ × Tree)) (also : drop n (paired ns) ≡ others) (shows : others ≡ (l, x) ∷ more) where
+    pub one_place : (k ≡ l) × (texts rest ≡ texts more)
+    one_place =
+        both_same k l (texts rest) (texts more) (ap texts (sym step) ∙ ap texts (sym at) ∙ sym (drop-map (λ (p : List ℕ × Tree). p.0) n (paired ms)) ∙ ap (drop n) same
+        ∙ drop-map (λ (p : List ℕ × Tree). p.0) n (paired ns) ∙ ap texts also ∙ ap texts shows)
+
+    -- the last member of a text is the last in both
+    pub last_in_both : is_seen k (texts rest) ≡ false → find_last_member k ns ≡ Some x
+    last_in_both b = found_last n k x ns more (also ∙ shows ∙ ap (λ l. (l, x) ∷ more) (sym one_place.0)) (ap (is_seen k) (sym one_place.1) ∙ b)
+
+    pub counted_in_step : Same (keep_last t) (keep_last x) → Counted Last ms ns ahead → Counted Last ms ns rest
+    counted_in_step s h = by_either (is_seen k (texts rest)) _ (λ b. counted_again Last ms ns k t ahead rest step b h) (λ b. counted_same Last ms ns k t ahead rest step n at b x (last_in_both b) s h)
+
+  -- where the first goes on, so does the second
+  pub goes_on : (others : List (List ℕ × Tree)) → drop n (paired ns) ≡ others → others ≡ [] → ⊥
+  goes_on others also ends =
+      cons_none k (texts rest) (ap texts (sym step) ∙ ap texts (sym at) ∙ sym (drop-map (λ (p : List ℕ × Tree). p.0) n (paired ms)) ∙ ap (drop n) same
+      ∙ drop-map (λ (p : List ℕ × Tree). p.0) n (paired ns) ∙ ap texts also ∙ ap texts ends)
 
 map_none : (f : Tree → Tree) (o : Option Tree) → option_map f o ≡ None → o ≡ None
 map_none f None e = refl

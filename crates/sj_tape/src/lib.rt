@@ -2,9 +2,10 @@
 //! them.
 //!
 //! The texts of a tape lie in the bytes that were read. A part of a tape (`Value`) is a few words
-//! that may be copied; reads of it take no memory, and a member or an item is passed over in one
-//! step. A tape shows every member, repeats too; which one of several with one key a look-up finds,
-//! the first or the last, is a choice (`Repeats`) that each part carries.
+//! that may be copied; reads of it take no memory, and pass a member or an item over by its node's
+//! count, however much lies inside it. A tape shows every member, repeats too; which one of several
+//! with one key a look-up finds, the first or the last, is a choice (`Repeats`) that each part
+//! carries.
 //!
 //! ```
 //! let tape = to_tape(alloc, bytes)?; // {"the_answer": 42, "texts": ["a", "b"]}

@@ -1,6 +1,6 @@
 //! Objects of a tape.
 
-ghost use Rattle.std.specs.Prelude.{◌≡◌, bytes_eq};
+ghost use Rattle.std.specs.Prelude.{◌≡◌};
 ghost use Rattle.std.specs.Coded.{Coded-set, coded_list};
 ghost use Rattle.sj_text_core.specs.Code.{mark_code};
 ghost use Rattle.sj_text_core.specs.Nodes.{AreMembers, members_in};
@@ -10,15 +10,7 @@ ghost use Rattle.sj_tape.specs.Stretches.{nodes_in};
 use crate::nodes::Nodes;
 use crate::step::split_tree;
 use crate::value::Value;
-use sj_text_core::{Repeats, are_same_bytes};
-
-/// Whether a member's name is the key.
-#[inline]
-fn is_named(name: &str, key: &str) -> bool
-    ensures { result ≡ bytes_eq key.now name.now }
-{
-    are_same_bytes(key.as_bytes(), name.as_bytes())
-}
+use sj_text_core::{Repeats, are_same_texts};
 
 /// The members of an object of a tape, in order and repeats too.
 #[derive(Clone, Copy, Debug)]
@@ -120,7 +112,7 @@ impl<'t, 'i> Object<'t, 'i> {
         ensures { option_map tree result ≡ find_member key.now (members self.now) }
     {
         for (name, value) in self.iter() {
-            if is_named(name, key) {
+            if are_same_texts(key, name) {
                 return Some(value);
             }
         }
@@ -136,7 +128,7 @@ impl<'t, 'i> Object<'t, 'i> {
             if at >= place {
                 return false;
             }
-            if is_named(name, key) {
+            if are_same_texts(key, name) {
                 return true;
             }
             at += 1;
@@ -152,7 +144,7 @@ impl<'t, 'i> Object<'t, 'i> {
         for name in self.keys() {
             if known > 0 {
                 known -= 1;
-            } else if is_named(name, key) {
+            } else if are_same_texts(key, name) {
                 return true;
             }
         }

@@ -12,7 +12,7 @@ use sj_text_core::{Repeats, Steps, are_same_bytes};
 use std::marker::Brand;
 use std::sync::ledger::{Blank, Ledger};
 
-/// Compares a key, which is one step. Nothing else compares keys.
+/// Compares a key, which is one step. Look-ups that count compare keys here alone.
 fn is_key<L: Ledger>(name: &str, key: &[u8], steps: &mut Steps<L>) -> bool
     ensures answer { result ≡ bytes_eq key.now name.now }
     ensures step { steps.new ≡ steps.old + 1 }

@@ -29,8 +29,16 @@ fn half_word_at(bytes: &[u8], at: usize) -> u32
     u32::from_le_bytes(*word)
 }
 
-/// Whether the bytes are the same. Their lengths are compared first, then their last bytes, and
-/// those of 4 to 16 bytes cost no call.
+/// Whether the texts have the same bytes; see `are_same_bytes`.
+#[inline]
+pub fn are_same_texts(a: &str, b: &str) -> bool
+    ensures { result ≡ bytes_eq a.now b.now }
+{
+    are_same_bytes(a.as_bytes(), b.as_bytes())
+}
+
+/// Whether the bytes are the same. Their lengths are compared first, then their last bytes, and up
+/// to 16 bytes cost no call.
 #[inline]
 pub fn are_same_bytes(a: &[u8], b: &[u8]) -> bool
     ensures { result ≡ bytes_eq a.now b.now }
@@ -60,10 +68,21 @@ fn are_same_short(a: &[u8], b: &[u8]) -> bool
 {
     let len = a.len();
     if len < 4 {
-        return a == b;
+        return are_same_few(a, b);
     }
     if half_word_at(a, len - 4) != half_word_at(b, len - 4) {
         return false;
     }
     half_word_at(a, 0) == half_word_at(b, 0)
+}
+
+/// The same of bytes of one length below 4: the first, the middle and the last are all of them.
+#[inline]
+fn are_same_few(a: &[u8], b: &[u8]) -> bool
+    requires same { length a.now ≡ length b.now }
+    requires few { length a.now < 4 }
+    ensures { result ≡ bytes_eq a.now b.now }
+{
+    let len = a.len();
+    len == 0 || (a[0] == b[0] && a[len / 2] == b[len / 2] && a[len - 1] == b[len - 1])
 }

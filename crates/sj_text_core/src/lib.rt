@@ -18,7 +18,7 @@ mod value_as_scalar;
 mod value_type;
 mod writable;
 
-pub use bytes::are_same_bytes;
+pub use bytes::{are_same_bytes, are_same_texts};
 pub use error::{AccessError, BadTape, ErrorKind, WriteError};
 pub use meaning::Meaning;
 pub use refused::Refused;

@@ -16,7 +16,7 @@ use std::marker::Brand;
 use std::sync::ledger::{Blank, Ledger};
 
 /// Compares a key, which is one step; where its hash is known to differ, by the hash alone.
-/// Nothing else compares keys.
+/// No other look-up in a map compares keys.
 #[inline]
 fn is_key<K: KeyText, L: Ledger>(may_be: bool, key: &K, text: &[u8], steps: &mut Steps<L>) -> bool
     ensures answer { result ≡ may_be && bytes_eq text.now (K.text_of key.now) }

@@ -13,7 +13,7 @@ ghost use Rattle.sj_tape.specs.Value.{tree, choice};
 use crate::array::Array;
 use crate::object::Object;
 use crate::value::Value;
-use sj_text_core::{Repeats, SameAs};
+use sj_text_core::{Repeats, SameAs, are_same_texts};
 
 /// Same as another part exactly where the two mean one document: numbers by value, arrays item by
 /// item, objects by the member of each key that counts in each.
@@ -70,7 +70,7 @@ fn same_leaves(left: Value, right: Value) -> bool
         },
         None => match left.into_string() {
             Some(text) => match right.into_string() {
-                Some(other) => text == other,
+                Some(other) => are_same_texts(text, other),
                 None => false,
             },
             None => unreachable!(),
@@ -109,7 +109,7 @@ fn same_members(left: Object, right: Object) -> bool
     let mut place = 0;
     for (key, value) in left.iter() {
         match others.next() {
-            Some((name, other)) if key == name => {
+            Some((name, other)) if are_same_texts(key, name) => {
                 if !same_values(value, other) && !left.has_before(place, key) {
                     return false;
                 }
@@ -178,7 +178,7 @@ fn last_values(left: Value, right: Value) -> bool
         },
         None => match left.as_object() {
             Some(members) => match right.as_object() {
-                Some(others) => last_members(members, others),
+                Some(others) => last_objects(members, others),
                 None => false,
             },
             None => same_leaves(left, right),
@@ -199,6 +199,57 @@ fn last_items(left: Array, right: Array) -> bool
         match others.next() {
             Some(other) => {
                 if !last_values(item, other) {
+                    return false;
+                }
+            }
+            None => return false,
+        }
+    }
+    true
+}
+
+/// In step where the last member of each key counts in both, and both have the same keys in one
+/// order; else by look-ups.
+#[cycle(last)]
+fn last_objects(left: Object, right: Object) -> bool
+    requires { object_choice left ≡ Repeats.Last }
+    ensures { IsTrue result ↔ SameBy Repeats.Last (object_choice right.entry) (obj (members left.entry)) (obj (members right.entry)) }
+{
+    match right.repeats() {
+        Repeats::Last if has_same_keys(left, right) => last_in_step(left, right),
+        _ => last_members(left, right),
+    }
+}
+
+/// Whether the two have the same keys in one order.
+fn has_same_keys(left: Object, right: Object) -> bool
+    ensures { IsTrue result ↔ texts (paired (members left.entry)) ≡ texts (paired (members right.entry)) }
+{
+    let mut others = right.keys();
+    for key in left.keys() {
+        match others.next() {
+            Some(name) if are_same_texts(key, name) => {}
+            _ => return false,
+        }
+    }
+    others.next().is_none()
+}
+
+/// Values that differ are passed over where a later member has their key.
+#[cycle(last)]
+fn last_in_step(left: Object, right: Object) -> bool
+    requires choice { object_choice left ≡ Repeats.Last }
+    requires other_choice { object_choice right ≡ Repeats.Last }
+    requires keys { texts (paired (members left)) ≡ texts (paired (members right)) }
+    ensures { IsTrue result ↔ SameBy Repeats.Last Repeats.Last (obj (members left.entry)) (obj (members right.entry)) }
+{
+    let mut others = right.iter();
+    let mut seen = 0;
+    for (key, value) in left.iter() {
+        seen += 1;
+        match others.next() {
+            Some((_, other)) => {
+                if !last_values(value, other) && !left.has_behind(seen, key) {
                     return false;
                 }
             }

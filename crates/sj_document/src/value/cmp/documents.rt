@@ -11,6 +11,7 @@ ghost use Rattle.sj_document.specs.Document.{tree};
 
 use crate::value::{Document, Object};
 use sj_object::KeyText;
+use sj_text_core::are_same_texts;
 
 /// The value of the key, where `near` is a member that may have it: it is looked at first.
 fn value_near<'m, T: KeyText>(
@@ -22,7 +23,7 @@ fn value_near<'m, T: KeyText>(
     ensures { option_copied result ≡ lookup key.now members.now.entries }
 {
     match near {
-        Some((name, value)) if name.text() == key => Some(value),
+        Some((name, value)) if are_same_texts(name.text(), key) => Some(value),
         _ => members.get(key),
     }
 }
@@ -38,7 +39,7 @@ fn same_values<T: KeyText, U: KeyText>(left: &Document<T>, right: &Document<U>) 
             _ => false,
         },
         Document::String(text) => match right {
-            Document::String(other) => text.text() == other.text(),
+            Document::String(other) => are_same_texts(text.text(), other.text()),
             _ => false,
         },
         Document::Array(items) => match right {

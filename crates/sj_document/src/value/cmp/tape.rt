@@ -15,7 +15,7 @@ ghost use Rattle.sj_document.specs.Document.{tree};
 use crate::value::{Document, Object};
 use sj_object::KeyText;
 use sj_tape::{Array, Value, object};
-use sj_text_core::Repeats;
+use sj_text_core::{Repeats, are_same_texts};
 
 /// Whether the part of a tape and the document are the same; of each key the member counts that
 /// the part says.
@@ -39,7 +39,7 @@ fn first_as_tape<T: KeyText>(left: Value, right: &Document<T>) -> bool
             None => false,
         },
         Document::String(other) => match left.into_string() {
-            Some(text) => text == other.text(),
+            Some(text) => are_same_texts(text, other.text()),
             None => false,
         },
         Document::Array(others) => match left.as_array() {
@@ -85,7 +85,7 @@ fn same_members<T: KeyText>(left: object::Object, right: &Object<T>) -> bool
     let mut place = 0;
     for (key, value) in left.iter() {
         match others.next() {
-            Some((name, other)) if key == name.text() => {
+            Some((name, other)) if are_same_texts(key, name.text()) => {
                 if !first_as_tape(value, other) {
                     return false;
                 }
@@ -153,7 +153,7 @@ fn last_as_tape<T: KeyText>(left: Value, right: &Document<T>) -> bool
             None => false,
         },
         Document::String(other) => match left.into_string() {
-            Some(text) => text == other.text(),
+            Some(text) => are_same_texts(text, other.text()),
             None => false,
         },
         Document::Array(others) => match left.as_array() {
@@ -161,7 +161,7 @@ fn last_as_tape<T: KeyText>(left: Value, right: &Document<T>) -> bool
             None => false,
         },
         Document::Object(others) => match left.as_object() {
-            Some(members) => last_members(members, others),
+            Some(members) => last_objects(members, others),
             None => false,
         },
     }
@@ -181,6 +181,54 @@ fn last_items<T: KeyText>(left: Array, right: &Vec<Document<T>>) -> bool
         match items.next() {
             Some(item) => {
                 if !last_as_tape(item, other) {
+                    return false;
+                }
+            }
+            None => return false,
+        }
+    }
+    true
+}
+
+/// In step where both have the same keys in one order; else by look-ups.
+#[cycle(last)]
+fn last_objects<T: KeyText>(left: object::Object, right: &Object<T>) -> bool
+    requires { object_choice left ≡ Repeats.Last }
+    ensures { IsTrue result ↔ SameBy Repeats.Last Repeats.First (obj (members left.entry)) (obj (entry_members (tree T.text_of) right.now.entries)) }
+{
+    if has_same_keys(left, right) {
+        last_in_step(left, right)
+    } else {
+        last_members(left, right)
+    }
+}
+
+/// Whether the two have the same keys in one order.
+fn has_same_keys<T: KeyText>(left: object::Object, right: &Object<T>) -> bool
+    ensures { IsTrue result ↔ texts (paired (members left.entry)) ≡ texts (paired (entry_members (tree T.text_of) right.now.entries)) }
+{
+    let mut others = right.iter();
+    for key in left.keys() {
+        match others.next() {
+            Some((name, _)) if are_same_texts(key, name.text()) => {}
+            _ => return false,
+        }
+    }
+    others.next().is_none()
+}
+
+/// No key stands twice in a map, so each member counts.
+#[cycle(last)]
+fn last_in_step<T: KeyText>(left: object::Object, right: &Object<T>) -> bool
+    requires choice { object_choice left ≡ Repeats.Last }
+    requires keys { texts (paired (members left)) ≡ texts (paired (entry_members (tree T.text_of) right.now.entries)) }
+    ensures { IsTrue result ↔ SameBy Repeats.Last Repeats.First (obj (members left.entry)) (obj (entry_members (tree T.text_of) right.now.entries)) }
+{
+    let mut others = right.iter();
+    for (_, value) in left.iter() {
+        match others.next() {
+            Some((_, other)) => {
+                if !last_as_tape(value, other) {
                     return false;
                 }
             }

@@ -20,15 +20,15 @@ loop-name-init c =
     ∙ ap (λ ps. find_member c.args.key.now (members_from ps)) c.iter-name-items.ensures.members
     ∙ ap (λ ms. find_member c.args.key.now ms) (members_from-paired (members c.args.self.now))
 
-pub returns-then-is_named : goal.returns-then-is_named
-returns-then-is_named c =
+pub returns-then-are_same_texts : goal.returns-then-are_same_texts
+returns-then-are_same_texts c =
     let step = member_step c.loop-name.name-iterator.repeats c.next.new.self.repeats c.in-Some.name.now (part c.in-Some.value) (members_ahead c.loop-name.name-iterator) (members_ahead c.next.new.self) c.in-Some.ensures.steps in
-    by_first c.args.key.now c.in-Some.name.now (tree c.in-Some.value) _ _ _ _ _ c.loop-name.invariant step c.is_named.ensures c.if-is_named.true
+    by_first c.args.key.now c.in-Some.name.now (tree c.in-Some.value) _ _ _ _ _ c.loop-name.invariant step c.are_same_texts.ensures c.if-are_same_texts.true
 
 pub loop-name-preserved : goal.loop-name-preserved
 loop-name-preserved c =
     let step = member_step c.loop-name.name-iterator.repeats c.next.new.self.repeats c.in-Some.name.now (part c.in-Some.value) (members_ahead c.loop-name.name-iterator) (members_ahead c.next.new.self) c.in-Some.ensures.steps in
-    by_first c.args.key.now c.in-Some.name.now (tree c.in-Some.value) _ _ _ _ _ c.loop-name.invariant step c.is_named.ensures c.if-is_named.false
+    by_first c.args.key.now c.in-Some.name.now (tree c.in-Some.value) _ _ _ _ _ c.loop-name.invariant step c.are_same_texts.ensures c.if-are_same_texts.false
 
 pub returns : goal.returns
 returns c =

@@ -23,5 +23,5 @@ loop-name-init c = record {
 pub loop-name-preserved : goal.loop-name-preserved
 loop-name-preserved c = record {
   within = omega (arith, c.if-at-place.false);
-  ahead = pass_over c.args.key.now c.in-Some.name.now _ (keys_ahead c.next.new.self) (c.args.place - c.loop-name.at) (c.args.place - (c.loop-name.at + 1)) _ _ c.loop-name.invariant.ahead c.in-Some.ensures.steps (omega (arith, c.if-at-place.false)) c.is_named.ensures c.if-is_named.false;
+  ahead = pass_over c.args.key.now c.in-Some.name.now _ (keys_ahead c.next.new.self) (c.args.place - c.loop-name.at) (c.args.place - (c.loop-name.at + 1)) _ _ c.loop-name.invariant.ahead c.in-Some.ensures.steps (omega (arith, c.if-at-place.false)) c.are_same_texts.ensures c.if-are_same_texts.false;
 }

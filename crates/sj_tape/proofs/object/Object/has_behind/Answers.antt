@@ -13,13 +13,13 @@ pub loop-name-preserved-then-known-gt0 : goal.loop-name-preserved-then-known-gt0
 loop-name-preserved-then-known-gt0 c =
     behind_passed c.args.key.now c.in-Some.name.now _ (keys_ahead c.next.new.self) c.loop-name.known _ _ c.loop-name.invariant c.in-Some.ensures.steps (omega (arith, c.if-known-gt0.true))
 
-pub returns-then-is_named : goal.returns-then-is_named
-returns-then-is_named c =
-    behind_found c.args.key.now c.in-Some.name.now _ (keys_ahead c.next.new.self) c.loop-name.known _ c.loop-name.invariant c.in-Some.ensures.steps (omega (arith, c.if-known-gt0.false)) (sym c.is_named.ensures ∙ c.if-is_named.true)
+pub returns-then-are_same_texts : goal.returns-then-are_same_texts
+returns-then-are_same_texts c =
+    behind_found c.args.key.now c.in-Some.name.now _ (keys_ahead c.next.new.self) c.loop-name.known _ c.loop-name.invariant c.in-Some.ensures.steps (omega (arith, c.if-known-gt0.false)) (sym c.are_same_texts.ensures ∙ c.if-are_same_texts.true)
 
 pub loop-name-preserved : goal.loop-name-preserved
 loop-name-preserved c =
-    behind_other c.args.key.now c.in-Some.name.now _ (keys_ahead c.next.new.self) c.loop-name.known _ c.loop-name.invariant c.in-Some.ensures.steps (omega (arith, c.if-known-gt0.false)) (sym c.is_named.ensures ∙ c.if-is_named.false)
+    behind_other c.args.key.now c.in-Some.name.now _ (keys_ahead c.next.new.self) c.loop-name.known _ c.loop-name.invariant c.in-Some.ensures.steps (omega (arith, c.if-known-gt0.false)) (sym c.are_same_texts.ensures ∙ c.if-are_same_texts.false)
 
 pub returns : goal.returns
 returns c = behind_none c.args.key.now _ c.loop-name.known _ c.loop-name.invariant c.in-None.ensures.steps.0

@@ -11,8 +11,9 @@ use Rattle.sj_tape.specs.Members.{members, members_ahead, object_choice, parts_a
 use Rattle.sj_tape.specs.Value.{tree, choice, part}
 use Rattle.sj_tape.proofs.Chosen.{item_step, items_end, member_step, members_end}
 use Rattle.sj_tape.proofs.Compared.{length-listed, none_left, place_within, length-paired, drop_next, pair_within, allowed, denied}
-use Rattle.sj_tape.proofs.Counted.{items_taken, items_joined, into_items, from_items, part_choice, member_choice, parts, lens_by, moved, by_choice, leaf_by, by_leaf, counted_again, counted_same, same_last, not_same_last, same_if_counted, has_if_counted}
+use Rattle.sj_tape.proofs.Counted.{items_taken, items_joined, into_items, from_items, part_choice, member_choice, parts, lens_by, moved, by_choice, leaf_by, by_leaf, counted_again, counted_same, same_last, not_same_last, same_if_counted, has_if_counted, last_in_both, counted_in_step, goes_on}
 use Rattle.sj_tape.proofs.value.cmp.+last.Goals as goal
+use Rattle.sj_tape.proofs.value.cmp.+last.Goals.{last_in_step-else-not-last_values-via-then-not-last_values+else-not-has_behind, last_in_step-else-not-last_values-via-else-not-last_values}
 
 pub last_values-returns-in-None-as_object : goal.last_values-returns-in-None-as_object
 last_values-returns-in-None-as_object t c =
@@ -187,3 +188,85 @@ last_members-returns t c =
     let now : IsTrue c.has_keys.result ↔ HasTexts (paired m) (paired n) = c.has_keys.ensures in
     let none = members_end c.loop-key.key-iterator.repeats (members_ahead c.loop-key.key-iterator) c.in-None.ensures.steps.0 in
     (λ h. same_if_counted (object_choice c.args.right) m n _ none c.loop-key.invariant.counted (now.0 h), λ h. now.1 (has_if_counted (object_choice c.args.right) m n h))
+
+pub last_in_step-overflow_add-seen : goal.last_in_step-overflow_add-seen
+last_in_step-overflow_add-seen t c =
+    let i = c.loop-key.invariant in
+    let m = members c.args.left in
+    let step = member_step c.loop-key.key-iterator.repeats c.next.new.self.repeats c.in-Some.key.now (part c.in-Some.value) (members_ahead c.loop-key.key-iterator) (members_ahead c.next.new.self) c.in-Some.ensures.steps in
+    let below = place_within c.loop-key.seen (paired m) _ (members_ahead c.next.new.self) (i.ahead ∙ step) in
+    let g : c.args.left.len < 2 ^ 64 = search (rules, c.well_formed) in
+    omega (arith, below, g, length-paired m, c.args.left.counted)
+
+pub last_in_step-last_values-requires : goal.last_in_step-last_values-requires
+last_in_step-last_values-requires t c =
+    let i = c.loop-key.invariant in
+    let k = c.in-Some.key.now in
+    let step = member_step c.loop-key.key-iterator.repeats c.next.new.self.repeats k (part c.in-Some.value) (members_ahead c.loop-key.key-iterator) (members_ahead c.next.new.self) c.in-Some.ensures.steps in
+    let own = member_choice Last k (part c.in-Some.value) (pairs_ahead c.next.new.self) (members_ahead c.loop-key.key-iterator) (members_ahead c.next.new.self) (sym i.mine ∙ c.in-Some.ensures.steps) step in
+    let below = pair_within c.loop-key.seen (members c.args.left) k (tree c.in-Some.value) (members_ahead c.next.new.self) (i.ahead ∙ step) in
+    (omega (arith, c.decreases, below), own.0)
+
+pub last_in_step-returns-then-not-has_behind : goal.last_in_step-returns-then-not-has_behind
+last_in_step-returns-then-not-has_behind t c =
+    let i = c.loop-key.invariant in
+    let m = members c.args.left in
+    let n = members c.args.right in
+    let k = c.in-Some.key.now in
+    let l = c.in-Some-next.field-0-0.now in
+    let step = member_step c.loop-key.key-iterator.repeats c.next.new.self.repeats k (part c.in-Some.value) (members_ahead c.loop-key.key-iterator) (members_ahead c.next.new.self) c.in-Some.ensures.steps in
+    let also = member_step c.loop-key.others.repeats c.next-in-loop-key.new.self.repeats l (part c.in-Some-next.other) (members_ahead c.loop-key.others) (members_ahead c.next-in-loop-key.new.self) c.in-Some-next.ensures.steps in
+    let its = member_choice Last l (part c.in-Some-next.other) (pairs_ahead c.next-in-loop-key.new.self) (members_ahead c.loop-key.others) (members_ahead c.next-in-loop-key.new.self) (sym i.theirs ∙ c.in-Some-next.ensures.steps) also in
+    let rest = drop_next c.loop-key.seen (paired m) _ (members_ahead c.next.new.self) (i.ahead ∙ step) in
+    let behind : c.has_behind.result ≡ is_seen k (texts (members_ahead c.next.new.self)) =
+    c.has_behind.ensures ∙ ap (is_seen k) (drop-map (λ (p : List ℕ × Tree). p.0) (c.loop-key.seen + 1) (paired m)) ∙ ap (λ ps. is_seen k (texts ps)) rest in
+    let alone = sym behind ∙ c.if-not-has_behind.true in
+    let x = tree c.in-Some-next.other in
+    let both = last_in_both m n c.requires.keys c.loop-key.seen k (tree c.in-Some.value) _ _ i.ahead step l x _ _ i.others also alone in (
+      λ f. absurd (cc),
+      λ h. absurd (denied c.last_values.result _ c.last_values.ensures c.if-not-last_values.true
+          (by_choice Last (choice c.in-Some-next.other) (tree c.in-Some.value) x (sym its.0)
+          (same_last Last m n k (tree c.in-Some.value) _ _ step c.loop-key.seen i.ahead alone x both h))),
+    )
+
+pub last_in_step-loop-key-preserved : goal.last_in_step-loop-key-preserved
+last_in_step-loop-key-preserved t c =
+    let i = c.loop-key.invariant in
+    let m = members c.args.left in
+    let n = members c.args.right in
+    let k = c.in-Some.key.now in
+    let l = c.in-Some-next.field-0-0.now in
+    let step = member_step c.loop-key.key-iterator.repeats c.next.new.self.repeats k (part c.in-Some.value) (members_ahead c.loop-key.key-iterator) (members_ahead c.next.new.self) c.in-Some.ensures.steps in
+    let also = member_step c.loop-key.others.repeats c.next-in-loop-key.new.self.repeats l (part c.in-Some-next.other) (members_ahead c.loop-key.others) (members_ahead c.next-in-loop-key.new.self) c.in-Some-next.ensures.steps in
+    let own = member_choice Last k (part c.in-Some.value) (pairs_ahead c.next.new.self) (members_ahead c.loop-key.key-iterator) (members_ahead c.next.new.self) (sym i.mine ∙ c.in-Some.ensures.steps) step in
+    let its = member_choice Last l (part c.in-Some-next.other) (pairs_ahead c.next-in-loop-key.new.self) (members_ahead c.loop-key.others) (members_ahead c.next-in-loop-key.new.self) (sym i.theirs ∙ c.in-Some-next.ensures.steps) also in
+    let rest = drop_next c.loop-key.seen (paired m) _ (members_ahead c.next.new.self) (i.ahead ∙ step) in
+    let t = tree c.in-Some.value in
+    let x = tree c.in-Some-next.other in
+    record {
+      ahead = rest;
+      others = drop_next c.loop-key.seen (paired n) _ _ (i.others ∙ also);
+      counted = elim c.else-not-last_values.branch [
+        | last_in_step-else-not-last_values-via-then-not-last_values+else-not-has_behind w ↦
+            (let behind : w.has_behind.result ≡ is_seen k (texts (members_ahead c.next.new.self)) =
+            w.has_behind.ensures ∙ ap (is_seen k) (drop-map (λ (p : List ℕ × Tree). p.0) (c.loop-key.seen + 1) (paired m)) ∙ ap (λ ps. is_seen k (texts ps)) rest in
+            counted_again Last m n k t _ _ step (sym behind ∙ w.if-not-has_behind.false) i.counted)
+        | last_in_step-else-not-last_values-via-else-not-last_values w ↦
+            counted_in_step m n c.requires.keys c.loop-key.seen k t _ _ i.ahead step l x _ _ i.others also
+            (by_choice (choice c.in-Some-next.other) Last t x its.0 (allowed c.last_values.result _ c.last_values.ensures w.if-not-last_values.false)) i.counted
+      ];
+      mine = own.1;
+      theirs = its.1;
+    }
+
+pub last_in_step-returns-in-None-next : goal.last_in_step-returns-in-None-next
+last_in_step-returns-in-None-next t c =
+    let i = c.loop-key.invariant in
+    let step = member_step c.loop-key.key-iterator.repeats c.next.new.self.repeats c.in-Some.key.now (part c.in-Some.value) (members_ahead c.loop-key.key-iterator) (members_ahead c.next.new.self) c.in-Some.ensures.steps in
+    absurd (goes_on (members c.args.left) (members c.args.right) c.requires.keys c.loop-key.seen c.in-Some.key.now (tree c.in-Some.value) _ _ i.ahead step _ i.others
+    (members_end c.loop-key.others.repeats (members_ahead c.loop-key.others) c.in-None-next.ensures.steps.0))
+
+pub last_in_step-returns : goal.last_in_step-returns
+last_in_step-returns t c =
+    let none = members_end c.loop-key.key-iterator.repeats (members_ahead c.loop-key.key-iterator) c.in-None.ensures.steps.0 in
+    (λ _. same_if_counted Last (members c.args.left) (members c.args.right) _ none c.loop-key.invariant.counted (λ k s. ap (is_seen k) c.requires.keys ∙ s), λ h. refl)

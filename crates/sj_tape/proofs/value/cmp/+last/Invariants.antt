@@ -31,11 +31,29 @@ invariant-last_members-loop-key l =
       mine : pairs_ahead l.key-iterator ≡ chosen Last (members_ahead l.key-iterator);
     }
 
+abbrev pub invariant-last_in_step-loop-key : goal.invariant-last_in_step-loop-key
+invariant-last_in_step-loop-key l =
+    let m = members l.fn.left in
+    let n = members l.fn.right in
+    record {
+      ahead : drop l.seen (paired m) ≡ members_ahead l.key-iterator;
+      others : drop l.seen (paired n) ≡ members_ahead l.others;
+      counted : Counted Last m n (members_ahead l.key-iterator);
+      mine : pairs_ahead l.key-iterator ≡ chosen Last (members_ahead l.key-iterator);
+      theirs : pairs_ahead l.others ≡ chosen Last (members_ahead l.others);
+    }
+
 abbrev pub decreases-last_values : goal.decreases-last_values
-decreases-last_values l = 2 * depth (tree l.left)
+decreases-last_values l = 3 * depth (tree l.left)
 
 abbrev pub decreases-last_items : goal.decreases-last_items
-decreases-last_items l = 2 * items_depth (items l.left) + 1
+decreases-last_items l = 3 * items_depth (items l.left) + 1
+
+abbrev pub decreases-last_objects : goal.decreases-last_objects
+decreases-last_objects l = 3 * members_depth (members l.left) + 2
+
+abbrev pub decreases-last_in_step : goal.decreases-last_in_step
+decreases-last_in_step l = 3 * members_depth (members l.left) + 1
 
 abbrev pub decreases-last_members : goal.decreases-last_members
-decreases-last_members l = 2 * members_depth (members l.left) + 1
+decreases-last_members l = 3 * members_depth (members l.left) + 1

@@ -44,11 +44,11 @@ same_members-returns-then-not-has_before t c =
     let also = member_step c.loop-key.others.repeats c.next-in-loop-key.new.self.repeats c.in-Some-next.name.now (part c.in-Some-next.other) (members_ahead c.loop-key.others) (members_ahead c.next-in-loop-key.new.self) c.in-Some-next.ensures.steps in
     let i = c.loop-key.invariant in
     let new : c.has_before.result ≡ is_before c.loop-key.place c.in-Some.key.now (paired (members c.args.left)) = c.has_before.ensures in
-    let asked : c.eq.result ≡ bytes_eq c.in-Some.key.now c.in-Some-next.name.now = c.eq.ensures in (
+    let asked : c.are_same_texts.result ≡ bytes_eq c.in-Some.key.now c.in-Some-next.name.now = c.are_same_texts.ensures in (
       λ f. absurd (cc),
       λ h. absurd (denied c.same_values.result _ c.same_values.ensures c.if-not-same_values.true
           (same_here c.loop-key.place c.in-Some.key.now (tree c.in-Some.value) (members c.args.left) (members c.args.right) _ (members_ahead c.next.new.self) i.ahead step
-          c.in-Some-next.name.now (tree c.in-Some-next.other) _ (members_ahead c.next-in-loop-key.new.self) i.others also c.eq.result asked c.if-eq.true i.in_step
+          c.in-Some-next.name.now (tree c.in-Some-next.other) _ (members_ahead c.next-in-loop-key.new.self) i.others also c.are_same_texts.result asked c.if-are_same_texts.true i.in_step
           (sym new ∙ c.if-not-has_before.true) h)),
     )
 
@@ -66,19 +66,19 @@ same_members-loop-key-preserved t c =
     let i = c.loop-key.invariant in
     let m = members c.args.left in
     let n = members c.args.right in
-    let asked : c.eq.result ≡ bytes_eq c.in-Some.key.now c.in-Some-next.name.now = c.eq.ensures in
+    let asked : c.are_same_texts.result ≡ bytes_eq c.in-Some.key.now c.in-Some-next.name.now = c.are_same_texts.ensures in
     record {
       ahead = drop_next c.loop-key.place (paired m) _ _ (i.ahead ∙ step);
       others = drop_next c.loop-key.place (paired n) _ _ (i.others ∙ also);
       in_step = texts_further c.loop-key.place c.in-Some.key.now (tree c.in-Some.value) m n _ (members_ahead c.next.new.self) i.ahead step
-          c.in-Some-next.name.now (tree c.in-Some-next.other) _ (members_ahead c.next-in-loop-key.new.self) i.others also c.eq.result asked c.if-eq.true i.in_step;
+          c.in-Some-next.name.now (tree c.in-Some-next.other) _ (members_ahead c.next-in-loop-key.new.self) i.others also c.are_same_texts.result asked c.if-are_same_texts.true i.in_step;
       agree = elim c.else-not-same_values.branch [
         | same_members-else-not-same_values-via-then-not-same_values+else-not-has_before w ↦
             further_repeat c.loop-key.place c.in-Some.key.now (tree c.in-Some.value) m n _ (members_ahead c.next.new.self) i.ahead step
             (let new : w.has_before.result ≡ is_before c.loop-key.place c.in-Some.key.now (paired m) = w.has_before.ensures in sym new ∙ w.if-not-has_before.false) i.agree
         | same_members-else-not-same_values-via-else-not-same_values w ↦
             further_in_step c.loop-key.place c.in-Some.key.now (tree c.in-Some.value) m n _ (members_ahead c.next.new.self) i.ahead step
-            c.in-Some-next.name.now (tree c.in-Some-next.other) _ (members_ahead c.next-in-loop-key.new.self) i.others also c.eq.result asked c.if-eq.true i.in_step
+            c.in-Some-next.name.now (tree c.in-Some-next.other) _ (members_ahead c.next-in-loop-key.new.self) i.others also c.are_same_texts.result asked c.if-are_same_texts.true i.in_step
             (allowed c.same_values.result _ c.same_values.ensures w.if-not-same_values.false) i.agree
       ];
     }

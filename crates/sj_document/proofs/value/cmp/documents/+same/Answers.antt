@@ -167,7 +167,7 @@ same_values-returns-in-String-right g r c =
     let u = g.U.KeyText.text_of in
     let mine = ap (tree t) c.in-String.is ∙ tree-String t c.in-String.text in
     let other = ap (tree u) c.in-String-right.is ∙ tree-String u c.in-String-right.other in
-    rw (mine, other) (same_text (t c.in-String.text) (u c.in-String-right.other) _ (c.eq-in-String-right.ensures ∙ (λ i. bytes_eq (c.text.ensures i) (c.text-in-String-right.ensures i))))
+    rw (mine, other) (same_text (t c.in-String.text) (u c.in-String-right.other) _ (c.are_same_texts.ensures ∙ (λ i. bytes_eq (c.text.ensures i) (c.text-in-String-right.ensures i))))
 
 pub same_values-returns-in-Array-right : goal.same_values-returns-in-Array-right
 same_values-returns-in-Array-right g r c =

@@ -1,4 +1,4 @@
-use Rattle.std.proofs.Common.{◌≡◌, ℕ, ◌+◌, ◌<◌, ◌^◌, ◌↔◌, List, map, sym, ap, ◌∙◌, arith, rules, length, IsTrue, bytes_eq}
+use Rattle.std.proofs.Common.{◌≡◌, ℕ, ◌+◌, ◌<◌, ◌^◌, ◌↔◌, List, map, refl, sym, ap, ◌∙◌, arith, rules, length, IsTrue, bytes_eq}
 use Rattle.std.proofs.lemmas.List.{drop-map}
 use Rattle.sj_text_core.specs.Tree.{Tree, list, obj, items_depth, items_from, listed, paired}
 use Rattle.sj_text_core.specs.Agree.{HasTexts, texts}
@@ -7,15 +7,17 @@ use Rattle.sj_text_core.specs.Repeats.{keep_last, keep_last_items}
 use Rattle.sj_text_core.specs.declared.repeats.Repeats.TheVariants.{First, Last}
 use Rattle.sj_text_core.proofs.Shapes.{items_from-listed, list_is, obj_is}
 use Rattle.sj_tape.specs.Items.{items, items_ahead, parts_ahead}
-use Rattle.sj_tape.specs.Members.{members, members_ahead, parts_ahead as pairs_ahead}
+use Rattle.sj_tape.specs.Members.{members, members_ahead, chosen, parts_ahead as pairs_ahead}
 use Rattle.sj_tape.specs.Value.{tree as tape_tree, part}
 use Rattle.sj_tape.proofs.Chosen.{item_step, member_step, members_end}
 use Rattle.sj_tape.proofs.Compared.{scalar_is, length-listed, place_within, length-paired, drop_next, pair_within, allowed, denied}
-use Rattle.sj_tape.proofs.Counted.{part_choice, member_choice, parts, items_last, len_last, counted_again, counted_same, same_last, not_same_last, same_if_counted, has_if_counted}
+use Rattle.sj_tape.proofs.Counted.{part_choice, member_choice, parts, items_last, len_last, counted_again, counted_same, same_last, not_same_last, same_if_counted, has_if_counted, goes_on, counted_none}
+use Rattle.sj_object.specs.Entries.{entries_of}
 use Rattle.sj_object.specs.Members.{entry_members}
+use Rattle.sj_object.specs.Texts.{no_repeats}
 use Rattle.sj_document.specs.Document.{tree}
 use Rattle.sj_document.proofs.Trees.{tree-Static, tree-Array, tree-Object}
-use Rattle.sj_document.proofs.Mixed.{lens_mixed, taken_mixed, joined_mixed, lens_next, found_at, absent_at}
+use Rattle.sj_document.proofs.Mixed.{lens_mixed, taken_mixed, joined_mixed, lens_next, found_at, absent_at, texts_paired, last_here, found_here}
 use Rattle.sj_document.proofs.Sorts.{text_is, same_text, tree-String, keep_static, keep_sort, unlike_static, unlike_text, unlike_list, unlike_obj}
 use Rattle.sj_document.proofs.value.cmp.tape.+last.Goals as goal
 
@@ -32,7 +34,7 @@ last_as_tape-returns-in-Some-into_string g r c =
     let s = c.in-Some-into_string.text.now in
     let mine = text_is (tape_tree c.args.left) s c.in-Some-into_string.ensures in
     let other = ap (tree u) c.in-String.is ∙ tree-String u c.in-String.other in
-    rw (mine, other) (same_text s (u c.in-String.other) _ (c.eq-in-Some-into_string.ensures ∙ ap (bytes_eq s) c.text.ensures))
+    rw (mine, other) (same_text s (u c.in-String.other) _ (c.are_same_texts.ensures ∙ ap (bytes_eq s) c.text.ensures))
 
 pub last_as_tape-returns-in-Some-as_array : goal.last_as_tape-returns-in-Some-as_array
 last_as_tape-returns-in-Some-as_array g r c =
@@ -66,7 +68,7 @@ last_as_tape-returns-in-Some-as_object g r c =
     let u = g.T.KeyText.text_of in
     let mine = obj_is (tape_tree c.args.left) (members c.in-Some-as_object.members) c.in-Some-as_object.ensures.members in
     let other = ap (tree u) c.in-Object.is ∙ tree-Object u c.in-Object.others ∙ ap (λ m. obj (entry_members (tree u) m.entries)) (sym c.deref-in-Some-as_object.ensures) in
-    rw (mine, other) c.last_members.ensures
+    rw (mine, other) c.last_objects.ensures
 
 pub last_items-returns-then-len-others : goal.last_items-returns-then-len-others
 last_items-returns-then-len-others g r c =
@@ -223,3 +225,83 @@ last_members-returns g r c =
     let now : IsTrue c.has_keys.result ↔ HasTexts (paired m) (paired n) = c.has_keys.ensures in
     let none = members_end c.loop-key.key-iterator.repeats (members_ahead c.loop-key.key-iterator) c.in-None.ensures.steps.0 in
     (λ h. same_if_counted First m n _ none c.loop-key.invariant.counted (now.0 h), λ h. now.1 (has_if_counted First m n h))
+
+pub last_in_step-loop-value-init : goal.last_in_step-loop-value-init
+last_in_step-loop-value-init g r c =
+    let t = g.T.KeyText.text_of in
+    let u = tree t in
+    let m = members c.args.left in
+    let es = c.args.right.now.entries in
+    let all : members_ahead c.into_iter-value-iterator.result ≡ paired m = ap members_ahead c.into_iter-value-iterator.ensures.into_iter_gives ∙ c.iter-value-items.ensures.members in
+    record {
+      at = (0, sym all, sym (ap (λ es. paired (entry_members u es)) c.iter-others.ensures));
+      counted = counted_none First m (entry_members u es) _ all;
+      mine = ap pairs_ahead c.into_iter-value-iterator.ensures.into_iter_gives ∙ c.iter-value-items.ensures.parts ∙ ap (λ e. chosen e (paired m)) c.requires.choice ∙ ap (chosen Last) (sym all);
+    }
+
+pub last_in_step-last_as_tape-requires : goal.last_in_step-last_as_tape-requires
+last_in_step-last_as_tape-requires g r c κs within =
+    let i = c.loop-value.invariant in
+    let k = c.in-Some.field-0-0.now in
+    let step = member_step c.loop-value.value-iterator.repeats c.next.new.self.repeats k (part c.in-Some.value) (members_ahead c.loop-value.value-iterator) (members_ahead c.next.new.self) c.in-Some.ensures.steps in
+    let own = member_choice Last k (part c.in-Some.value) (pairs_ahead c.next.new.self) (members_ahead c.loop-value.value-iterator) (members_ahead c.next.new.self) (sym i.mine ∙ c.in-Some.ensures.steps) step in
+    let below = pair_within i.at.0 (members c.args.left) k (tape_tree c.in-Some.value) (members_ahead c.next.new.self) (i.at.1 ∙ step) in
+    (omega (arith, c.decreases, below), (within, own.0))
+
+pub last_in_step-returns-then-not-last_as_tape : goal.last_in_step-returns-then-not-last_as_tape
+last_in_step-returns-then-not-last_as_tape g r c =
+    let i = c.loop-value.invariant in
+    let t = g.T.KeyText.text_of in
+    let u = tree t in
+    let m = members c.args.left in
+    let es = c.args.right.now.entries in
+    let n = entry_members u es in
+    let k = c.in-Some.field-0-0.now in
+    let l = t c.in-Some-next.field-0-0.now in
+    let x = u c.in-Some-next.other.now in
+    let step = member_step c.loop-value.value-iterator.repeats c.next.new.self.repeats k (part c.in-Some.value) (members_ahead c.loop-value.value-iterator) (members_ahead c.next.new.self) c.in-Some.ensures.steps in
+    let shows = ap (λ s. paired (entry_members u (entries_of t s))) c.in-Some-next.ensures.steps in
+    let alone = ap no_repeats (texts_paired u es) ∙ c.args.right.now.distinct in
+    let here = last_here m n c.requires.keys alone i.at.0 k l (tape_tree c.in-Some.value) x _ _ _ _ i.at.1 step i.at.2 shows in
+    let found = found_here m n c.requires.keys alone i.at.0 k l (tape_tree c.in-Some.value) x _ _ _ _ i.at.1 step i.at.2 shows in (
+      λ f. absurd (cc),
+      λ h. absurd (denied c.last_as_tape.result _ c.last_as_tape.ensures c.if-not-last_as_tape.true (same_last First m n k (tape_tree c.in-Some.value) _ _ step i.at.0 i.at.1 here x found h)),
+    )
+
+pub last_in_step-loop-value-preserved : goal.last_in_step-loop-value-preserved
+last_in_step-loop-value-preserved g r c =
+    let i = c.loop-value.invariant in
+    let t = g.T.KeyText.text_of in
+    let u = tree t in
+    let m = members c.args.left in
+    let es = c.args.right.now.entries in
+    let n = entry_members u es in
+    let k = c.in-Some.field-0-0.now in
+    let l = t c.in-Some-next.field-0-0.now in
+    let x = u c.in-Some-next.other.now in
+    let step = member_step c.loop-value.value-iterator.repeats c.next.new.self.repeats k (part c.in-Some.value) (members_ahead c.loop-value.value-iterator) (members_ahead c.next.new.self) c.in-Some.ensures.steps in
+    let own = member_choice Last k (part c.in-Some.value) (pairs_ahead c.next.new.self) (members_ahead c.loop-value.value-iterator) (members_ahead c.next.new.self) (sym i.mine ∙ c.in-Some.ensures.steps) step in
+    let shows = ap (λ s. paired (entry_members u (entries_of t s))) c.in-Some-next.ensures.steps in
+    let alone = ap no_repeats (texts_paired u es) ∙ c.args.right.now.distinct in
+    let here = last_here m n c.requires.keys alone i.at.0 k l (tape_tree c.in-Some.value) x _ _ _ _ i.at.1 step i.at.2 shows in
+    let found = found_here m n c.requires.keys alone i.at.0 k l (tape_tree c.in-Some.value) x _ _ _ _ i.at.1 step i.at.2 shows in
+    record {
+      at = (i.at.0 + 1, drop_next i.at.0 (paired m) _ _ (i.at.1 ∙ step), drop_next i.at.0 (paired n) _ _ (i.at.2 ∙ shows));
+      counted = counted_same First m n k (tape_tree c.in-Some.value) _ _ step i.at.0 i.at.1 here x found (allowed c.last_as_tape.result _ c.last_as_tape.ensures c.if-not-last_as_tape.false) i.counted;
+      mine = own.1;
+    }
+
+pub last_in_step-returns-in-None-next : goal.last_in_step-returns-in-None-next
+last_in_step-returns-in-None-next g r c =
+    let i = c.loop-value.invariant in
+    let t = g.T.KeyText.text_of in
+    let u = tree t in
+    let k = c.in-Some.field-0-0.now in
+    let step = member_step c.loop-value.value-iterator.repeats c.next.new.self.repeats k (part c.in-Some.value) (members_ahead c.loop-value.value-iterator) (members_ahead c.next.new.self) c.in-Some.ensures.steps in
+    let none = ap (λ s. paired (entry_members u (entries_of t s))) c.in-None-next.ensures.steps.0 in
+    absurd (goes_on (members c.args.left) (entry_members u c.args.right.now.entries) c.requires.keys i.at.0 k (tape_tree c.in-Some.value) _ _ i.at.1 step _ i.at.2 none)
+
+pub last_in_step-returns : goal.last_in_step-returns
+last_in_step-returns g r c =
+    let none = members_end c.loop-value.value-iterator.repeats (members_ahead c.loop-value.value-iterator) c.in-None.ensures.steps.0 in
+    (λ _. same_if_counted First (members c.args.left) (entry_members (tree g.T.KeyText.text_of) c.args.right.now.entries) _ none c.loop-value.invariant.counted (λ k s. ap (is_seen k) c.requires.keys ∙ s), λ h. refl)

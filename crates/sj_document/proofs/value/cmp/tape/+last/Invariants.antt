@@ -1,4 +1,4 @@
-use Rattle.std.proofs.Common.{◌≡◌, ◌≤◌, ◌+◌, ◌*◌, drop, length, map}
+use Rattle.std.proofs.Common.{◌≡◌, ℕ, ◌≤◌, ◌+◌, ◌*◌, drop, length, map}
 use Rattle.sj_text_core.specs.Tree.{depth, items_depth, members_depth, items_from, paired}
 use Rattle.sj_text_core.specs.Same.{SameItems}
 use Rattle.sj_text_core.specs.Repeats.{keep_last, keep_last_items}
@@ -7,6 +7,7 @@ use Rattle.sj_tape.specs.Items.{items, items_ahead, parts_ahead}
 use Rattle.sj_tape.specs.Members.{members, members_ahead, chosen, parts_ahead as pairs_ahead}
 use Rattle.sj_tape.specs.Value.{tree as tape_tree}
 use Rattle.sj_tape.proofs.Counted.{Counted, parts}
+use Rattle.sj_object.specs.Entries.{entries_of}
 use Rattle.sj_object.specs.Members.{entry_members}
 use Rattle.sj_document.specs.Document.{tree}
 use Rattle.sj_document.proofs.value.cmp.tape.+last.Given as goal
@@ -32,11 +33,28 @@ invariant-last_members-loop-key g l =
       mine : pairs_ahead l.key-iterator ≡ chosen Last (members_ahead l.key-iterator);
     }
 
+abbrev pub invariant-last_in_step-loop-value : goal.invariant-last_in_step-loop-value
+invariant-last_in_step-loop-value g l =
+    let u = tree g.T.KeyText.text_of in
+    let m = members l.fn.left in
+    let n = entry_members u l.fn.right.entries in
+    record {
+      at : (i : ℕ) × (drop i (paired m) ≡ members_ahead l.value-iterator) × (drop i (paired n) ≡ paired (entry_members u (entries_of g.T.KeyText.text_of l.others)));
+      counted : Counted First m n (members_ahead l.value-iterator);
+      mine : pairs_ahead l.value-iterator ≡ chosen Last (members_ahead l.value-iterator);
+    }
+
 abbrev pub decreases-last_as_tape : goal.decreases-last_as_tape
-decreases-last_as_tape g l = 2 * depth (tape_tree l.left)
+decreases-last_as_tape g l = 3 * depth (tape_tree l.left)
 
 abbrev pub decreases-last_items : goal.decreases-last_items
-decreases-last_items g l = 2 * items_depth (items l.left) + 1
+decreases-last_items g l = 3 * items_depth (items l.left) + 1
+
+abbrev pub decreases-last_objects : goal.decreases-last_objects
+decreases-last_objects g l = 3 * members_depth (members l.left) + 2
+
+abbrev pub decreases-last_in_step : goal.decreases-last_in_step
+decreases-last_in_step g l = 3 * members_depth (members l.left) + 1
 
 abbrev pub decreases-last_members : goal.decreases-last_members
-decreases-last_members g l = 2 * members_depth (members l.left) + 1
+decreases-last_members g l = 3 * members_depth (members l.left) + 1

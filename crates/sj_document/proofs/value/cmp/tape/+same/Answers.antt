@@ -30,7 +30,7 @@ first_as_tape-returns-in-Some-into_string g r c =
     let s = c.in-Some-into_string.text.now in
     let mine = text_is (tape_tree c.args.left) s c.in-Some-into_string.ensures in
     let other = ap (tree u) c.in-String.is ∙ tree-String u c.in-String.other in
-    rw (mine, other) (same_text s (u c.in-String.other) _ (c.eq-in-Some-into_string.ensures ∙ ap (bytes_eq s) c.text.ensures))
+    rw (mine, other) (same_text s (u c.in-String.other) _ (c.are_same_texts.ensures ∙ ap (bytes_eq s) c.text.ensures))
 
 pub first_as_tape-returns-in-Some-as_array : goal.first_as_tape-returns-in-Some-as_array
 first_as_tape-returns-in-Some-as_array g r c =
@@ -118,13 +118,13 @@ same_members-returns-then-not-first_as_tape g r c =
     let m = members c.args.left in
     let n = entry_members (tree u) c.args.right.now.entries in
     let shows = ap (λ s. paired (entry_members (tree u) (entries_of u s))) c.in-Some-next.ensures.steps in
-    let asked : c.eq.result ≡ bytes_eq c.in-Some.key.now (u c.in-Some-next.name.now) = c.eq.ensures ∙ ap (bytes_eq c.in-Some.key.now) c.text.ensures in
+    let asked : c.are_same_texts.result ≡ bytes_eq c.in-Some.key.now (u c.in-Some-next.name.now) = c.are_same_texts.ensures ∙ ap (bytes_eq c.in-Some.key.now) c.text.ensures in
     let alone = ap no_repeats (texts_paired (tree u) c.args.right.now.entries) ∙ c.args.right.now.distinct in (
       λ f. absurd (cc),
       λ h. absurd (denied c.first_as_tape.result _ c.first_as_tape.ensures c.if-not-first_as_tape.true
           (same_here c.loop-key.place c.in-Some.key.now (tape_tree c.in-Some.value) m n _ (members_ahead c.next.new.self) i.ahead step
-          (u c.in-Some-next.name.now) (tree u c.in-Some-next.other.now) _ _ i.others shows c.eq.result asked c.if-eq.true i.in_step
-          (first_here c.loop-key.place c.in-Some.key.now (u c.in-Some-next.name.now) (tree u c.in-Some-next.other.now) (paired m) (paired n) _ _ c.eq.result i.others shows asked c.if-eq.true i.in_step alone) h)),
+          (u c.in-Some-next.name.now) (tree u c.in-Some-next.other.now) _ _ i.others shows c.are_same_texts.result asked c.if-are_same_texts.true i.in_step
+          (first_here c.loop-key.place c.in-Some.key.now (u c.in-Some-next.name.now) (tree u c.in-Some-next.other.now) (paired m) (paired n) _ _ c.are_same_texts.result i.others shows asked c.if-are_same_texts.true i.in_step alone) h)),
     )
 
 pub same_members-overflow_add-place : goal.same_members-overflow_add-place
@@ -142,14 +142,14 @@ same_members-loop-key-preserved g r c =
     let m = members c.args.left in
     let n = entry_members (tree u) c.args.right.now.entries in
     let shows = ap (λ s. paired (entry_members (tree u) (entries_of u s))) c.in-Some-next.ensures.steps in
-    let asked : c.eq.result ≡ bytes_eq c.in-Some.key.now (u c.in-Some-next.name.now) = c.eq.ensures ∙ ap (bytes_eq c.in-Some.key.now) c.text.ensures in
+    let asked : c.are_same_texts.result ≡ bytes_eq c.in-Some.key.now (u c.in-Some-next.name.now) = c.are_same_texts.ensures ∙ ap (bytes_eq c.in-Some.key.now) c.text.ensures in
     record {
       ahead = drop_next c.loop-key.place (paired m) _ _ (i.ahead ∙ step);
       others = drop_next c.loop-key.place (paired n) _ _ (i.others ∙ shows);
       in_step = texts_further c.loop-key.place c.in-Some.key.now (tape_tree c.in-Some.value) m n _ (members_ahead c.next.new.self) i.ahead step
-          (u c.in-Some-next.name.now) (tree u c.in-Some-next.other.now) _ _ i.others shows c.eq.result asked c.if-eq.true i.in_step;
+          (u c.in-Some-next.name.now) (tree u c.in-Some-next.other.now) _ _ i.others shows c.are_same_texts.result asked c.if-are_same_texts.true i.in_step;
       agree = further_in_step c.loop-key.place c.in-Some.key.now (tape_tree c.in-Some.value) m n _ (members_ahead c.next.new.self) i.ahead step
-          (u c.in-Some-next.name.now) (tree u c.in-Some-next.other.now) _ _ i.others shows c.eq.result asked c.if-eq.true i.in_step
+          (u c.in-Some-next.name.now) (tree u c.in-Some-next.other.now) _ _ i.others shows c.are_same_texts.result asked c.if-are_same_texts.true i.in_step
           (allowed c.first_as_tape.result _ c.first_as_tape.ensures c.if-not-first_as_tape.false) i.agree;
     }
 
