@@ -18,3 +18,5 @@ pub use reply::Reply;
 pub use runs::{RunFault, Why, run};
 pub use sessions::{Form, SessionFault, session, session_repeats};
 pub use sj_commands::{Command, Step, Width};
+pub use sj_document::{BorrowedValue, OwnedValue};
+pub use sj_text_core::{ErrorKind, Repeats, ValueType};
