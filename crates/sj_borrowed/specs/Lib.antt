@@ -5,6 +5,7 @@ pub use Rattle.sj_text_core.specs.Grammar
 pub use Rattle.sj_text_core.specs.Find
 pub use Rattle.sj_text_core.specs.Keep
 pub use Rattle.sj_text_core.specs.Repeats
+pub use Rattle.sj_text_core.specs.Print
 pub use Rattle.sj_text_core.specs.Reads
 pub use Rattle.sj_text_core.specs.Hash
 pub use Rattle.sj_object.specs.Keys

@@ -1,7 +1,9 @@
--- What holds of the lines of an input.
+-- What holds of the lines of an input and of their commands.
 use Rattle.std.specs.Prelude.{◌≡◌, ℕ, List, ◌++◌}
 use Rattle.std.specs.List.{concat}
 use Rattle.sj_commands.specs.Lines.{full_lines, document}
+use Rattle.sj_commands.specs.Commands.{PlainCommand}
+use Rattle.sj_commands.specs.CommandLines.{IsCommandOf}
 
 -- the lines, one behind another, are the input
 abbrev pub LinesJoin : Type 0
@@ -10,3 +12,7 @@ LinesJoin = (b : List ℕ) → concat (full_lines b) ≡ b
 -- the document is the beginning of the input
 abbrev pub DocumentBegins : Type 0
 DocumentBegins = (b : List ℕ) → (rest : List ℕ) × (b ≡ document b ++ rest)
+
+-- a line has exactly one command
+abbrev pub OneCommand : Type 0
+OneCommand = (line : List ℕ) → (c : PlainCommand) × IsCommandOf line c × ((d : PlainCommand) → IsCommandOf line d → d ≡ c)

@@ -1,5 +1,6 @@
 -- How a session's input is cut into a document and command lines.
-use Rattle.std.specs.Prelude.{ℕ, Bool, true, false, List, [], ◌∷◌, ◌++◌, ◌==◌, if◌then◌else◌, codes, map, filter, not, bytes_eq}
+use Rattle.std.specs.Prelude.{ℕ, Bool, List, [], ◌∷◌, ◌++◌, ◌==◌, if◌then◌else◌, codes, map, filter, not, bytes_eq}
+use Rattle.sj_text_core.specs.Places.{is_empty}
 
 -- the bytes with c in front of the first line
 abbrev pub onto_line : ℕ → List (List ℕ) → List (List ℕ)
@@ -36,10 +37,6 @@ after_mark (l ∷ ls) = if is_mark l then ls else after_mark ls
 -- all bytes before the first line `---`; the whole input where there is none
 abbrev pub document : List ℕ → List ℕ
 document b = before_mark (full_lines b)
-
-abbrev pub is_empty : List ℕ → Bool
-is_empty [] = true
-is_empty (c ∷ b) = false
 
 -- the texts of the lines that have one
 abbrev pub line_texts : List (List ℕ) → List (List ℕ)

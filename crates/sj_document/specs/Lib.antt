@@ -15,4 +15,5 @@ pub use Rattle.sj_object.specs.Entries
 pub use Rattle.sj_object.specs.Members
 pub use Rattle.sj_object.specs.Edits
 pub use Rattle.sj_object.specs.Keys
+pub use Rattle.sj_object.specs.Builder
 pub use Rattle.sj_tape.specs.Value

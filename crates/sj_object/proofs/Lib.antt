@@ -9,6 +9,7 @@ pub mod Added
 pub mod Shown
 pub mod Kept
 pub mod Walks
+mod Compared
 mod Strings
 pub mod PileEntries
 pub mod KeptBy

@@ -1,5 +1,5 @@
--- What holds of the words of maps, as members of an object.
-use Rattle.std.specs.Prelude.{◌≡◌, ℕ, List, option_map}
+-- What holds of the words of maps.
+use Rattle.std.specs.Prelude.{◌≡◌, ◌≤◌, ℕ, List, option_map}
 use Rattle.sj_text_core.specs.Tree.{Tree, obj}
 use Rattle.sj_text_core.specs.Find.{find_member}
 use Rattle.sj_text_core.specs.Edits as members
@@ -8,6 +8,7 @@ use Rattle.sj_object.specs.Entries.{Entry}
 use Rattle.sj_object.specs.HashMap.{Contents}
 use Rattle.sj_object.specs.Members.{entry_members}
 use Rattle.sj_object.specs.Edits.{lookup, put, cut}
+use Rattle.sj_object.specs.Steps.{chain, walk}
 
 -- a text is found among entries where it is found among their members
 abbrev pub LooksUpMembers : (K V : Type 0) → Type 0
@@ -24,3 +25,7 @@ CutsMembers K V = (tree : V → Tree) (k : List ℕ) (es : List (Entry K V)) →
 -- the object of a map whose values are kept is kept
 abbrev pub KeepsObjects : (K V S : Type 0) → Type 0
 KeepsObjects K V S = (tree : V → Tree) → ((v : V) → IsKept (tree v)) → (m : Contents K V S) → IsKept (obj (entry_members tree m.entries))
+
+-- a lookup in buckets compares at most the entries of the text's chain
+abbrev pub WalksChain : (K V : Type 0) → Type 0
+WalksChain K V = (h : List ℕ → ℕ) (n : ℕ) (k : List ℕ) (es : List (Entry K V)) → walk h n k es ≤ chain h n k es

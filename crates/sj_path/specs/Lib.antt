@@ -6,3 +6,5 @@ pub use Rattle.sj_pointer.specs.Tokens
 pub use Rattle.sj_pointer.specs.Spelled
 pub use Rattle.sj_pointer.specs.Pointed
 pub use Rattle.sj_pointer.specs.Laws
+pub use Rattle.sj_document.specs.Document
+pub use Rattle.sj_lazy.specs.Value

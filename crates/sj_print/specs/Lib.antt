@@ -4,3 +4,7 @@ pub mod Outputs
 pub mod Generators
 pub mod Printed
 pub mod Runs
+pub use Rattle.sj_text_core.specs.Tree
+pub use Rattle.sj_text_core.specs.Grammar
+pub use Rattle.sj_text_core.specs.Print
+pub use Rattle.sj_text_core.specs.Scalars

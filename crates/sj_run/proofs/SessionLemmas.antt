@@ -9,6 +9,7 @@ use borrow.Rule.Slice.PartMut.{put_mid}
 use Rattle.std.proofs.lemmas.List.{take_all, take-take, length-drop, length-take-le, drop-drop}
 use Rattle.sj_text_core.specs.Tree.{Tree}
 use Rattle.sj_text_core.specs.Grammar.{Spells}
+use Rattle.sj_text_core.specs.Places.{is_empty}
 use Rattle.sj_commands.specs.Commands.{PlainCommand}
 use Rattle.sj_commands.specs.CommandLines.{AreCommandsOf}
 use Rattle.sj_text_core.specs.Repeats.{keep_by}
@@ -28,7 +29,7 @@ use Rattle.sj_run.specs.declared.runs.Why.TheVariants as why
 use Rattle.sj_text_core.specs.declared.error.ErrorKind.{ErrorKind}
 use Rattle.sj_text_core.specs.declared.error.ErrorKind.TheVariants.{InvalidUtf8, Syntax, LoneSurrogate, Float, NumberTooLarge, TooDeep, OutOfMemory}
 use Rattle.std.proofs.Math.Seq.{take-append_seam}
-use Rattle.sj_commands.specs.Lines.{document, lines, after_mark, full_lines, line_text, line_texts, is_empty}
+use Rattle.sj_commands.specs.Lines.{document, lines, after_mark, full_lines, line_text, line_texts}
 use Rattle.sj_commands.proofs.LineLemmas.{LineAt}
 
 -- lines answered in turn

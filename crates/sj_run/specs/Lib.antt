@@ -10,6 +10,10 @@ pub mod Asked
 pub mod Found
 pub mod Changed
 pub mod Answered
+pub use Rattle.sj_text_core.specs.Tree
+pub use Rattle.sj_text_core.specs.Grammar
+pub use Rattle.sj_document.specs.Document
+pub use Rattle.sj_lazy.specs.Value
 pub use Rattle.sj_commands.specs.Commands
 pub use Rattle.sj_commands.specs.Meant as CommandMeant
 pub use Rattle.sj_commands.specs.Lines

@@ -2,7 +2,7 @@
 
 ghost use Rattle.sj_run.specs.Laws.{RepliesAreMany, RunsJoin};
 
-pub use sj_commands::laws::{document_begins, lines_join};
+pub use sj_commands::laws::{document_begins, lines_join, one_command};
 
 /// Each command gives one reply.
 pub fn replies_are_many()

@@ -23,8 +23,10 @@ pub use Rattle.sj_text_core.specs.Same
 pub use Rattle.sj_text_core.specs.Agree
 pub use Rattle.sj_text_core.specs.Print
 pub use Rattle.sj_print.specs.Generators
+pub use Rattle.sj_print.specs.Layouts
 pub use Rattle.sj_text_core.specs.Nodes
 pub use Rattle.sj_text_core.specs.Scalars
+pub use Rattle.sj_text_core.specs.ScalarValues
 pub use Rattle.sj_text_core.specs.Reads
 pub use Rattle.sj_text_core.specs.Nulls
 pub use Rattle.sj_text_core.specs.Code

@@ -42,8 +42,8 @@ pub use sj_print::{
 };
 pub use sj_text_core::{
     AccessError, BadTape, ErrorKind, ExtendedValueType, Meaning, Refused, Repeats, SameAs,
-    SameWith, StaticNode, Steps, TryMake, TryTypeError, TypedValue, ValueAsScalar, ValueType,
-    Writable, WriteError,
+    SameWith, Scalar, StaticNode, Steps, TryMake, TryTypeError, TypedValue, ValueAsScalar,
+    ValueType, Writable, WriteError, are_same_bytes,
 };
 pub use tape::Tape;
 pub use value::Value;

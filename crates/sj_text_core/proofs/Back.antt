@@ -1,11 +1,11 @@
 -- What is read of a print.
-use Rattle.std.proofs.Common.{◌≡◌, ◌≢◌, ◌↔◌, ◌≤◌, ℕ, Bool, true, false, IsTrue, IsUtf8, IsErrOf, Err, List, if◌then◌else◌, bytes_eq, refl, sym, ap, ap₂, ◌∙◌, subst, true≢false}
-use Rattle.sj_text_core.specs.Tree.{IsWithin, depth, Tree, null, boolean, int, text, list, obj, Items, no_items, item, Members, no_members, member}
+use Rattle.std.proofs.Common.{◌≡◌, ◌≢◌, ◌↔◌, ◌⊎◌, ◌≤◌, ℕ, Bool, true, false, IsTrue, IsUtf8, IsErrOf, Err, List, if◌then◌else◌, bytes_eq, refl, sym, ap, ap₂, ◌∙◌, subst, true≢false}
+use Rattle.sj_text_core.specs.Tree.{IsProper, IsWithin, depth, Tree, null, boolean, int, text, list, obj, Items, no_items, item, Members, no_members, member}
 use Rattle.sj_text_core.specs.Edits.{put}
 use Rattle.sj_text_core.specs.Grammar.{Spells, IsReadable}
 use Rattle.sj_text_core.specs.Keep.{keep}
-use Rattle.sj_text_core.specs.Print.{recarry, recarry_items, recarry_members}
-use Rattle.sj_text_core.specs.Repeats.{keep_last, keep_last_items, keep_last_values, put_all, by_first, SameBy}
+use Rattle.sj_text_core.specs.Print.{compact, pretty, recarry, recarry_items, recarry_members}
+use Rattle.sj_text_core.specs.Repeats.{keep_by, keep_last, keep_last_items, keep_last_values, put_all, by_first, SameBy}
 use Rattle.sj_text_core.specs.Same.{Same}
 use Rattle.sj_text_core.specs.declared.repeats.Repeats.{Repeats}
 use Rattle.sj_text_core.specs.declared.repeats.Repeats.TheVariants.{First, Last}
@@ -13,6 +13,7 @@ use Rattle.sj_text_core.specs.declared.error.ErrorKind.{ErrorKind}
 use Rattle.sj_text_core.specs.declared.error.ErrorKind.TheVariants.{InvalidUtf8, OutOfMemory}
 use Rattle.sj_text_core.proofs.Equality.{same-trans}
 use Rattle.sj_text_core.proofs.Finds.{same-keep, same-recarry, depth-recarry, within-recarry}
+use Rattle.sj_text_core.proofs.Printed.{spelled_by}
 use Rattle.sj_text_core.proofs.parse.One.{one_tree}
 use Rattle.sj_text_core.proofs.Unread.{unreadable}
 
@@ -50,14 +51,28 @@ by_first-recarry : (c : Repeats) (t : Tree) → by_first c (recarry t) ≡ recar
 by_first-recarry First t = refl
 by_first-recarry Last t = keep_last-recarry t
 
+-- the carriers of prints change no meaning by either choice
+same_by-recarry : (c : Repeats) (t : Tree) → SameBy c c t (recarry t)
+same_by-recarry c t = subst (Same (by_first c t)) (sym (by_first-recarry c t)) (same-recarry (by_first c t))
+
+-- nor does keeping then
+same_by-kept : (c : Repeats) (t : Tree) → SameBy c First t (keep_by c (recarry t))
+same_by-kept First t = same-trans t (recarry t) (keep (recarry t)) (same-recarry t) (same-keep (recarry t))
+same_by-kept Last t = same_by-recarry Last t
+
+-- what is printed reads back as a tree that is the same
+pub reads-back : (c : Repeats) (t : Tree) (b : List ℕ) → IsProper t → IsWithin t → (b ≡ compact t) ⊎ (b ≡ pretty 0 t)
+    → Spells b (recarry t) × IsWithin (recarry t) × SameBy c c t (recarry t) × SameBy c First t (keep_by c (recarry t))
+reads-back c t b h w e = (spelled_by t b h e, within-recarry t w, same_by-recarry c t, same_by-kept c t)
+
 module _ (t : Tree) (b : List ℕ) (s : Spells b (recarry t)) where
   -- what is read is the tree with the carriers of the print, so it is the same, each by one choice
   pub same_by_back : (c : Repeats) (u : Tree) → Spells b u → SameBy c c t u
-  same_by_back c u r = subst (SameBy c c t) (one_tree b (recarry t) u s r) (subst (Same (by_first c t)) (sym (by_first-recarry c t)) (same-recarry (by_first c t)))
+  same_by_back c u r = subst (SameBy c c t) (one_tree b (recarry t) u s r) (same_by-recarry c t)
 
-  -- and so it is, kept
-  pub same_kept_back : (u : Tree) → Spells b u → Same t (keep u)
-  same_kept_back u r = subst (λ v. Same t (keep v)) (one_tree b (recarry t) u s r) (same-trans t (recarry t) (keep (recarry t)) (same-recarry t) (same-keep (recarry t)))
+  -- and so it is, kept by that choice
+  pub same_kept_back : (c : Repeats) (u : Tree) → Spells b u → SameBy c First t (keep_by c u)
+  same_kept_back c u r = subst (λ v. SameBy c First t (keep_by c v)) (one_tree b (recarry t) u s r) (same_by-kept c t)
 
   -- only a tree within the limit is read back
   pub within_back : (u : Tree) → Spells b u → IsWithin u → IsWithin t

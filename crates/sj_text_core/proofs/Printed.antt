@@ -10,13 +10,9 @@ use Rattle.std.proofs.lemmas.Bool.Decides.{nat_tests}
 use Rattle.std.proofs.lemmas.Str.{encode_ascii, inside_one}
 use lib.Utf8.{scalar, scalars, encode, encodes, low_scalar}
 use lib.Dec.{leb→le}
-use Rattle.sj_text_core.specs.Tree.{IsWithin, Carrier, i64, u64, i128, u128, Carries, Tree, null, boolean, int, text, list, obj, Items, no_items, item, Members, no_members, member, IsProper, AreProper, HasProper}
+use Rattle.sj_text_core.specs.Tree.{Carrier, i64, u64, i128, u128, Carries, Tree, null, boolean, int, text, list, obj, Items, no_items, item, Members, no_members, member, IsProper, AreProper, HasProper}
 use Rattle.sj_text_core.specs.Grammar.{IsBlank, IsDigit, IsNumeral, IsNumber, value_of, number_of, short_escape, IsItem, AreItems, IsString, Spaced, Spelling, SpellsItems, MoreItems, SpellsMembers, MoreMembers, Spells}
 use Rattle.sj_text_core.specs.Print.{hex_digit, escaped, quoted, compact, compact_items, compact_members, new_line, pretty, pretty_items, pretty_members, printed_carrier, recarry, recarry_items, recarry_members}
-use Rattle.sj_text_core.specs.Keep.{keep}
-use Rattle.sj_text_core.specs.Same.{Same}
-use Rattle.sj_text_core.proofs.Equality.{same-trans}
-use Rattle.sj_text_core.proofs.Finds.{same-keep, same-recarry, within-recarry}
 use Rattle.sj_text_core.proofs.Escapes.{escaped_plain, escaped-append, escaped_high}
 
 -- decimals
@@ -329,10 +325,6 @@ mutual
 pub pretty-spells : (t : Tree) (level : ℕ) → IsProper t → Spells (pretty level t) (recarry t)
 pretty-spells t level h = bare (λ w. Spelling (recarry t) w) (pretty level t) (pretty_spelled t h level)
 
-spelled_by : (t : Tree) (b : List ℕ) → IsProper t → (b ≡ compact t) ⊎ (b ≡ pretty 0 t) → Spells b (recarry t)
+-- either text
+pub spelled_by : (t : Tree) (b : List ℕ) → IsProper t → (b ≡ compact t) ⊎ (b ≡ pretty 0 t) → Spells b (recarry t)
 spelled_by t b h e = ⊎_elim (λ e. subst (λ b. Spells b (recarry t)) (sym e) (compact-spells t h)) (λ e. subst (λ b. Spells b (recarry t)) (sym e) (pretty-spells t 0 h)) e
-
--- what is printed reads back as a tree that is the same
-pub reads-back : (t : Tree) (b : List ℕ) → IsProper t → IsWithin t → (b ≡ compact t) ⊎ (b ≡ pretty 0 t) → Spells b (recarry t) × IsWithin (recarry t) × Same t (recarry t) × Same t (keep (recarry t))
-reads-back t b h w e =
-    (spelled_by t b h e, within-recarry t w, same-recarry t, same-trans t (recarry t) (keep (recarry t)) (same-recarry t) (same-keep (recarry t)))

@@ -4,8 +4,9 @@ use Rattle.sj_text_core.specs.Tree.{Tree, IsProper, IsWithin}
 use Rattle.sj_text_core.specs.Grammar.{Spells}
 use Rattle.sj_text_core.specs.Find.{find}
 use Rattle.sj_text_core.specs.Keep.{keep, IsSingle}
-use Rattle.sj_text_core.specs.Repeats.{find_by, keep_by}
+use Rattle.sj_text_core.specs.Repeats.{find_by, keep_by, SameBy}
 use Rattle.sj_text_core.specs.declared.repeats.Repeats.{Repeats}
+use Rattle.sj_text_core.specs.declared.repeats.Repeats.TheVariants.{First}
 use Rattle.sj_text_core.specs.Paths.{Step, tree_at}
 use Rattle.sj_text_core.specs.Print.{compact, pretty, recarry}
 use Rattle.sj_text_core.specs.Same.{Same}
@@ -95,7 +96,7 @@ PrintedAlike = (t u : Tree) → recarry t ≡ recarry u → (compact t ≡ compa
 abbrev pub PrintedApart : Type 0
 PrintedApart = (t u : Tree) → IsProper t → IsProper u → (compact t ≡ compact u → recarry t ≡ recarry u) × ((level : ℕ) → pretty level t ≡ pretty level u → recarry t ≡ recarry u)
 
--- both texts of a proper tree within the limit are read back to a tree that is the same, kept or not (section 9)
+-- both texts of a proper tree within the limit are read back to a tree that is the same by either choice, and so is what is kept by that choice, where the first then counts (section 9)
 abbrev pub ReadsBack : Type 0
-ReadsBack = (t : Tree) (b : List ℕ) → IsProper t → IsWithin t → (b ≡ compact t) ⊎ (b ≡ pretty 0 t)
-    → Spells b (recarry t) × IsWithin (recarry t) × Same t (recarry t) × Same t (keep (recarry t))
+ReadsBack = (c : Repeats) (t : Tree) (b : List ℕ) → IsProper t → IsWithin t → (b ≡ compact t) ⊎ (b ≡ pretty 0 t)
+    → Spells b (recarry t) × IsWithin (recarry t) × SameBy c c t (recarry t) × SameBy c First t (keep_by c (recarry t))

@@ -109,7 +109,8 @@ pub fn printed_apart()
     ensures { PrintedApart }
 {}
 
-/// Both texts of a proper tree within the limit read back as a tree that is the same.
+/// Both texts of a proper tree within the limit read back as a tree that is the same, by either
+/// choice, and kept by that choice too.
 pub fn reads_back()
     ensures { ReadsBack }
 {}
