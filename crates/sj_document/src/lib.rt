@@ -5,8 +5,8 @@ mod value;
 
 pub use sj_object::{Builder, HashMap, KeyText, Made, ObjectHasher};
 pub use sj_text_core::{
-    AccessError, ExtendedValueType, Refused, Repeats, SameAs, SameWith, StaticNode, TryMake,
-    TryTypeError, TypedValue, ValueAsScalar, ValueType, Writable, WriteError,
+    AccessError, ExtendedValueType, Refused, SameAs, StaticNode, TryMake, TryTypeError, TypedValue,
+    ValueAsScalar, ValueType, Writable, WriteError,
 };
 pub use value::{
     BorrowedValue, CopyText, Document, Object, OwnedValue, borrowed_from_tape, owned_from_tape,

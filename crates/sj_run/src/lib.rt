@@ -19,4 +19,4 @@ pub use runs::{RunFault, Why, run};
 pub use sessions::{Form, SessionFault, session, session_repeats};
 pub use sj_commands::{Command, Step, Width};
 pub use sj_document::{BorrowedValue, OwnedValue};
-pub use sj_text_core::{ErrorKind, Repeats, ValueType};
+pub use sj_text_core::{ErrorKind, ValueType};
