@@ -4,6 +4,7 @@ mod edits;
 mod numbers;
 mod parts;
 mod prints;
+mod repeats;
 mod scalars;
 
 /// Documents of each kind.
