@@ -161,15 +161,3 @@ fn repeats(rt: HostRuntime) -> Result<(), Fail> {
     assert_eq!(rt; told, [true; 2]);
     Ok(())
 }
-
-#[test]
-fn pairs_are_put_in_turn(rt: HostRuntime) -> Result<(), Fail> {
-    let alloc = rt.alloc();
-    let mut pairs = Vec::new(alloc);
-    for (key, number) in [("a", 1_u8), ("b", 2), ("a", 3)] {
-        pairs.push((CowStr::Borrowed(key), Value::from(number)))?;
-    }
-    let value = Value::try_from_pairs(alloc, pairs.into_iter())?;
-    assert_eq!(rt; value.encode(alloc)?.as_str(), "{\"a\":3,\"b\":2}");
-    Ok(())
-}

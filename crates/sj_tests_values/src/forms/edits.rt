@@ -82,7 +82,7 @@ fn objects(rt: HostRuntime) -> Result<(), Fail> {
     Ok(())
 }
 
-fn array_answers<K: KeyMade + Debug>(alloc: Global) -> Result<[bool; 4], Fail> {
+fn array_answers<K: KeyMade + Debug>(alloc: Global) -> Result<[bool; 6], Fail> {
     let mut value: Document<K> = Document::array_with_capacity(alloc, 2)?;
     pushes(&mut value, 1)?;
     pushes(&mut value, 2)?;
@@ -90,9 +90,17 @@ fn array_answers<K: KeyMade + Debug>(alloc: Global) -> Result<[bool; 4], Fail> {
     if is_there {
         value[0] = Document::from(0_u8);
     }
-    *value.get_idx_mut(1).ok_or("no such item")? = Document::from(1_u8);
+    let is_next = value.get_idx(1).is_some();
+    if is_next {
+        value[1] = Document::from(1_u8);
+    }
+    let is_lent = value
+        .get_idx_mut(1)
+        .is_some_and(|item| *item == Document::from(1_u8));
     Ok([
         is_there,
+        is_next,
+        is_lent,
         pops(&mut value, Some(1)),
         pops(&mut value, Some(0)),
         pops(&mut value, None),
@@ -101,8 +109,8 @@ fn array_answers<K: KeyMade + Debug>(alloc: Global) -> Result<[bool; 4], Fail> {
 
 #[test]
 fn arrays(rt: HostRuntime) -> Result<(), Fail> {
-    assert_eq!(rt; array_answers::<String>(rt.alloc())?, [true; 4]);
-    assert_eq!(rt; array_answers::<CowStr<'static>>(rt.alloc())?, [true; 4]);
+    assert_eq!(rt; array_answers::<String>(rt.alloc())?, [true; 6]);
+    assert_eq!(rt; array_answers::<CowStr<'static>>(rt.alloc())?, [true; 6]);
     Ok(())
 }
 
@@ -151,23 +159,37 @@ fn outer<'k, K: KeyOf<'k> + Debug>(alloc: Global) -> Result<Document<K>, Fail> {
     Ok(value)
 }
 
-/// Its print with `{"other":..}` inside.
-fn nested<'k, K: KeyOf<'k> + Debug>(alloc: Global, text: Document<K>) -> Result<String, Fail> {
+/// Whether the first item under `key` has the member `other`.
+fn has_other<K: KeyMade>(value: &Document<K>) -> bool {
+    if !value.contains_key("key") {
+        return false;
+    }
+    let items = &value["key"];
+    items.get_idx(0).is_some() && items[0].get_str("other") == Some("value")
+}
+
+/// Its print with `{"other":..}` inside, put there and found by indexing.
+fn nested<'k, K: KeyOf<'k> + Debug>(
+    alloc: Global,
+    text: Document<K>,
+) -> Result<(bool, String), Fail> {
     let mut value: Document<K> = outer(alloc)?;
-    let items = value.get_mut("key").ok_or("no such key")?;
-    let item = items.get_idx_mut(0).ok_or("no such item")?;
-    item.insert(K::of(alloc, "other")?, text)?;
-    Ok(value.encode(alloc)?)
+    value.get("key").ok_or("no such key")?;
+    let items = &mut value["key"];
+    items.get_idx(0).ok_or("no such item")?;
+    items[0].insert(K::of(alloc, "other")?, text)?;
+    Ok((has_other(&value), value.encode(alloc)?))
 }
 
 #[test]
 fn nested_writes(rt: HostRuntime) -> Result<(), Fail> {
     let alloc = rt.alloc();
-    let prints = [
+    let told = [
         nested::<String>(alloc, Document::try_make(alloc, "value")?)?,
         nested::<CowStr<'static>>(alloc, Document::from("value"))?,
     ];
-    for print in prints {
+    for (is_found, print) in told {
+        assert!(rt; is_found);
         assert_eq!(rt; print.as_str(), "{\"key\":[{\"other\":\"value\"}]}");
     }
     Ok(())

@@ -56,14 +56,19 @@ fn signed<K: KeyMade>() -> [bool; 10] {
 }
 
 /// The least and the greatest number of the unsigned ones, and one that is no `u8`.
-fn unsigned<K: KeyMade>() -> [bool; 8] {
+fn unsigned<K: KeyMade>() -> [bool; 13] {
     [
         lies::<K>(Document::from(u8::MIN), ValueType::U64, 5, 5),
         lies::<K>(Document::from(u8::MAX), ValueType::U64, 4, 5),
+        lies::<K>(Document::from(u16::MIN), ValueType::U64, 5, 5),
         lies::<K>(Document::from(u16::MAX), ValueType::U64, 3, 4),
+        lies::<K>(Document::from(u32::MIN), ValueType::U64, 5, 5),
         lies::<K>(Document::from(u32::MAX), ValueType::U64, 2, 3),
+        lies::<K>(Document::from(u64::MIN), ValueType::U64, 5, 5),
         lies::<K>(Document::from(u64::MAX), ValueType::U64, 1, 2),
+        lies::<K>(Document::from(usize::MIN), ValueType::U64, 5, 5),
         lies::<K>(Document::from(usize::MAX), ValueType::U64, 1, 2),
+        lies::<K>(Document::from(u128::MIN), ValueType::U128, 5, 5),
         lies::<K>(Document::from(u128::MAX), ValueType::U128, 0, 1),
         Document::<K>::from(256_u16).as_u8().is_none(),
     ]
@@ -73,5 +78,5 @@ fn unsigned<K: KeyMade>() -> [bool; 8] {
 fn numbers(rt: HostRuntime) {
     let owned = (signed::<String>(), unsigned::<String>());
     let borrowed = (signed::<CowStr<'static>>(), unsigned::<CowStr<'static>>());
-    assert_eq!(rt; [owned, borrowed], [([true; 10], [true; 8]); 2]);
+    assert_eq!(rt; [owned, borrowed], [([true; 10], [true; 13]); 2]);
 }

@@ -88,6 +88,12 @@ const SPACES: &str = " { \"k\" : null } ";
 
 const LINES: &str = "{\"a\":[1,{}]}";
 
+/// A text with a value of each variant, and what `Debug` shows of its document.
+const VARIANTS: (&str, &str) = (
+    r#"{"a":[null,-1,1,"q\"k"]}"#,
+    r#"Object({"a": Array([Static(Null), Static(I64(-1)), Static(U64(1)), String("q\"k")])})"#,
+);
+
 const ESCAPES: &str = "{\"q\\\"k\":\"a\\/b\\u0041\"}";
 
 /// Whether the text with escapes is printed, displayed and written without those that it needs not.
@@ -120,6 +126,18 @@ fn spaces_are_not_printed(rt: HostRuntime) -> Result<(), Fail> {
         is_shown(alloc, borrowed::parsed(&mut bytes)?, print, print)?,
     ];
     assert_eq!(rt; told, [true; 2]);
+    Ok(())
+}
+
+#[test]
+fn variants_are_shown(rt: HostRuntime) -> Result<(), Fail> {
+    let alloc = rt.alloc();
+    let (text, shown) = VARIANTS;
+    let mut bytes = text.as_bytes().to_vec(alloc)?;
+    let owned = owned::parsed(alloc, text)?;
+    let borrowed = borrowed::parsed(&mut bytes)?;
+    assert_eq!(rt; format!(in alloc; "{owned:?}")?.as_str(), shown);
+    assert_eq!(rt; format!(in alloc; "{borrowed:?}")?.as_str(), shown);
     Ok(())
 }
 

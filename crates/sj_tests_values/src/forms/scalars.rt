@@ -5,6 +5,7 @@ use sj_document::Document;
 use sj_object::KeyMade;
 use sj_text_core::{SameAs, TryMake, TypedValue, ValueAsScalar};
 use std::borrow::CowStr;
+use std::collections::HashMap;
 use std::test::Fail;
 
 /// Whether it is a truth value, a null, a text, an array, an object.
@@ -74,7 +75,7 @@ where
     value.same_as(&other)
 }
 
-fn sameness<K: KeyMade>() -> [bool; 6] {
+fn sameness<K: KeyMade>() -> [bool; 7] {
     let nothing: Option<u32> = None;
     [
         Document::<K>::default() == Document::null(),
@@ -82,14 +83,33 @@ fn sameness<K: KeyMade>() -> [bool; 6] {
         same::<K, _>(Document::from(Some(42_u32)), 42_u32),
         same::<K, _>(Document::from(()), ()),
         same::<K, _>(Document::from(false), false),
+        same::<K, _>(Document::from(true), true),
         same::<K, _>(Document::from(-3_i8), -3_i128),
+    ]
+}
+
+/// Whether documents of a number of each type are the same as that number.
+fn numbers<K: KeyMade>() -> [bool; 11] {
+    [
+        same::<K, _>(Document::from(-3_i8), -3_i8),
+        same::<K, _>(Document::from(i16::MIN), i16::MIN),
+        same::<K, _>(Document::from(i32::MIN), i32::MIN),
+        same::<K, _>(Document::from(i64::MIN), i64::MIN),
+        same::<K, _>(Document::from(i128::MIN), i128::MIN),
+        same::<K, _>(Document::from(3_u8), 3_u8),
+        same::<K, _>(Document::from(u16::MAX), u16::MAX),
+        same::<K, _>(Document::from(u32::MAX), u32::MAX),
+        same::<K, _>(Document::from(u64::MAX), u64::MAX),
+        same::<K, _>(Document::from(u128::MAX), u128::MAX),
+        same::<K, _>(Document::from(usize::MAX), usize::MAX),
     ]
 }
 
 #[test]
 fn scalars(rt: HostRuntime) {
-    assert_eq!(rt; sameness::<String>(), [true; 6]);
-    assert_eq!(rt; sameness::<CowStr<'static>>(), [true; 6]);
+    let owned = (sameness::<String>(), numbers::<String>());
+    let borrowed = (sameness::<CowStr<'static>>(), numbers::<CowStr<'static>>());
+    assert_eq!(rt; [owned, borrowed], [([true; 7], [true; 11]); 2]);
 }
 
 #[test]
@@ -122,15 +142,28 @@ fn borrowed_texts(rt: HostRuntime) -> Result<(), Fail> {
     Ok(())
 }
 
-#[test]
-fn slices(rt: HostRuntime) -> Result<(), Fail> {
-    let alloc = rt.alloc();
-    let text = "[\"a\",\"b\"]";
-    let mut bytes = text.as_bytes().to_vec(alloc)?;
-    let owned = owned::parsed(alloc, text)?;
-    let borrowed = borrowed::parsed(&mut bytes)?;
+/// Whether the member `list` is `["a","b"]`, and `map` that map.
+fn has_slice_and_map<K: KeyMade>(value: &Document<K>, map: &HashMap<&str, i64>) -> [bool; 2] {
     let pair: [&str; 2] = ["a", "b"];
-    let told = [owned.same_as(&&pair[..]), borrowed.same_as(&&pair[..])];
-    assert_eq!(rt; told, [true; 2]);
+    [
+        value
+            .get("list")
+            .is_some_and(|list| list.same_as(&&pair[..])),
+        value.get("map").is_some_and(|found| found.same_as(map)),
+    ]
+}
+
+#[test]
+fn slices_and_maps(rt: HostRuntime) -> Result<(), Fail> {
+    let alloc = rt.alloc();
+    let text = "{\"list\":[\"a\",\"b\"],\"map\":{\"a\":1}}";
+    let mut bytes = text.as_bytes().to_vec(alloc)?;
+    let mut map = HashMap::new(alloc);
+    map.insert("a", 1)?;
+    let told = [
+        has_slice_and_map(&owned::parsed(alloc, text)?, &map),
+        has_slice_and_map(&borrowed::parsed(&mut bytes)?, &map),
+    ];
+    assert_eq!(rt; told, [[true; 2]; 2]);
     Ok(())
 }

@@ -1,6 +1,7 @@
 use super::{owned, parsed};
 use crate::forms::DOCUMENTS;
-use sj_document::BorrowedValue;
+use sj_document::{BorrowedValue, Document};
+use sj_object::KeyMade;
 use sj_owned::*;
 use std::alloc::Global;
 use std::collections;
@@ -36,16 +37,23 @@ fn owned_and_borrowed_are_made_of_each_other(rt: HostRuntime) -> Result<(), Fail
     Ok(())
 }
 
+/// The kinds of the first two items.
+fn carriers<K: KeyMade>(pair: &Document<K>) -> [Option<ValueType>; 2] {
+    [
+        pair.get_idx(0).map(|item| item.value_type()),
+        pair.get_idx(1).map(|item| item.value_type()),
+    ]
+}
+
 #[test]
 fn carriers_are_kept(rt: HostRuntime) -> Result<(), Fail> {
     let alloc = rt.alloc();
-    let pair = BorrowedValue::try_make(alloc, parsed(alloc, "[-5,5]")?)?;
-    let back = Value::try_make(alloc, pair)?;
-    let carriers = [
-        back.get_idx(0).map(|item| item.value_type()),
-        back.get_idx(1).map(|item| item.value_type()),
-    ];
-    assert_eq!(rt; carriers, [Some(ValueType::I64), Some(ValueType::U64)]);
+    let mut bytes = *b"[-5,5]";
+    let before = sj_borrowed::to_value(alloc, &mut bytes)?;
+    let owned = Value::try_make(alloc, before.clone()?)?;
+    let back = BorrowedValue::try_make(alloc, owned.clone()?)?;
+    let told = [carriers(&before), carriers(&owned), carriers(&back)];
+    assert_eq!(rt; told, [[Some(ValueType::I64), Some(ValueType::U64)]; 3]);
     Ok(())
 }
 
@@ -54,28 +62,6 @@ fn encodings_read_back(rt: HostRuntime) -> Result<(), Fail> {
     for text in DOCUMENTS {
         assert_eq!(rt; reads_back(rt.alloc(), text)?, [true; 2], "{text}");
     }
-    Ok(())
-}
-
-#[test]
-fn pairs_are_put_in_turn(rt: HostRuntime) -> Result<(), Fail> {
-    let alloc = rt.alloc();
-    let mut pairs = Vec::new(alloc);
-    for (key, number) in [("a", 1_u8), ("b", 2), ("a", 3)] {
-        pairs.push((owned(alloc, key)?, Value::from(number)))?;
-    }
-    let value = Value::try_from_pairs(alloc, pairs.into_iter())?;
-    assert_eq!(rt; value.encode(alloc)?.as_str(), "{\"a\":3,\"b\":2}");
-    Ok(())
-}
-
-#[test]
-fn items_are_put_in_turn(rt: HostRuntime) -> Result<(), Fail> {
-    let alloc = rt.alloc();
-    let mut items = Vec::new(alloc);
-    items.push(Value::from(true))?;
-    let value = Value::try_from_items(alloc, items.into_iter())?;
-    assert_eq!(rt; value.encode(alloc)?.as_str(), "[true]");
     Ok(())
 }
 
