@@ -1,4 +1,11 @@
 //! Document values: one generic type for values that own their texts and values that borrow them.
+//!
+//! ```
+//! let mut value = OwnedValue::object(alloc)?;
+//! value.insert(String::from_str(alloc, "n")?, OwnedValue::from(1_u8))?; // None
+//! value.get_u8("n"); // Some(1)
+//! value.push(OwnedValue::null()); // refused as no array; the null is handed back
+//! ```
 #![tactic(auto)]
 
 mod value;

@@ -1,4 +1,12 @@
 //! Ordered maps from texts, and the keys and hashers that they take.
+//!
+//! ```
+//! let mut map = HashMap::with_capacity_and_hasher(alloc, 0, ObjectHasher::default())?;
+//! map.insert(String::from_str(alloc, "a")?, 1)?; // None
+//! map.insert(String::from_str(alloc, "b")?, 2)?; // None
+//! map.insert(String::from_str(alloc, "a")?, 3)?; // Some(1): the key keeps its place
+//! map.remove("a"); // Some(3), and `b` is the first
+//! ```
 #![tactic(auto)]
 
 mod build;

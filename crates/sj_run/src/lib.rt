@@ -1,5 +1,12 @@
 //! Commands at documents, and sessions of them over bytes. Whatever holds a document, the replies
 //! are those that the same commands get on one plain tree.
+//!
+//! ```
+//! // the input: {"a":1}, a line ---, and the lines ["insert",[],"b",[true]] and ["encode",[]]
+//! let mut output = Vec::new(alloc);
+//! session(alloc, Form::Owned, Way::ByText, input.as_mut_slice(), &mut output)?;
+//! // the output: none, and on the next line {"a":1,"b":[true]}
+//! ```
 #![tactic(auto)]
 
 mod asked;

@@ -1,4 +1,11 @@
 //! Scalars, kinds and faults, and the trees that documents mean.
+//!
+//! ```
+//! let number = StaticNode::U64(300);
+//! number.as_u16(); // Some(300)
+//! number.as_u8(); // None: 300 is none
+//! number == StaticNode::I64(300); // true: numbers are compared by value
+//! ```
 #![tactic(auto)]
 
 mod bytes;
