@@ -33,13 +33,17 @@ fn nested_arrays(alloc: Global) -> Result<Tape<'static>, Fail> {
 }
 
 /// Whether the array has these items, one after another and by their places.
-fn has_items(array: Option<Array<'_, '_>>, wanted: &[Option<u128>]) -> bool {
+fn has_items(array: Option<Array<'_, '_>>, wanted: &[Option<u8>]) -> bool {
     let Some(array) = array else {
         return wanted.is_empty();
     };
     for (i, item) in array.iter().enumerate() {
-        let number = item.as_u128();
-        if wanted.get(i).copied() != Some(number) || number_of(array.get(i)) != number {
+        let number = item.as_u8();
+        let found = match array.get(i) {
+            Some(item) => item.as_u8(),
+            None => None,
+        };
+        if wanted.get(i).copied() != Some(number) || found != number {
             return false;
         }
     }

@@ -145,13 +145,13 @@ fn hash_of(alloc: Global, number: usize, weights: &[usize]) -> Result<u64, Fail>
 
 #[test]
 fn hashes_blocks(rt: HostRuntime) -> Result<(), Fail> {
-    for number in 0..33 {
+    for number in 0..64 {
         assert!(rt;
             hash_of(rt.alloc(), number, &SIX)? == 1732858124334809472,
             "{number}"
         );
     }
-    for &number in &[0, 64, 127] {
+    for number in 0..65 {
         assert!(rt;
             hash_of(rt.alloc(), number, &SEVEN)? == 5069690851892259264,
             "{number}"
@@ -221,12 +221,15 @@ fn has_these<S: KeyHasher>(map: &HashMap<String, usize, S>, list: &[(String, usi
     map.len() == list.len()
 }
 
-/// A key of its own for the number, which collides with all others or with none.
-fn key_of(alloc: Global, number: usize, collides: bool) -> Result<String, Fail> {
-    if collides {
-        colliding(alloc, number, &SEVEN)
-    } else {
+/// A key of its own for the number, of so many, which collides with all others or with none. 64
+/// have six digits, and more have seven.
+fn key_of(alloc: Global, number: usize, members: usize, collides: bool) -> Result<String, Fail> {
+    if !collides {
         Ok(format!(in alloc; "k{number:02}")?)
+    } else if members <= 64 {
+        colliding(alloc, number, &SIX)
+    } else {
+        colliding(alloc, number, &SEVEN)
     }
 }
 
@@ -241,7 +244,7 @@ fn empties<S: KeyHasher + Drop>(
     let mut map = HashMap::with_capacity_and_hasher(alloc, 0, hasher)?;
     let mut list = Vec::new(alloc);
     for number in 0..members {
-        let key = key_of(alloc, number, collides)?;
+        let key = key_of(alloc, number, members, collides)?;
         map.insert(key.clone()?, number)?;
         list.push((key, number))?;
         if !has_these(&map, list.as_slice()) {

@@ -3,7 +3,7 @@
 use super::{has_items, has_members, lists_members, number_of};
 use sj_tape::{
     Array, ErrorKind, ExtendedValueType, Object, Repeats, TryTypeError, Value, ValueAsScalar,
-    ValueType, to_tape,
+    ValueType, Writable, to_tape,
 };
 use std::alloc::Global;
 use std::test::Fail;
@@ -207,8 +207,8 @@ fn array_inside<'t, 'i>(whole: Value<'t, 'i>) -> Option<Array<'t, 'i>> {
 fn is_list(
     alloc: Global,
     text: &str,
-    outer: &[Option<u128>],
-    inner: &[Option<u128>],
+    outer: &[Option<u8>],
+    inner: &[Option<u8>],
 ) -> Result<[bool; 2], ErrorKind> {
     let mut bytes = text.as_bytes().to_vec(alloc)?;
     let tape = to_tape(alloc, bytes.as_mut_slice())?;
@@ -284,5 +284,18 @@ fn repeats_past_32_members(rt: HostRuntime) -> Result<(), Fail> {
     let last = tape.as_value_repeats(Repeats::Last).get_u8("k00");
     let told = (looked(tape.as_value()), last);
     assert_eq!(rt; told, (Some((33, 67, [Some(0), Some(31)])), Some(99)));
+    Ok(())
+}
+
+/// The members of a text with a repeat, where the last of each key counts.
+#[test]
+fn the_last_of_a_key_counts(rt: HostRuntime) -> Result<(), Fail> {
+    let mut bytes = *b"{\"a\":1,\"b\":2,\"a\":3}";
+    let tape = to_tape(rt.alloc(), &mut bytes)?;
+    let last = tape.as_value_repeats(Repeats::Last);
+    let object = last.as_object().ok_or("an object")?;
+    let print = last.encode(rt.alloc())?;
+    assert_eq!(rt; (number_of(last.get("a")), object.len()), (Some(3), 3));
+    assert_eq!(rt; print.as_str(), "{\"a\":1,\"b\":2,\"a\":3}");
     Ok(())
 }
