@@ -264,7 +264,8 @@ free 'display map' $'call: {"k00": 0}\n'
 free 'display nodes' \
   $'call: [Object { len: 1, count: 2 }, String("q\\"k"), String("a/bA")]\n'
 
-for law in prints_alike tape_reads_back owned_reads_back borrowed_reads_back; do
+for law in prints_alike tape_reads_back owned_reads_back borrowed_reads_back owned_reads_part \
+  borrowed_reads_part; do
   each "law $law" $'call: OutOfMemory, again holds\n' $'call: holds, again holds\n'
 done
 free 'law spelled' $'call: gone over\n'

@@ -18,6 +18,8 @@ enum Law {
     TapeReadsBack,
     OwnedReadsBack,
     BorrowedReadsBack,
+    OwnedReadsPart,
+    BorrowedReadsPart,
 }
 
 impl Law {
@@ -27,6 +29,8 @@ impl Law {
             "tape_reads_back" => Ok(Law::TapeReadsBack),
             "owned_reads_back" => Ok(Law::OwnedReadsBack),
             "borrowed_reads_back" => Ok(Law::BorrowedReadsBack),
+            "owned_reads_part" => Ok(Law::OwnedReadsPart),
+            "borrowed_reads_part" => Ok(Law::BorrowedReadsPart),
             _ => Err(Fault::Usage),
         }
     }
@@ -47,6 +51,8 @@ fn holds(alloc: Global, law: Law, forms: &Forms<'_, '_>) -> Result<bool, WriteEr
         Law::TapeReadsBack => sj_tape::laws::reads_back(alloc, &part),
         Law::OwnedReadsBack => sj_owned::laws::reads_back(alloc, &forms.owned),
         Law::BorrowedReadsBack => sj_borrowed::laws::reads_back(alloc, &forms.borrowed),
+        Law::OwnedReadsPart => sj_owned::laws::part_reads_back(alloc, &part),
+        Law::BorrowedReadsPart => sj_borrowed::laws::part_reads_back(alloc, &part),
     }
 }
 

@@ -11,4 +11,5 @@ pub use Rattle.sj_text_core.specs.Hash
 pub use Rattle.sj_object.specs.Keys
 pub use Rattle.sj_object.specs.Edits
 pub use Rattle.sj_object.specs.Index
+pub use Rattle.sj_tape.specs.Value as TapeValue
 pub use Rattle.sj_document.specs.Document
