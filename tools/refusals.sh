@@ -59,13 +59,15 @@ free buffers $'call: made\nagain made\n'
 
 for members in 0 32 64; do
   after="$((members + 1)) members"$'\n'
-  for call in insert insert_hashed; do
+  for call in insert insert_hashed append_hashed; do
     each "insert $call $members" \
       "call: AllocError, key and value as before, map as before, then inserted, $after" \
       "call: inserted, $after"
   done
-  each "insert get_or_insert $members" "call: AllocError, map as before, then inserted, $after" \
-    "call: inserted, $after"
+  for call in get_or_insert append_hashed_with; do
+    each "insert $call $members" "call: AllocError, map as before, then inserted, $after" \
+      "call: inserted, $after"
+  done
 done
 for call in insert insert_hashed get_or_insert; do
   free "present $call 32" $'call: was there, value as before, 32 members\n'
@@ -120,9 +122,28 @@ pretty='{
   ]
 }'
 
+# prints FORM CALL DONE: a print, whose length is known before and asked for at once
+prints() {
+  document $1 $2 '' "$3"
+  good=no
+  [ "$requests" = 1 ] && good=yes
+  count $good "document $1 $2 asks once"
+}
+
 # document FORM CALL RETURNED DONE; a call that was refused is made again
 document() {
   each "document $1 $2" "call: refused, $3document as before, out as before, done $4"$'\n' "call: done $4"$'\n'
+}
+
+# behind MEMBERS: sets print to that of an object of so many members and of n
+behind() {
+  local place member
+  print='{'
+  for ((place = 0; place < $1; place++)); do
+    printf -v member '"k%02d":%d,' $place $place
+    print+=$member
+  done
+  print+='"n":null}'
 }
 
 for form in owned borrowed; do
@@ -136,12 +157,19 @@ for form in owned borrowed; do
   for call in insert try_insert; do
     document $form $call 'value as before, ' '{"some":["key","value",2],"n":null} > '
   done
+  for members in 0 32 64; do
+    behind $members
+    for call in insert try_insert; do
+      document $form "$call $members" 'value as before, ' "$print > "
+    done
+  done
   document $form push 'value as before, ' '{"some":["key","value",2,null]} > '
-  document $form encode '' "$example > "
-  document $form encode_pp '' "$pretty > "
-  document $form write '' "$example > $example"
-  document $form write_pp '' "$example > $pretty"
+  prints $form encode "$example > "
+  prints $form encode_pp "$pretty > "
+  prints $form write "$example > $example"
+  prints $form write_pp "$example > $pretty"
   free "document $form reads" $'call: found\n'
+  free "room_in $form" $'call: filled\n'
 done
 
 # makes WORDS MADE
@@ -236,6 +264,14 @@ for form in tape lent; do
   lazy $form remove '{}'
   lazy $form push '["key","value",2,null]'
   lazy $form pop '["key","value"]'
+done
+for members in 0 32 64; do
+  behind $members
+  for call in insert try_insert; do
+    for form in tape lent owned; do
+      lazy $form "$call $members" "$print"
+    done
+  done
 done
 for call in as_mut as_array_mut as_object_mut object_mut get_mut get_idx_mut; do
   free "lazy owned $call" "call: done, owned $example"$'\n'

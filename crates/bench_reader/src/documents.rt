@@ -1,5 +1,7 @@
-//! Rates of documents: reading, printing and letting go, by each form and by `serde_json`.
+//! Rates of documents: reading, printing and letting go, by each form, by `serde_json` and by
+//! `json`, which keeps its scratch memory from one reading to the next.
 
+use json::Scratch;
 use serde_json::Value;
 use sj_tape::to_tape;
 use sj_text_core::Writable;
@@ -7,7 +9,7 @@ use std::alloc::Global;
 use std::time::{CpuClock, Duration};
 use std::{io, str};
 
-const WAYS: [&str; 4] = ["tape", "borrowed", "owned", "serde_json"];
+const WAYS: [&str; 5] = ["tape", "borrowed", "owned", "serde_json", "json"];
 
 const TASKS: [&str; 3] = ["read", "print", "let go"];
 
@@ -17,7 +19,12 @@ fn between(before: Duration, after: Duration) -> u64 {
 }
 
 /// Reads, prints and lets go once in that way, and answers the times; None where it was refused.
-fn once(rt: &HostRuntime, way: usize, bytes: &mut [u8]) -> io::Result<Option<[u64; 3]>> {
+fn once(
+    rt: &HostRuntime,
+    way: usize,
+    bytes: &mut [u8],
+    scratch: &mut Scratch,
+) -> io::Result<Option<[u64; 3]>> {
     let alloc = rt.alloc();
     let start = rt.thread_cpu_time()?;
     match way {
@@ -39,10 +46,11 @@ fn once(rt: &HostRuntime, way: usize, bytes: &mut [u8]) -> io::Result<Option<[u6
             Ok(value) => print_and_drop(rt, start, value),
             Err(_) => Ok(None),
         },
-        _ => match by_serde(alloc, bytes) {
+        3 => match by_serde(alloc, bytes) {
             Some(value) => print_and_drop_other(rt, start, value),
             None => Ok(None),
         },
+        _ => by_json(rt, start, bytes, scratch),
     }
 }
 
@@ -79,6 +87,26 @@ fn by_serde(alloc: Global, bytes: &[u8]) -> Option<Value> {
     }
 }
 
+/// Reads, prints and lets go by `json`.
+fn by_json(
+    rt: &HostRuntime,
+    start: Duration,
+    bytes: &[u8],
+    scratch: &mut Scratch,
+) -> io::Result<Option<[u64; 3]>> {
+    let alloc = rt.alloc();
+    match json::Value::from_slice(alloc, bytes, scratch) {
+        Ok(value) => {
+            let read = rt.thread_cpu_time()?;
+            let is_printed = json::to_vec(alloc, &value).is_ok();
+            let printed = rt.thread_cpu_time()?;
+            drop(value);
+            times(rt, is_printed, start, read, printed)
+        }
+        Err(_) => Ok(None),
+    }
+}
+
 fn times(
     rt: &HostRuntime,
     is_printed: bool,
@@ -104,15 +132,16 @@ fn best(
     bytes: &Vec<u8>,
     rounds: u32,
     only: Option<usize>,
-) -> io::Result<[[u64; 3]; 4]> {
-    let mut best = [[u64::MAX; 3]; 4];
+) -> io::Result<[[u64; 3]; 5]> {
+    let mut best = [[u64::MAX; 3]; 5];
+    let mut scratch = Scratch::new(rt.alloc());
     for _ in 0..rounds {
         for way in 0..WAYS.len() {
             if only.is_some_and(|wanted| way != wanted) {
                 continue;
             }
             let mut work = bytes.clone()?;
-            if let Some(times) = once(rt, way, work.as_mut_slice())? {
+            if let Some(times) = once(rt, way, work.as_mut_slice(), &mut scratch)? {
                 for task in 0..TASKS.len() {
                     best[way][task] = best[way][task].min(times[task]);
                 }

@@ -1,7 +1,7 @@
 //! Rates of reading: `to_tape`, `to_tape_with_buffers` and the tape of `json`, in turns, on texts
-//! that a seeded generator writes; and rates of documents, by both forms, by tapes and by
-//! `serde_json`. Run `rt run -- ROUNDS MEGABYTES KIND WAY` in this folder (without WAY, a number
-//! below 3: each way; without KIND: each kind), or `rt run -- ROUNDS stdin` for the text on standard
+//! that a seeded generator writes; and rates of documents, by both forms, by tapes, by `serde_json`
+//! and by `json`. Run `rt run -- ROUNDS MEGABYTES KIND WAY` in this folder (without WAY, a number
+//! from 0: each way; without KIND: each kind), or `rt run -- ROUNDS stdin` for the text on standard
 //! input, with the word `documents` in front for documents. Each line has the best rate of so many
 //! rounds, by the thread's own clock. `equality ROUNDS MEGABYTES` has the least times of comparing
 //! documents, `tapes ROUNDS MEGABYTES` those of calls on tapes beside the tape of `json`, and

@@ -154,13 +154,17 @@ fn answer_of<T: CopyText + Drop>(
     }
 }
 
-/// Makes the call on the document of the first example, and tells what it answered and what
-/// stands.
-pub fn run_call(rt: &(impl Print + AllocGlobal), form: &str, call: &str) -> Result<(), Fault> {
+/// Makes the call on the document of the text, and tells what it answered and what stands.
+pub fn run_call(
+    rt: &(impl Print + AllocGlobal),
+    form: &str,
+    call: &str,
+    text: &str,
+) -> Result<(), Fault> {
     if call == "reads" {
         return reads(rt, form);
     }
-    let mut bytes = text_of(rt.alloc(), "example")?;
+    let mut bytes = text_of(rt.alloc(), text)?;
     match form {
         "owned" => on_owned(rt, Call::of(call)?, bytes.as_mut_slice()),
         "borrowed" => on_borrowed(rt, Call::of(call)?, bytes.as_mut_slice()),
@@ -192,6 +196,11 @@ pub fn read<D: Drop>(read: Result<D, ErrorKind>) -> Result<D, Fault> {
     }
 }
 
+/// The buckets of an object.
+pub fn buckets_of<T: KeyText + Drop>(document: &Document<T>) -> Option<usize> {
+    document.as_object()?.buckets()
+}
+
 /// Makes the call between the first two writes, and again where it was refused.
 fn make<T: CopyText + Drop>(
     rt: &(impl Print + AllocGlobal),
@@ -201,7 +210,7 @@ fn make<T: CopyText + Drop>(
     second: (T, Document<T>),
 ) -> Result<(), Fault> {
     let alloc = rt.alloc();
-    let before = document.encode(alloc)?;
+    let (before, buckets) = (document.encode(alloc)?, buckets_of(&document));
     let mut out = b"> ".to_vec(alloc)?;
     say_call(rt)?;
     match answer_of(alloc, call, &mut document, first, &mut out) {
@@ -210,7 +219,8 @@ fn make<T: CopyText + Drop>(
             if let Some(value) = back {
                 say_kept(rt, "value", value.is_null())?;
             }
-            let is_kept = document.encode(alloc)?.as_str() == before.as_str();
+            let is_same = document.encode(alloc)?.as_str() == before.as_str();
+            let is_kept = is_same && buckets_of(&document) == buckets;
             say_kept(rt, "document", is_kept)?;
             say_kept(rt, "out", out.as_slice() == b"> ".as_slice())?;
             let again = answer_of(alloc, call, &mut document, second, &mut out);

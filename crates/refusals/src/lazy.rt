@@ -1,6 +1,6 @@
 //! Calls on lazy documents: on a part of a tape, and on a document that is lent.
 
-use crate::documents::read;
+use crate::documents::{buckets_of, read};
 use crate::fault::Fault;
 use crate::say::{say, say_call, say_kept};
 use crate::texts::text_of;
@@ -144,6 +144,14 @@ pub fn form_of(value: &Value<'_, '_, '_>) -> &'static str {
     }
 }
 
+/// The buckets of an object that it owns.
+fn owned_buckets(value: &Value<'_, '_, '_>) -> Option<usize> {
+    match value {
+        Value::Value(Shared::Owned(document)) => buckets_of(document),
+        _ => None,
+    }
+}
+
 /// Makes the call on the value between the first two writes, and again where it was refused.
 fn write(
     rt: &(impl Print + AllocGlobal),
@@ -151,7 +159,7 @@ fn write(
     mut value: Value<'_, '_, '_>,
 ) -> Result<(), Fault> {
     let alloc = rt.alloc();
-    let form = form_of(&value);
+    let (form, buckets) = (form_of(&value), owned_buckets(&value));
     let before = value.encode(alloc)?;
     say_call(rt)?;
     let answer = answer_of(alloc, call, &mut value);
@@ -165,7 +173,9 @@ fn write(
                 ""
             },
         )?;
-        say_kept(rt, "tree", value.encode(alloc)?.as_str() == before.as_str())?;
+        let is_same = value.encode(alloc)?.as_str() == before.as_str();
+        let is_kept = form != "owned" || owned_buckets(&value) == buckets;
+        say_kept(rt, "tree", is_same && is_kept)?;
         say_kept(rt, "form", call.grows() || form_of(&value) == form)?;
         answer_of(alloc, call, &mut value);
     }
@@ -176,9 +186,14 @@ fn write(
     say(rt, "\n")
 }
 
-/// Makes the call on the document of the first example, or on its array, as that form.
-pub fn run_call(rt: &(impl Print + AllocGlobal), form: &str, call: &str) -> Result<(), Fault> {
-    let mut bytes = text_of(rt.alloc(), "example")?;
+/// Makes the call on the document of the text, or on its array, as that form.
+pub fn run_call(
+    rt: &(impl Print + AllocGlobal),
+    form: &str,
+    call: &str,
+    text: &str,
+) -> Result<(), Fault> {
+    let mut bytes = text_of(rt.alloc(), text)?;
     match form {
         "tape" => on_tape(rt, Call::of(call)?, bytes.as_mut_slice()),
         "lent" => on_lent(rt, Call::of(call)?, bytes.as_mut_slice()),

@@ -2,14 +2,16 @@
 //! stands, and where the call was refused makes it again. It is run with each request for memory of
 //! that call refused in turn, which `tools/refusals.sh` does; its words name the call:
 //!
+//!     refusals room_in FORM
 //!     refusals read CALL TEXT | read_value FORM CALL | buffers | capacity | room | map reads
 //!     refusals insert CALL MEMBERS | present CALL MEMBERS | member CALL MEMBERS
 //!     refusals member_present CALL MEMBERS | write CALL GENERATOR | tape new | tape reads
-//!     refusals document FORM CALL | make SOURCE | make_lazy SOURCE | convert CALL | copy_key
-//!     refusals lazy FORM CALL | copy FORM CALL | law LAW | run FORM WAY | apply FORM WAY
-//!     refusals session FORM INPUT | session_known FORM INPUT | session_last FORM INPUT
-//!     refusals pointer | no_pointer | pointer_in FORM | pointer_lazy FORM CALL
-//!     refusals kinds FORM | parts FORM | reads WHAT | from WHAT | display FORM
+//!     refusals document FORM CALL [MEMBERS] | make SOURCE | make_lazy SOURCE | convert CALL
+//!     refusals lazy FORM CALL [MEMBERS] | copy FORM CALL | copy_key | law LAW | run FORM WAY
+//!     refusals apply FORM WAY | session FORM INPUT | session_known FORM INPUT
+//!     refusals session_last FORM INPUT | pointer | no_pointer | pointer_in FORM
+//!     refusals pointer_lazy FORM CALL | kinds FORM | parts FORM | reads WHAT | from WHAT
+//!     refusals display FORM
 //!
 //! `refusals nodes LIST ..` makes a tape of each list of nodes.
 //!
@@ -36,6 +38,7 @@ mod parts;
 mod pointers;
 mod prints;
 mod readings;
+mod rooms;
 mod runs;
 mod say;
 mod scalars;
@@ -87,6 +90,7 @@ fn run_maps(rt: &(impl Print + AllocGlobal), words: &[String]) -> Result<(), Fau
         "member_present" => members::insert_present(rt, second, third),
         "capacity" => maps::with_capacity(rt),
         "room" => maps::fill_room(rt),
+        "room_in" => rooms::fill(rt, second),
         "map" => maps::reads(rt),
         "reads" => map_reads::reads(rt, second),
         "copy_key" => froms::copy_key(rt),
@@ -105,12 +109,12 @@ fn run_documents(rt: &(impl Print + AllocGlobal), words: &[String]) -> Result<()
         "write" => prints::write(rt, second, third),
         "display" => displays::write(rt, second),
         "tape" => tapes::call(rt, second),
-        "document" => documents::run_call(rt, second, third),
+        "document" => documents::run_call(rt, second, third, word(words, 3)),
         "make" => makes::make(rt, second),
         "make_lazy" => lazy_makes::make(rt, second),
         "convert" => makes::convert(rt, second),
         "from" => froms::make(rt, second),
-        "lazy" => lazy::run_call(rt, second, third),
+        "lazy" => lazy::run_call(rt, second, third, word(words, 3)),
         "copy" => copies::run_call(rt, second, third),
         "kinds" => kinds::reads(rt, second),
         "parts" => parts::reads(rt, second),

@@ -65,6 +65,8 @@ enum Call {
     Insert,
     Hashed,
     OrInsert,
+    Append,
+    AppendWith,
 }
 
 impl Call {
@@ -73,6 +75,8 @@ impl Call {
             "insert" => Some(Call::Insert),
             "insert_hashed" => Some(Call::Hashed),
             "get_or_insert" => Some(Call::OrInsert),
+            "append_hashed" => Some(Call::Append),
+            "append_hashed_with" => Some(Call::AppendWith),
             _ => None,
         }
     }
@@ -98,6 +102,16 @@ fn answer_of(answer: Result<Option<u64>, Refused<AllocError, (String, u64)>>) ->
     }
 }
 
+/// What a call that calls a closure for an absent key answered.
+fn answer_made(found: Option<u64>, is_made: bool) -> Answer {
+    match found {
+        Some(_) if is_made => Answer::Inserted,
+        Some(before) => Answer::There(before),
+        None if is_made => Answer::Made,
+        None => Answer::Refused(None),
+    }
+}
+
 fn get_or_insert(map: &mut Numbers, hash: u64, key: String, value: u64) -> Answer
     requires { hash ≡ hash_of_text (string_bytes key) }
 {
@@ -109,12 +123,31 @@ fn get_or_insert(map: &mut Numbers, hash: u64, key: String, value: u64) -> Answe
         Ok(found) => Some(*found),
         Err(_) => None,
     };
-    match found {
-        Some(_) if is_made => Answer::Inserted,
-        Some(before) => Answer::There(before),
-        None if is_made => Answer::Made,
-        None => Answer::Refused(None),
+    answer_made(found, is_made)
+}
+
+/// Puts a key that is not there last, with the value or with what a closure makes.
+fn append(map: &mut Numbers, is_made_late: bool, hash: u64, key: String, value: u64) -> Answer
+    requires { hash ≡ hash_of_text (string_bytes key) }
+{
+    if map.position_hashed(hash, key.as_str()).is_some() {
+        return Answer::There(value);
     }
+    if !is_made_late {
+        return match map.append_hashed(hash, key, value) {
+            Ok(()) => Answer::Inserted,
+            Err(refused) => Answer::Refused(Some(refused.value)),
+        };
+    }
+    let mut is_made = false;
+    let found = match map.append_hashed_with(hash, key, || {
+        is_made = true;
+        value
+    }) {
+        Ok(found) => Some(*found),
+        Err(_) => None,
+    };
+    answer_made(found, is_made)
 }
 
 fn insert_by(call: Call, map: &mut Numbers, key: String, value: u64) -> Answer {
@@ -123,6 +156,8 @@ fn insert_by(call: Call, map: &mut Numbers, key: String, value: u64) -> Answer {
         Call::Insert => answer_of(map.insert(key, value)),
         Call::Hashed => answer_of(map.insert_hashed(hash, key, value)),
         Call::OrInsert => get_or_insert(map, hash, key, value),
+        Call::Append => append(map, false, hash, key, value),
+        Call::AppendWith => append(map, true, hash, key, value),
     }
 }
 

@@ -3,11 +3,15 @@
 use crate::fault::Fault;
 use std::alloc::{AllocError, Global};
 
-/// The text of that name, in bytes of its own.
+/// The text of that name, in bytes of its own: the first example where there is none. A number
+/// names an object of so many members.
 pub fn text_of(alloc: Global, name: &str) -> Result<Vec<u8>, Fault> {
     match name {
-        "example" => Ok(b"{\"some\": [\"key\", \"value\", 2]}".to_vec(alloc)?),
-        "repeat" => Ok(with_repeat(alloc)?),
+        "" | "example" => Ok(b"{\"some\": [\"key\", \"value\", 2]}".to_vec(alloc)?),
+        "repeat" => Ok(numbered(alloc, 32, ",\"k00\":99}")?),
+        "0" => Ok(numbered(alloc, 0, "}")?),
+        "32" => Ok(numbered(alloc, 32, "}")?),
+        "64" => Ok(numbered(alloc, 64, "}")?),
         "escapes" => Ok(b"{\"q\\\"k\":\"a\\/b\\u0041\"}".to_vec(alloc)?),
         "kinds" => Ok(KINDS.as_bytes().to_vec(alloc)?),
         _ => Err(Fault::Usage),
@@ -18,12 +22,14 @@ pub fn text_of(alloc: Global, name: &str) -> Result<Vec<u8>, Fault> {
 const KINDS: &str =
     "{\"null\":null,\"bool\":true,\"int\":7,\"str\":\"s\",\"array\":[7],\"object\":{\"int\":7}}";
 
-/// An object of 33 members: `k00` to `k31` with 0 to 31, and `k00` once more with 99.
-fn with_repeat(alloc: Global) -> Result<Vec<u8>, AllocError> {
+/// An object of so many members, `k00` with 0, `k01` with 1 and so on, and of what stands behind
+/// them.
+fn numbered(alloc: Global, members: usize, behind: &str) -> Result<Vec<u8>, AllocError> {
     let mut text = String::from_str(alloc, "{")?;
-    for i in 0..32 {
-        text.push_str(format!(in alloc; "\"k{i:02}\":{i},")?.as_str())?;
+    for i in 0..members {
+        let comma = if i == 0 { "" } else { "," };
+        text.push_str(format!(in alloc; "{comma}\"k{i:02}\":{i}")?.as_str())?;
     }
-    text.push_str("\"k00\":99}")?;
+    text.push_str(behind)?;
     Ok(text.into_bytes())
 }
