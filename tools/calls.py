@@ -81,7 +81,8 @@ def functions_of(crate):
     """The public functions of a crate, as (whose, name), with whether each can want memory."""
     names, modules = offered(crate)
     found = {}
-    files = [f for f in sorted((CRATES / crate / "src").rglob("*.rt")) if "tests" not in str(f)]
+    src = CRATES / crate / "src"
+    files = [f for f in sorted(src.rglob("*.rt")) if "tests" not in str(f.relative_to(src))]
     texts = {f: without_clauses(f.read_text()) for f in files}
     every = "\n".join(texts.values())
     hidden = set(re.findall(r"^(?:pub\(\w+\) )?trait (\w+)", every, re.M))
