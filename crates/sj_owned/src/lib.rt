@@ -3,7 +3,8 @@
 //! A `Value` is a null, a truth value or a whole number (`Static`), a text, an array or an object.
 //! It means one tree in which no object has two members of one key, whatever it was made from, and
 //! each of its calls answers and changes that tree. The calls stand at `sj_document::Document`,
-//! which has one body for this form and for the one that borrows its texts.
+//! which has one body for this form and for the one that borrows its texts. Its own are the
+//! `TryMake`s: of texts, of borrowed values, and of a map of std, whose pairs come in byte order.
 //!
 //! ```
 //! let mut bytes = b"{\"some\":[\"key\",\"value\",2],\"some\":3}".to_vec(alloc)?;
