@@ -4,8 +4,8 @@
 //! It means one tree in which no object has two members of one key, whatever it was made from, and
 //! each of its calls answers and changes that tree. As it is read, each of its texts and keys lies
 //! in the bytes that were read. The calls stand at `sj_document::Document`, which has one body for
-//! this form and for the one that owns its texts. Its own are the `From`s of lent texts, `clone_static`
-//! and `into_static`, the `TryMake` of an owned value, and known keys.
+//! this form and for the one that owns its texts. Its own are the `From`s of lent texts,
+//! `clone_static` and `into_static`, the `TryMake` of an owned value, and known keys.
 //!
 //! ```
 //! let mut bytes = b"{\"some\":[\"key\",\"value\",2],\"some\":3}".to_vec(alloc)?;
