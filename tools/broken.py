@@ -15,6 +15,7 @@ import sys
 import time
 
 import model
+import reading
 
 WAYS = ['owned', 'owned known', 'borrowed', 'borrowed known', 'lazy',
         'owned last', 'owned known last', 'borrowed last', 'borrowed known last', 'lazy last']
@@ -172,8 +173,8 @@ class Writer:
         """An input of one document and its lines."""
         document = self.document()
         try:
-            tree = model.read(document)
-        except model.Unread:
+            tree = reading.read(document)
+        except reading.Unread:
             tree = None
         lines = [self.line(tree) for _ in range(self.random.choice((0, 5, 20, 60)))]
         return b'\n'.join([document, self.random.choice((b'---', b'---\r')), *lines])
@@ -184,7 +185,7 @@ def wanted(given, words):
     choice = model.LAST if 'last' in words else model.FIRST
     try:
         written = model.session(given, 'lazy' in words, choice)
-    except model.Unread as refused:
+    except reading.Unread as refused:
         return (3, b'', f'text refused: {refused}\n'.encode()), 1
     return (0, written, b''), written.count(b'\n')
 

@@ -6,7 +6,8 @@ session with that document, a line '> LINE' is a command line of it, and the lin
 a lazy document replies otherwise, a line '~' stands behind the reply, and its own behind that.
 """
 
-from model import READS, WIDTHS, WRITES, answer, keep, read
+from model import READS, WIDTHS, WRITES, answer, keep
+from reading import read
 
 DOCUMENT = ('{"a":[1,{"b":"t","b":2},-5,null,true,[]],"q\\"k":"a\\/b\\u0041\\n\\u0001\\ud83d\\ude00","":{"":0,"x":{}},'
             '"u":340282366920938463463374607431768211455,"i":-170141183460469231731687303715884105728,"a":0}')
