@@ -5,10 +5,12 @@ use sj_text_core::{Repeats, SameAs, Writable};
 use std::alloc::Global;
 use std::test::Fail;
 
+const REPEATED: &[u8; 13] = b"{\"a\":1,\"a\":2}";
+
 /// Whether the print of a tape, of which the last of each key counts, is read by the choice as
 /// what is the same as the tape: owned and borrowed, asked both ways.
 fn is_read_back(alloc: Global, repeats: Repeats) -> Result<[bool; 4], Fail> {
-    let mut bytes = *b"{\"a\":1,\"a\":2}";
+    let mut bytes = *REPEATED;
     let tape = to_tape(alloc, &mut bytes)?;
     let last = tape.as_value_repeats(Repeats::Last);
     let print = last.encode(alloc)?;
@@ -31,5 +33,24 @@ fn prints_are_read_back_by_the_same_choice(rt: HostRuntime) -> Result<(), Fail> 
         is_read_back(rt.alloc(), Repeats::First)?,
     ];
     assert_eq!(rt; told, [[true; 4], [false; 4]]);
+    Ok(())
+}
+
+/// Whether the laws find that the prints of a part are read back by its own choice.
+fn laws_hold(alloc: Global, repeats: Repeats) -> Result<[bool; 2], Fail> {
+    let mut bytes = *REPEATED;
+    let tape = to_tape(alloc, &mut bytes)?;
+    let part = tape.as_value_repeats(repeats);
+    Ok([
+        sj_owned::laws::part_reads_back(alloc, &part)?,
+        sj_borrowed::laws::part_reads_back(alloc, &part)?,
+    ])
+}
+
+#[test]
+fn laws_read_parts_back(rt: HostRuntime) -> Result<(), Fail> {
+    for repeats in [Repeats::First, Repeats::Last] {
+        assert_eq!(rt; laws_hold(rt.alloc(), repeats)?, [true; 2]);
+    }
     Ok(())
 }
