@@ -72,7 +72,7 @@ impl<'b, 't, 'i> Value<'b, 't, 'i> {
 
     /// The part of the tape, as it is.
     pub fn from_tape(tape: TapeValue<'t, 'i>) -> Self
-        ensures { result ≡ Tape tape }
+        ensures { result ≡ Tape tape.entry }
     {
         Lazy::Tape(tape)
     }
