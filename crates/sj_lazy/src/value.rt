@@ -47,6 +47,14 @@ pub type Value<'b, 't, 'i> = Lazy<TapeValue<'t, 'i>, &'b BorrowedValue<'i>, CowS
 
 impl<P, B, T: KeyText> Lazy<P, B, T> {
     ghost use Rattle.sj_lazy.specs.Value.{on_tape};
+    ghost use Rattle.sj_lazy.specs.declared.value.Lazy.TheVariants.{Tape};
+
+    /// The part of the tape, as it is.
+    pub fn from_tape(tape: P) -> Self
+        ensures { result ≡ Tape tape }
+    {
+        Lazy::Tape(tape)
+    }
 
     /// Whether it is a part of a tape.
     pub fn is_tape(&self) -> bool
@@ -68,14 +76,6 @@ impl<P, B, T: KeyText> Lazy<P, B, T> {
 
 impl<'b, 't, 'i> Value<'b, 't, 'i> {
     ghost use Rattle.sj_lazy.specs.Value.{on_tape};
-    ghost use Rattle.sj_lazy.specs.declared.value.Lazy.TheVariants.{Tape};
-
-    /// The part of the tape, as it is.
-    pub fn from_tape(tape: TapeValue<'t, 'i>) -> Self
-        ensures { result ≡ Tape tape.entry }
-    {
-        Lazy::Tape(tape)
-    }
 
     /// Which member of several with one key counts: in a document there are none.
     pub fn repeats(&self) -> Repeats

@@ -19,7 +19,6 @@
 #![tactic(auto)]
 
 pub mod array;
-mod kept;
 pub mod laws;
 mod list;
 mod node;

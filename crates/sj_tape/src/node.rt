@@ -4,7 +4,7 @@ ghost use Rattle.std.specs.Prelude.{◌≡◌, ◌^◌, ◌<◌};
 ghost use Rattle.sj_text_core.specs.Nodes.{width};
 ghost use Rattle.sj_tape.specs.Marks.{mark};
 
-use crate::kept::Kept;
+use crate::list::Kept;
 use sj_text_core::StaticNode;
 
 /// One node of a tape.

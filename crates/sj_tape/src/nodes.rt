@@ -1,32 +1,28 @@
 //! Nodes one behind another, as reads of a tape see them.
 #![tactic(auto, unfolding(crate::specs::Stretches::nodes_in))]
 
-ghost use Rattle.std.specs.Prelude.{◌<◌, ◌^◌, length};
-ghost use Rattle.sj_tape.specs.Whole.{slice_nodes};
+ghost use Rattle.std.specs.Prelude.{◌+◌, ◌≤◌, ◌<◌, ◌^◌, length};
+ghost use Rattle.sj_tape.specs.Whole.{all_nodes, stretch};
 
-use crate::kept::{item_place, node_at, text_at, width_at};
 use crate::list::List;
 use crate::node::Node;
 use crate::packed::Packed;
 use sj_text_core::StaticNode;
-use std::fmt;
+use std::{fmt, slice};
 
-/// A slice of the nodes of a tape, in the form in which the tape keeps them.
-#[derive(Clone, Copy)]
-pub(crate) enum Slice<'t, 'i> {
-    Packed(&'t [Packed<'i>]),
-    Plain(&'t [Node<'i>]),
-}
-
-/// A stretch of the nodes of a tape, or the one node of a null.
+/// A stretch of the nodes of a tape, whose list is the one in `lists`, or the one node of a null.
 #[derive(Clone, Copy)]
 pub struct Nodes<'t, 'i> {
-    slice: Slice<'t, 'i>,
-    ghost fits: { length (slice_nodes slice) < 2 ^ 64 },
+    lists: &'t [List<'i>],
+    from: usize,
+    len: usize,
+    ghost within: { from + len ≤ length (all_nodes lists.now) },
+    ghost ends: { from + len < 2 ^ 64 },
+    ghost fits: { length (stretch lists.now from len) < 2 ^ 64 },
 }
 
 impl<'t, 'i> Nodes<'t, 'i> {
-    ghost use Rattle.std.specs.Prelude.{◌≡◌, ◌≤◌, ◌∷◌, [], nat_eq, get_or, take, drop, IfNone, IfSome, option_map};
+    ghost use Rattle.std.specs.Prelude.{◌≡◌, ◌∷◌, [], nat_eq, get_or, take, drop, IfNone, IfSome, option_map};
     ghost use Rattle.sj_text_core.specs.Nodes.{nothing, width};
     ghost use Rattle.sj_tape.specs.Marks.{mark, packed_marks, split_text, text_in};
     ghost use Rattle.sj_tape.specs.Stretches.{nodes_in};
@@ -39,7 +35,9 @@ impl<'t, 'i> Nodes<'t, 'i> {
         ensures { nodes_in result ≡ nothing ∷ [] }
     {
         Nodes {
-            slice: Slice::Plain(&[Node::Static(StaticNode::Null)]),
+            lists: &[],
+            from: 0,
+            len: 1,
         }
     }
 
@@ -48,25 +46,21 @@ impl<'t, 'i> Nodes<'t, 'i> {
     pub(crate) fn all(list: &'t List<'i>) -> Nodes<'t, 'i>
         ensures { nodes_in result ≡ list_nodes list.now }
     {
-        match list {
-            List::Packed(nodes) => Nodes {
-                slice: Slice::Packed(nodes.as_slice()),
-            },
-            List::Plain(nodes) => Nodes {
-                slice: Slice::Plain(nodes.as_slice()),
-            },
+        Nodes {
+            lists: slice::from_ref(list),
+            from: 0,
+            len: list.len(),
         }
     }
 
     /// The nodes, where they are packed.
+    #[tactic(auto, using(crate::proofs::Stretched::stretch_of), unfolding(crate::specs::Stretches::nodes_in))]
     #[inline(always)]
     pub(crate) fn packed(&self) -> Option<&'t [Packed<'i>]>
         ensures { IfSome result (λ p. packed_marks p.now ≡ nodes_in self.now) }
     {
-        match self.slice {
-            Slice::Packed(nodes) => Some(nodes),
-            Slice::Plain(_) => None,
-        }
+        let nodes = self.lists.first()?.packed()?;
+        Some(&nodes[self.from..self.from + self.len])
     }
 
     /// How many they are.
@@ -74,10 +68,7 @@ impl<'t, 'i> Nodes<'t, 'i> {
     pub fn len(&self) -> usize
         ensures { result ≡ length (nodes_in self.now) }
     {
-        match self.slice {
-            Slice::Packed(nodes) => nodes.len(),
-            Slice::Plain(nodes) => nodes.len(),
-        }
+        self.len
     }
 
     /// Whether there are none.
@@ -94,9 +85,9 @@ impl<'t, 'i> Nodes<'t, 'i> {
         requires { place < length (nodes_in self.now) }
         ensures { mark result ≡ get_or (nodes_in self.now) place nothing }
     {
-        match self.slice {
-            Slice::Packed(nodes) => node_at(nodes, place),
-            Slice::Plain(nodes) => node_at(nodes, place),
+        match self.lists.first() {
+            Some(list) => list.at(self.from + place),
+            None => Node::Static(StaticNode::Null),
         }
     }
 
@@ -106,10 +97,7 @@ impl<'t, 'i> Nodes<'t, 'i> {
         requires { place < length (nodes_in self.now) }
         ensures { option_map (λ s. s.now) result ≡ text_in (get_or (nodes_in self.now) place nothing) }
     {
-        match self.slice {
-            Slice::Packed(nodes) => text_at(nodes, place),
-            Slice::Plain(nodes) => text_at(nodes, place),
-        }
+        self.lists.first()?.text_at(self.from + place)
     }
 
     /// The first node and those behind it; None where there are none.
@@ -131,9 +119,9 @@ impl<'t, 'i> Nodes<'t, 'i> {
         requires fits { width (get_or (nodes_in self.now) 0 nothing) < 2 ^ 64 }
         ensures { result ≡ width (get_or (nodes_in self.now) 0 nothing) }
     {
-        match self.slice {
-            Slice::Packed(nodes) => width_at(nodes, 0),
-            Slice::Plain(nodes) => width_at(nodes, 0),
+        match self.lists.first() {
+            Some(list) => list.width_at(self.from),
+            None => 1,
         }
     }
 
@@ -144,9 +132,9 @@ impl<'t, 'i> Nodes<'t, 'i> {
         requires some { position ≤ items_len (items_in (nodes_in self.now)) }
         ensures { ItemsFrom (nodes_in self.now) position result }
     {
-        match self.slice {
-            Slice::Packed(nodes) => item_place(nodes, position),
-            Slice::Plain(nodes) => item_place(nodes, position),
+        match self.lists.first() {
+            Some(list) => list.item_place(self.from, self.len, position),
+            None => position,
         }
     }
 
@@ -170,40 +158,24 @@ impl<'t, 'i> Nodes<'t, 'i> {
         ensures front { nodes_in result.0 ≡ take place (nodes_in self.now) }
         ensures back { nodes_in result.1 ≡ drop place (nodes_in self.now) }
     {
-        (self.before(place), self.from(place))
-    }
-
-    /// The nodes before that place, which may be at most `len`.
-    #[tactic(auto, using(crate::proofs::Stretched::front), unfolding(crate::specs::Stretches::nodes_in))]
-    #[inline(always)]
-    fn before(&self, place: usize) -> Nodes<'t, 'i>
-        requires { place ≤ length (nodes_in self.now) }
-        ensures { nodes_in result ≡ take place (nodes_in self.now) }
-    {
-        match self.slice {
-            Slice::Packed(nodes) => Nodes {
-                slice: Slice::Packed(nodes.split_at(place).0),
-            },
-            Slice::Plain(nodes) => Nodes {
-                slice: Slice::Plain(nodes.split_at(place).0),
-            },
-        }
+        let front = Nodes {
+            lists: self.lists,
+            from: self.from,
+            len: place,
+        };
+        (front, self.from(place))
     }
 
     /// The nodes from that place on, which may be at most `len`.
-    #[tactic(auto, using(crate::proofs::Stretched::back), unfolding(crate::specs::Stretches::nodes_in))]
     #[inline(always)]
     pub fn from(&self, place: usize) -> Nodes<'t, 'i>
         requires { place ≤ length (nodes_in self.now) }
         ensures { nodes_in result ≡ drop place (nodes_in self.now) }
     {
-        match self.slice {
-            Slice::Packed(nodes) => Nodes {
-                slice: Slice::Packed(nodes.split_at(place).1),
-            },
-            Slice::Plain(nodes) => Nodes {
-                slice: Slice::Plain(nodes.split_at(place).1),
-            },
+        Nodes {
+            lists: self.lists,
+            from: self.from + place,
+            len: self.len - place,
         }
     }
 }

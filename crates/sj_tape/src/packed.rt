@@ -4,7 +4,7 @@ ghost use Rattle.std.specs.Prelude.{◌≡◌, ◌<◌, ◌^◌, ◌*◌, ◌+�
 ghost use Rattle.sj_text_core.specs.Nodes.{string, width};
 ghost use Rattle.sj_tape.specs.Marks.{static_mark, mark, packed_mark, text_in};
 
-use crate::kept::Kept;
+use crate::list::Kept;
 use crate::node::Node;
 use sj_print::PlainText;
 use sj_text_core::StaticNode;
