@@ -1,7 +1,7 @@
 //! Times of look-ups, of a walk and of a print on tapes, beside the toolchain's `json` tape.
 
 use crate::records::records_of;
-use json::{Node, Scratch, Tape, Writer, is_number};
+use json::{Element, Node, Scratch, Tape, Writer, is_number};
 use sj_tape::to_tape;
 use sj_text_core::Writable;
 use std::alloc::{AllocError, Global};
@@ -42,6 +42,22 @@ fn keys(alloc: Global) -> Result<Vec<String>, AllocError> {
     Ok(keys)
 }
 
+/// The bytes of a part that is a text, or of the texts in an array.
+fn text_bytes(part: sj_tape::Value<'_, '_>) -> usize {
+    if let Some(text) = part.into_string() {
+        return text.len();
+    }
+    let mut seen = 0usize;
+    if let Some(items) = part.as_array() {
+        for item in items.iter() {
+            if let Some(text) = item.into_string() {
+                seen = seen.wrapping_add(text.len());
+            }
+        }
+    }
+    seen
+}
+
 /// The bytes of the keys and texts that a walk over all parts of the records sees.
 fn walk(value: sj_tape::Value<'_, '_>) -> usize {
     let mut seen = 0usize;
@@ -50,11 +66,29 @@ fn walk(value: sj_tape::Value<'_, '_>) -> usize {
             if let Some(members) = record.as_object() {
                 for (key, member) in members.iter() {
                     seen = seen.wrapping_add(key.len());
-                    if let Some(text) = member.into_string() {
-                        seen = seen.wrapping_add(text.len());
-                    }
+                    seen = seen.wrapping_add(text_bytes(member));
                 }
             }
+        }
+    }
+    seen
+}
+
+/// The bytes of a part of the other tape that is a text, or of the texts in an array.
+fn text_bytes_json(part: &Element<'_, '_>, len: usize) -> usize {
+    if let Some(text) = part.as_str() {
+        return text.len();
+    }
+    let Some(mut items) = part.items() else {
+        return 0;
+    };
+    let mut seen = 0usize;
+    for _ in 0..len {
+        let Some(item) = items.next() else {
+            break;
+        };
+        if let Some(text) = item.as_str() {
+            seen = seen.wrapping_add(text.len());
         }
     }
     seen
@@ -78,9 +112,7 @@ fn walk_json(tape: &Tape<'_>) -> usize {
                 break;
             };
             seen = seen.wrapping_add(key.len());
-            if let Some(text) = member.as_str() {
-                seen = seen.wrapping_add(text.len());
-            }
+            seen = seen.wrapping_add(text_bytes_json(&member, tape.len()));
         }
     }
     seen

@@ -4,6 +4,7 @@ use Rattle.sj_text_core.specs.Tree.{Tree, null, boolean, int, text, list, obj, I
 use Rattle.sj_text_core.specs.Nodes.{Mark, nothing, array, object, flat, flat_items, flat_members, tree_of, members_in, AreMembers, IsPreorder}
 use Rattle.sj_text_core.specs.Reads.{as_items, as_members}
 use Rattle.sj_text_core.proofs.Shapes.{items_from-listed, members_from-paired, list_is, obj_is}
+use Rattle.sj_tape.specs.Marks.{array_len, object_len}
 use Rattle.sj_tape.specs.Parts.{items_in, AreItemNodes}
 use Rattle.sj_tape.proofs.Splits.{items_in-flat, members_in-flat, AreItemNodes-flat, AreMembers-flat}
 
@@ -13,13 +14,13 @@ pub record ArrayOf (ns rest : List Mark) (len : ℕ) : Type 0 where
   pub counted : len ≡ items_len (items_in rest)
   pub items : Some (items_in rest) ≡ as_items (tree_of ns)
 
-pub array_of : (ns rest : List Mark) (len count : ℕ) → IsPreorder ns → get_or ns 0 nothing ≡ array len count → rest ≡ drop 1 ns → ArrayOf ns rest len
-array_of ns rest len count p e r = cases (tree_of ns) refl
+pub array_of : (ns rest : List Mark) (len : ℕ) → IsPreorder ns → Some len ≡ array_len (get_or ns 0 nothing) → rest ≡ drop 1 ns → ArrayOf ns rest len
+array_of ns rest len p e r = cases (tree_of ns) refl
   where
-    first : (t : Tree) → tree_of ns ≡ t → get_or (flat t) 0 nothing ≡ array len count
-    first t f = ap (λ l. get_or l 0 nothing) (sym (p ∙ ap (λ u. flat u) f)) ∙ e
+    first : (t : Tree) → tree_of ns ≡ t → Some len ≡ array_len (get_or (flat t) 0 nothing)
+    first t f = e ∙ ap (λ l. array_len (get_or l 0 nothing)) (p ∙ ap (λ u. flat u) f)
 
-    behind : (is : Items) → tree_of ns ≡ list is → get_or (flat (list is)) 0 nothing ≡ array len count → ArrayOf ns rest len
+    behind : (is : Items) → tree_of ns ≡ list is → Some len ≡ array_len (get_or (flat (list is)) 0 nothing) → ArrayOf ns rest len
     behind is f g =
         let are : rest ≡ flat_items is = r ∙ ap (λ l. drop 1 l) (p ∙ ap (λ u. flat u) f) in
         let same : items_in rest ≡ is = ap (λ l. items_in l) are ∙ items_in-flat is in
@@ -39,7 +40,7 @@ array_of ns rest len count p e r = cases (tree_of ns) refl
     cases (obj ms) f = absurd (let h = first (obj ms) f in cc)
 
 pub array_behind : (ns rest : List Mark) (m : Mark) (len count : ℕ) → IsPreorder ns → ns ≡ m ∷ rest → m ≡ array len count → ArrayOf ns rest len
-array_behind ns rest m len count p e f = array_of ns rest len count p (ap (λ l. get_or l 0 nothing) e ∙ f) (sym (ap (λ l. drop 1 l) e))
+array_behind ns rest m len count p e f = array_of ns rest len p (sym (ap (λ l. array_len (get_or l 0 nothing)) e ∙ ap array_len f)) (sym (ap (λ l. drop 1 l) e))
 
 -- an array is the list of its items
 pub array_from : (t : Tree) (is : Items) (ts : List Tree) → ts ≡ listed is → Some is ≡ as_items t → list (items_from ts) ≡ t
@@ -51,13 +52,13 @@ pub record ObjectOf (ns rest : List Mark) (len : ℕ) : Type 0 where
   pub counted : len ≡ members_len (members_in rest)
   pub members : Some (members_in rest) ≡ as_members (tree_of ns)
 
-pub object_of : (ns rest : List Mark) (len count : ℕ) → IsPreorder ns → get_or ns 0 nothing ≡ object len count → rest ≡ drop 1 ns → ObjectOf ns rest len
-object_of ns rest len count p e r = cases (tree_of ns) refl
+pub object_of : (ns rest : List Mark) (len : ℕ) → IsPreorder ns → Some len ≡ object_len (get_or ns 0 nothing) → rest ≡ drop 1 ns → ObjectOf ns rest len
+object_of ns rest len p e r = cases (tree_of ns) refl
   where
-    first : (t : Tree) → tree_of ns ≡ t → get_or (flat t) 0 nothing ≡ object len count
-    first t f = ap (λ l. get_or l 0 nothing) (sym (p ∙ ap (λ u. flat u) f)) ∙ e
+    first : (t : Tree) → tree_of ns ≡ t → Some len ≡ object_len (get_or (flat t) 0 nothing)
+    first t f = e ∙ ap (λ l. object_len (get_or l 0 nothing)) (p ∙ ap (λ u. flat u) f)
 
-    behind : (ms : Members) → tree_of ns ≡ obj ms → get_or (flat (obj ms)) 0 nothing ≡ object len count → ObjectOf ns rest len
+    behind : (ms : Members) → tree_of ns ≡ obj ms → Some len ≡ object_len (get_or (flat (obj ms)) 0 nothing) → ObjectOf ns rest len
     behind ms f g =
         let are : rest ≡ flat_members ms = r ∙ ap (λ l. drop 1 l) (p ∙ ap (λ u. flat u) f) in
         let same : members_in rest ≡ ms = ap (λ l. members_in l) are ∙ members_in-flat ms in
@@ -77,7 +78,7 @@ object_of ns rest len count p e r = cases (tree_of ns) refl
     cases (obj ms) f = behind ms f (first (obj ms) f)
 
 pub object_behind : (ns rest : List Mark) (m : Mark) (len count : ℕ) → IsPreorder ns → ns ≡ m ∷ rest → m ≡ object len count → ObjectOf ns rest len
-object_behind ns rest m len count p e f = object_of ns rest len count p (ap (λ l. get_or l 0 nothing) e ∙ f) (sym (ap (λ l. drop 1 l) e))
+object_behind ns rest m len count p e f = object_of ns rest len p (sym (ap (λ l. object_len (get_or l 0 nothing)) e ∙ ap object_len f)) (sym (ap (λ l. drop 1 l) e))
 
 -- an object is the list of its members
 pub object_from : (t : Tree) (ms : Members) (ps : List (List ℕ × Tree)) → ps ≡ paired ms → Some ms ≡ as_members t → obj (members_from ps) ≡ t

@@ -1,14 +1,14 @@
 -- Stretches of nodes and the trees, items and members at their front.
-use Rattle.std.proofs.Common.{◌≡◌, ℕ, zero, suc, ◌+◌, ◌<◌, ◌≤◌, Bool, false, nat_eq, List, [], ◌∷◌, ◌++◌, length, take, drop, Some, None, get_or, refl, sym, ap, ◌∙◌, arith, append-nil, length-append}
+use Rattle.std.proofs.Common.{◌≡◌, ℕ, zero, suc, ◌+◌, ◌<◌, ◌≤◌, Bool, false, nat_eq, List, [], ◌∷◌, ◌++◌, length, take, drop, Some, get_or, refl, sym, ap, ◌∙◌, subst, arith, append-nil, length-append}
 use Rattle.std.proofs.lemmas.Bool.Decides.{nat_tests}
-use Rattle.std.proofs.lemmas.List.{take_at, append_cancel_left}
+use Rattle.std.proofs.lemmas.List.{take_at, append_cancel_left, get_or-drop, drop-take, drop-drop, length-drop, take-append-drop}
 use Rattle.sj_text_core.specs.Tree.{Tree, null, boolean, int, text, list, obj, Items, no_items, item, items_len, Members, no_members, member, members_len, listed}
 use Rattle.sj_text_core.specs.Nodes.{Mark, nothing, truth, number, string, array, object, flat, flat_items, flat_members, trees_of, tree_of, first_tree, items_of, members_of, members_in, AreMembers, IsPreorder, width}
 use Rattle.sj_text_core.specs.Flat.{texts_and_values, trees_of-flat, trees_of-flat_members}
 use Rattle.std.specs.Prelude.{slice_get}
 use Rattle.sj_text_core.specs.Find.{nth_item}
 use Rattle.sj_text_core.specs.Code.{tree_of-flat}
-use Rattle.sj_tape.specs.Marks.{split_text}
+use Rattle.sj_tape.specs.Marks.{split_text, text_in}
 use Rattle.sj_tape.specs.Fronts.{BeginsTree}
 use Rattle.sj_tape.specs.Parts.{items_in, AreItemNodes}
 
@@ -59,6 +59,27 @@ first_width ns b =
       some = omega (arith, lens, length-flat b.tree);
       fits = omega (arith, lens, w);
       whole = IsPreorder-flat b.tree _ (ap (λ n. take n ns) w ∙ (ap (λ l. take (length (flat b.tree)) l) b.are ∙ take_at (flat b.tree) b.rest (length (flat b.tree)) refl));
+    }
+
+-- what the node at a place tells where a tree begins there
+pub record TreeAt (place : ℕ) (ns : List Mark) : Type 0 where
+  pub some : place < length ns
+  pub fits : place + width (get_or ns place nothing) ≤ length ns
+  pub whole : IsPreorder (drop place (take (place + width (get_or ns place nothing)) ns))
+  pub all : drop place ns ≡ drop place (take (place + width (get_or ns place nothing)) ns) ++ drop (place + width (get_or ns place nothing)) ns
+
+pub tree_at : (place : ℕ) (ns : List Mark) → BeginsTree (drop place ns) → TreeAt place ns
+tree_at place ns b =
+    let f = first_width (drop place ns) b in
+    let here : place + 0 ≡ place = omega arith in
+    let w = width (get_or ns place nothing) in
+    let same : width (get_or (drop place ns) 0 nothing) ≡ w = ap width (get_or-drop place ns 0 nothing ∙ ap (λ i. get_or ns i nothing) here) in
+    let front : drop place (take (place + w) ns) ≡ take (width (get_or (drop place ns) 0 nothing)) (drop place ns) = drop-take place w ns ∙ ap (λ n. take n (drop place ns)) (sym same) in
+    record {
+      some = omega (arith, f.some, length-drop place ns);
+      fits = omega (arith, f.some, f.fits, same, length-drop place ns);
+      whole = subst IsPreorder (sym front) f.whole;
+      all = sym (take-append-drop w (drop place ns)) ∙ ap (λ l. l ++ drop w (drop place ns)) (sym (drop-take place w ns)) ∙ ap (λ l. drop place (take (place + w) ns) ++ l) (drop-drop w place ns);
     }
 
 trees_of-flat_items : (is : Items) → trees_of (flat_items is) ≡ listed is
@@ -160,13 +181,15 @@ split_text-are (string s ∷ ns) values k e = let h : (k, values) ≡ (s, ns) = 
 split_text-are (array l m ∷ ns) values k e = cc
 split_text-are (object l m ∷ ns) values k e = cc
 
--- members begin with no text where there are none
-pub no_members-left : (ns : List Mark) → AreMembers ns → split_text ns ≡ None → ns ≡ []
-no_members-left ns a e = cases (members_in ns) a
-  where
-    cases : (ms : Members) → ns ≡ flat_members ms → ns ≡ []
-    cases no_members f = f
-    cases (member k t ms) f = let g = sym (ap (λ l. split_text l) f) ∙ e in cc
+-- the same by the first node
+pub first_text-are : (ns values : List Mark) (k : List ℕ) → Some k ≡ text_in (get_or ns 0 nothing) → values ≡ drop 1 ns → ns ≡ string k ∷ values
+first_text-are [] values k e f = cc
+first_text-are (nothing ∷ ns) values k e f = cc
+first_text-are (truth b ∷ ns) values k e f = cc
+first_text-are (number n c ∷ ns) values k e f = cc
+first_text-are (string s ∷ ns) values k e f = ap (λ (p : List ℕ × List Mark). string p.0 ∷ p.1) (let g : (s, ns) ≡ (k, values) = cc in g)
+first_text-are (array l m ∷ ns) values k e f = cc
+first_text-are (object l m ∷ ns) values k e f = cc
 
 -- what stands behind the first key begins with a tree
 pub BeginsTree-member : (ns values : List Mark) (k : List ℕ) → AreMembers ns → ns ≡ string k ∷ values → BeginsTree values

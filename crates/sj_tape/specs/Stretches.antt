@@ -6,4 +6,4 @@ use Rattle.sj_tape.specs.declared.nodes.Nodes.{Nodes}
 
 -- however they lie
 unfoldable pub nodes_in : Nodes → List Mark
-nodes_in ns = stretch ns.lists.now ns.from ns.len
+nodes_in ns = stretch ns.lists.now ns.from ns.end

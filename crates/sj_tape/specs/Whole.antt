@@ -15,4 +15,4 @@ all_nodes [] = nothing ∷ []
 all_nodes (list ∷ lists) = list_nodes list
 
 abbrev pub stretch : List Whole → ℕ → ℕ → List Mark
-stretch lists from len = take len (drop from (all_nodes lists))
+stretch lists from end = drop from (take end (all_nodes lists))

@@ -8,7 +8,6 @@ ghost use Rattle.sj_tape.specs.Stretches.{nodes_in};
 ghost use Rattle.sj_tape.specs.Parts.{AreItemNodes, items_in};
 
 use crate::nodes::Nodes;
-use crate::step::split_tree;
 use crate::value::Value;
 use sj_text_core::Repeats;
 
@@ -79,9 +78,8 @@ impl<'t, 'i> Array<'t, 'i> {
         if index >= self.len {
             return None;
         }
-        let behind = self.nodes.from(self.nodes.item_place(index));
-        let (first, _) = split_tree(behind);
-        Some(Value::from_nodes(first, self.repeats))
+        let mut behind = self.nodes.from(self.nodes.item_place(index));
+        Some(Value::take(&mut behind, 0, self.repeats))
     }
 }
 
@@ -109,8 +107,6 @@ impl<'t, 'i> Iterator for Iter<'t, 'i> {
         if self.nodes.is_empty() {
             return None;
         }
-        let (first, rest) = split_tree(self.nodes);
-        self.nodes = rest;
-        Some(Value::from_nodes(first, self.repeats))
+        Some(Value::take(&mut self.nodes, 0, self.repeats))
     }
 }

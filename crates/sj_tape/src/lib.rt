@@ -19,6 +19,7 @@
 #![tactic(auto)]
 
 pub mod array;
+mod kept;
 pub mod laws;
 mod list;
 mod node;
@@ -28,7 +29,6 @@ mod packed;
 mod preorder;
 mod reader;
 mod search;
-mod step;
 mod tape;
 mod value;
 

@@ -4,7 +4,7 @@ ghost use Rattle.std.specs.Prelude.{◌≡◌, ◌^◌, ◌<◌};
 ghost use Rattle.sj_text_core.specs.Nodes.{width};
 ghost use Rattle.sj_tape.specs.Marks.{mark};
 
-use crate::list::Kept;
+use crate::kept::Kept;
 use sj_text_core::StaticNode;
 
 /// One node of a tape.
@@ -34,7 +34,6 @@ impl<'i> Node<'i> {
     }
 }
 
-// Few tapes keep such nodes, so these calls stay out of the loops over packed ones.
 impl<'i> Kept<'i> for Node<'i> {
     ghost mark_of = { mark };
 
@@ -43,18 +42,32 @@ impl<'i> Kept<'i> for Node<'i> {
         self
     }
 
-    #[cold]
-    #[inline(never)]
+    #[inline(always)]
     fn width(&self) -> usize {
         Node::width(self)
     }
 
-    #[cold]
-    #[inline(never)]
+    #[inline(always)]
     fn text(&self) -> Option<&'i str> {
         match *self {
             Node::String(text) => Some(text),
             Node::Static(_) | Node::Array { .. } | Node::Object { .. } => None,
+        }
+    }
+
+    #[inline(always)]
+    fn array_len(&self) -> Option<usize> {
+        match *self {
+            Node::Array { len, .. } => Some(len),
+            Node::Static(_) | Node::String(_) | Node::Object { .. } => None,
+        }
+    }
+
+    #[inline(always)]
+    fn object_len(&self) -> Option<usize> {
+        match *self {
+            Node::Object { len, .. } => Some(len),
+            Node::Static(_) | Node::String(_) | Node::Array { .. } => None,
         }
     }
 }

@@ -1,9 +1,10 @@
 //! Nodes one behind another, as reads of a tape see them.
 #![tactic(auto, unfolding(crate::specs::Stretches::nodes_in))]
 
-ghost use Rattle.std.specs.Prelude.{◌+◌, ◌≤◌, ◌<◌, ◌^◌, length};
-ghost use Rattle.sj_tape.specs.Whole.{all_nodes, stretch};
+ghost use Rattle.std.specs.Prelude.{◌≤◌, ◌<◌, ◌^◌, length};
+ghost use Rattle.sj_tape.specs.Whole.{all_nodes};
 
+use crate::kept::{Kept, between, item_place, kept_at};
 use crate::list::List;
 use crate::node::Node;
 use crate::packed::Packed;
@@ -15,16 +16,16 @@ use std::{fmt, slice};
 pub struct Nodes<'t, 'i> {
     lists: &'t [List<'i>],
     from: usize,
-    len: usize,
-    ghost within: { from + len ≤ length (all_nodes lists.now) },
-    ghost ends: { from + len < 2 ^ 64 },
-    ghost fits: { length (stretch lists.now from len) < 2 ^ 64 },
+    end: usize,
+    ghost order: { from ≤ end },
+    ghost within: { end ≤ length (all_nodes lists.now) },
+    ghost fits: { end < 2 ^ 64 },
 }
 
 impl<'t, 'i> Nodes<'t, 'i> {
     ghost use Rattle.std.specs.Prelude.{◌≡◌, ◌∷◌, [], nat_eq, get_or, take, drop, IfNone, IfSome, option_map};
     ghost use Rattle.sj_text_core.specs.Nodes.{nothing, width};
-    ghost use Rattle.sj_tape.specs.Marks.{mark, packed_marks, split_text, text_in};
+    ghost use Rattle.sj_tape.specs.Marks.{mark, packed_marks, array_len, object_len, text_in};
     ghost use Rattle.sj_tape.specs.Stretches.{nodes_in};
     ghost use Rattle.sj_tape.specs.Whole.{list_nodes};
     ghost use Rattle.sj_text_core.specs.Tree.{items_len};
@@ -37,7 +38,7 @@ impl<'t, 'i> Nodes<'t, 'i> {
         Nodes {
             lists: &[],
             from: 0,
-            len: 1,
+            end: 1,
         }
     }
 
@@ -49,18 +50,19 @@ impl<'t, 'i> Nodes<'t, 'i> {
         Nodes {
             lists: slice::from_ref(list),
             from: 0,
-            len: list.len(),
+            end: list.len(),
         }
     }
 
     /// The nodes, where they are packed.
-    #[tactic(auto, using(crate::proofs::Stretched::stretch_of), unfolding(crate::specs::Stretches::nodes_in))]
     #[inline(always)]
     pub(crate) fn packed(&self) -> Option<&'t [Packed<'i>]>
         ensures { IfSome result (λ p. packed_marks p.now ≡ nodes_in self.now) }
     {
-        let nodes = self.lists.first()?.packed()?;
-        Some(&nodes[self.from..self.from + self.len])
+        match self.lists.first()? {
+            List::Packed(nodes) => Some(between(nodes.as_slice(), self.from, self.end)),
+            List::Plain(_) => None,
+        }
     }
 
     /// How many they are.
@@ -68,7 +70,7 @@ impl<'t, 'i> Nodes<'t, 'i> {
     pub fn len(&self) -> usize
         ensures { result ≡ length (nodes_in self.now) }
     {
-        self.len
+        self.end - self.from
     }
 
     /// Whether there are none.
@@ -76,7 +78,7 @@ impl<'t, 'i> Nodes<'t, 'i> {
     pub fn is_empty(&self) -> bool
         ensures { result ≡ nat_eq (length (nodes_in self.now)) 0 }
     {
-        self.len() == 0
+        self.from == self.end
     }
 
     /// The node at that place, which has to be below `len`.
@@ -86,7 +88,8 @@ impl<'t, 'i> Nodes<'t, 'i> {
         ensures { mark result ≡ get_or (nodes_in self.now) place nothing }
     {
         match self.lists.first() {
-            Some(list) => list.at(self.from + place),
+            Some(List::Packed(nodes)) => kept_at(nodes.as_slice(), self.from + place).node(),
+            Some(List::Plain(nodes)) => kept_at(nodes.as_slice(), self.from + place).node(),
             None => Node::Static(StaticNode::Null),
         }
     }
@@ -97,7 +100,37 @@ impl<'t, 'i> Nodes<'t, 'i> {
         requires { place < length (nodes_in self.now) }
         ensures { option_map (λ s. s.now) result ≡ text_in (get_or (nodes_in self.now) place nothing) }
     {
-        self.lists.first()?.text_at(self.from + place)
+        match self.lists.first() {
+            Some(List::Packed(nodes)) => kept_at(nodes.as_slice(), self.from + place).text(),
+            Some(List::Plain(nodes)) => kept_at(nodes.as_slice(), self.from + place).text(),
+            None => None,
+        }
+    }
+
+    /// How many items the first node says, where it is an array's.
+    #[inline(always)]
+    pub(crate) fn array_len(&self) -> Option<usize>
+        requires { 0 < length (nodes_in self.now) }
+        ensures { result ≡ array_len (get_or (nodes_in self.now) 0 nothing) }
+    {
+        match self.lists.first() {
+            Some(List::Packed(nodes)) => kept_at(nodes.as_slice(), self.from).array_len(),
+            Some(List::Plain(nodes)) => kept_at(nodes.as_slice(), self.from).array_len(),
+            None => None,
+        }
+    }
+
+    /// How many members the first node says, where it is an object's.
+    #[inline(always)]
+    pub(crate) fn object_len(&self) -> Option<usize>
+        requires { 0 < length (nodes_in self.now) }
+        ensures { result ≡ object_len (get_or (nodes_in self.now) 0 nothing) }
+    {
+        match self.lists.first() {
+            Some(List::Packed(nodes)) => kept_at(nodes.as_slice(), self.from).object_len(),
+            Some(List::Plain(nodes)) => kept_at(nodes.as_slice(), self.from).object_len(),
+            None => None,
+        }
     }
 
     /// The first node and those behind it; None where there are none.
@@ -112,15 +145,16 @@ impl<'t, 'i> Nodes<'t, 'i> {
         Some((self.at(0), self.from(1)))
     }
 
-    /// How many nodes the tree has that begins with the first.
+    /// How many nodes the tree has that begins at that place, which has to be below `len`.
     #[inline(always)]
-    pub(crate) fn first_width(&self) -> usize
-        requires some { 0 < length (nodes_in self.now) }
-        requires fits { width (get_or (nodes_in self.now) 0 nothing) < 2 ^ 64 }
-        ensures { result ≡ width (get_or (nodes_in self.now) 0 nothing) }
+    pub(crate) fn width_at(&self, place: usize) -> usize
+        requires place { place < length (nodes_in self.now) }
+        requires fits { width (get_or (nodes_in self.now) place nothing) < 2 ^ 64 }
+        ensures { result ≡ width (get_or (nodes_in self.now) place nothing) }
     {
         match self.lists.first() {
-            Some(list) => list.width_at(self.from),
+            Some(List::Packed(nodes)) => kept_at(nodes.as_slice(), self.from + place).width(),
+            Some(List::Plain(nodes)) => kept_at(nodes.as_slice(), self.from + place).width(),
             None => 1,
         }
     }
@@ -133,22 +167,14 @@ impl<'t, 'i> Nodes<'t, 'i> {
         ensures { ItemsFrom (nodes_in self.now) position result }
     {
         match self.lists.first() {
-            Some(list) => list.item_place(self.from, self.len, position),
+            Some(List::Packed(nodes)) => {
+                item_place(between(nodes.as_slice(), self.from, self.end), position)
+            }
+            Some(List::Plain(nodes)) => {
+                item_place(between(nodes.as_slice(), self.from, self.end), position)
+            }
             None => position,
         }
-    }
-
-    /// The first node's text and the nodes behind it; None where the first is no text, or there is
-    /// none.
-    #[inline(always)]
-    pub(crate) fn split_text(&self) -> Option<(&'i str, Nodes<'t, 'i>)>
-        ensures { option_map (λ p. (p.0.now, nodes_in p.1)) result ≡ split_text (nodes_in self.now) }
-    {
-        if self.is_empty() {
-            return None;
-        }
-        let text = self.text_at(0)?;
-        Some((text, self.from(1)))
     }
 
     /// The nodes before that place, which may be at most `len`, and those from it on.
@@ -158,12 +184,30 @@ impl<'t, 'i> Nodes<'t, 'i> {
         ensures front { nodes_in result.0 ≡ take place (nodes_in self.now) }
         ensures back { nodes_in result.1 ≡ drop place (nodes_in self.now) }
     {
-        let front = Nodes {
+        (self.between(0, place), self.from(place))
+    }
+
+    /// The nodes from one place on and before another, which may be at most `len`.
+    #[inline(always)]
+    pub(crate) fn between(&self, place: usize, end: usize) -> Nodes<'t, 'i>
+        requires order { place ≤ end }
+        requires within { end ≤ length (nodes_in self.now) }
+        ensures { nodes_in result ≡ drop place (take end (nodes_in self.now)) }
+    {
+        Nodes {
             lists: self.lists,
-            from: self.from,
-            len: place,
-        };
-        (front, self.from(place))
+            from: self.from + place,
+            end: self.from + end,
+        }
+    }
+
+    /// Leaves out the nodes before that place, which may be at most `len`.
+    #[inline(always)]
+    pub(crate) fn skip(&mut self, place: usize)
+        requires { place ≤ length (nodes_in self.old) }
+        ensures { nodes_in self.new ≡ drop place (nodes_in self.old) }
+    {
+        self.from += place;
     }
 
     /// The nodes from that place on, which may be at most `len`.
@@ -175,7 +219,7 @@ impl<'t, 'i> Nodes<'t, 'i> {
         Nodes {
             lists: self.lists,
             from: self.from + place,
-            len: self.len - place,
+            end: self.end,
         }
     }
 }

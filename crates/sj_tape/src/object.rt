@@ -8,7 +8,6 @@ ghost use Rattle.sj_text_core.specs.Tree.{members_len};
 ghost use Rattle.sj_tape.specs.Stretches.{nodes_in};
 
 use crate::nodes::Nodes;
-use crate::step::split_tree;
 use crate::value::Value;
 use sj_text_core::{Repeats, are_same_texts};
 
@@ -173,10 +172,13 @@ impl<'t, 'i> Iterator for Iter<'t, 'i> {
 
     #[inline(always)]
     fn next(&mut self) -> Option<(&'i str, Value<'t, 'i>)> {
-        let (name, values) = self.nodes.split_text()?;
-        let (value, rest) = split_tree(values);
-        self.nodes = rest;
-        Some((name, Value::from_nodes(value, self.repeats)))
+        if self.nodes.is_empty() {
+            return None;
+        }
+        let Some(name) = self.nodes.text_at(0) else {
+            unreachable!()
+        };
+        Some((name, Value::take(&mut self.nodes, 1, self.repeats)))
     }
 }
 

@@ -4,7 +4,7 @@ ghost use Rattle.std.specs.Prelude.{◌≡◌, ◌<◌, ◌^◌, ◌*◌, ◌+�
 ghost use Rattle.sj_text_core.specs.Nodes.{string, width};
 ghost use Rattle.sj_tape.specs.Marks.{static_mark, mark, packed_mark, text_in};
 
-use crate::list::Kept;
+use crate::kept::Kept;
 use crate::node::Node;
 use sj_print::PlainText;
 use sj_text_core::StaticNode;
@@ -125,6 +125,22 @@ impl<'i> Kept<'i> for Packed<'i> {
         match *self {
             Packed::String(text) => Some(text),
             Packed::Plain(plain) => Some(plain.text),
+            _ => None,
+        }
+    }
+
+    #[inline(always)]
+    fn array_len(&self) -> Option<usize> {
+        match *self {
+            Packed::Array { len, .. } => Some(len),
+            _ => None,
+        }
+    }
+
+    #[inline(always)]
+    fn object_len(&self) -> Option<usize> {
+        match *self {
+            Packed::Object { len, .. } => Some(len),
             _ => None,
         }
     }

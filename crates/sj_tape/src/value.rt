@@ -27,9 +27,10 @@ pub struct Value<'t, 'i> {
 }
 
 impl<'t, 'i> Value<'t, 'i> {
-    ghost use Rattle.std.specs.Prelude.{◌≡◌};
+    ghost use Rattle.std.specs.Prelude.{◌≡◌, ◌++◌, drop};
     ghost use Rattle.sj_text_core.specs.Nodes.{tree_of};
     ghost use Rattle.sj_text_core.specs.Tree.{null};
+    ghost use Rattle.sj_tape.specs.Fronts.{BeginsTree};
     ghost use Rattle.sj_tape.specs.Value.{tree, choice, part};
 
     /// A null of its own.
@@ -50,6 +51,23 @@ impl<'t, 'i> Value<'t, 'i> {
         ensures { part result ≡ (repeats, tree_of (nodes_in nodes.entry)) }
     {
         Value { nodes, repeats }
+    }
+
+    /// Takes the tree at that place, and what stands before it, off the front of the nodes: one
+    /// step by its `count`.
+    #[inline(always)]
+    pub(crate) fn take(nodes: &mut Nodes<'t, 'i>, place: usize, repeats: Repeats) -> Self
+        requires { BeginsTree (drop place (nodes_in nodes.old)) }
+        ensures choice { choice result ≡ repeats }
+        ensures all { drop place (nodes_in nodes.old) ≡ nodes_in result.nodes ++ nodes_in nodes.new }
+    {
+        let end = place + nodes.width_at(place);
+        let tree = nodes.between(place, end);
+        nodes.skip(end);
+        Value {
+            nodes: tree,
+            repeats,
+        }
     }
 
     /// Which member of several with one key counts.

@@ -7,23 +7,23 @@ ghost use Rattle.sj_text_core.specs.Scalars.{static_tree};
 ghost use Rattle.sj_text_core.specs.Tree.{null, boolean, int, text, list, obj, no_items, no_members, i64, u64, i128, u128};
 
 use super::{Lazy, Shared, Value};
-use sj_document::Document;
+use sj_document::{BorrowedValue, Document};
 use sj_object::KeyText;
 use sj_text_core::StaticNode;
 use std::alloc::{AllocError, Global};
 use std::borrow::CowStr;
 
-impl<P, B, T: KeyText + Drop> Lazy<P, B, T> {
+impl<'b, 't, 'i> Value<'b, 't, 'i> {
     /// An empty array.
     pub fn array(alloc: Global) -> Result<Self, AllocError>
-        ensures { IfOk result (λ v. owned T.text_of v ≡ Some (list no_items)) }
+        ensures { IfOk result (λ v. owned cow_str_bytes v ≡ Some (list no_items)) }
     {
         Ok(Lazy::Value(Shared::Owned(Document::array(alloc)?)))
     }
 
     /// An empty array with room for that many items.
     pub fn array_with_capacity(alloc: Global, capacity: usize) -> Result<Self, AllocError>
-        ensures { IfOk result (λ v. owned T.text_of v ≡ Some (list no_items)) }
+        ensures { IfOk result (λ v. owned cow_str_bytes v ≡ Some (list no_items)) }
     {
         let document = Document::array_with_capacity(alloc, capacity)?;
         Ok(Lazy::Value(Shared::Owned(document)))
@@ -31,14 +31,14 @@ impl<P, B, T: KeyText + Drop> Lazy<P, B, T> {
 
     /// An empty object.
     pub fn object(alloc: Global) -> Result<Self, AllocError>
-        ensures { IfOk result (λ v. owned T.text_of v ≡ Some (obj no_members)) }
+        ensures { IfOk result (λ v. owned cow_str_bytes v ≡ Some (obj no_members)) }
     {
         Ok(Lazy::Value(Shared::Owned(Document::object(alloc)?)))
     }
 
     /// An empty object with room for that many members.
     pub fn object_with_capacity(alloc: Global, capacity: usize) -> Result<Self, AllocError>
-        ensures { IfOk result (λ v. owned T.text_of v ≡ Some (obj no_members)) }
+        ensures { IfOk result (λ v. owned cow_str_bytes v ≡ Some (obj no_members)) }
     {
         let document = Document::object_with_capacity(alloc, capacity)?;
         Ok(Lazy::Value(Shared::Owned(document)))
@@ -46,20 +46,20 @@ impl<P, B, T: KeyText + Drop> Lazy<P, B, T> {
 }
 
 /// The document.
-impl<P, B, T: KeyText> From<Document<T>> for Lazy<P, B, T> {
+impl<'b, 't, 'i> From<BorrowedValue<'i>> for Value<'b, 't, 'i> {
     ghost use Rattle.sj_lazy.specs.declared.value.Lazy.TheVariants.{Value};
     ghost use Rattle.sj_lazy.specs.declared.value.Shared.TheVariants.{Owned};
 
     ghost from_gives = { λ d v. v ≡ Value (Owned d) };
 
-    fn from(document: Document<T>) -> Self {
+    fn from(document: BorrowedValue<'i>) -> Self {
         Lazy::Value(Shared::Owned(document))
     }
 }
 
 /// The scalar, with its carrier.
-impl<P, B, T: KeyText> From<StaticNode> for Lazy<P, B, T> {
-    ghost from_gives = { λ n v. owned T.text_of v ≡ Some (static_tree n) };
+impl<'b, 't, 'i> From<StaticNode> for Value<'b, 't, 'i> {
+    ghost from_gives = { λ n v. owned cow_str_bytes v ≡ Some (static_tree n) };
 
     fn from(scalar: StaticNode) -> Self {
         Lazy::Value(Shared::Owned(Document::Static(scalar)))
@@ -67,8 +67,8 @@ impl<P, B, T: KeyText> From<StaticNode> for Lazy<P, B, T> {
 }
 
 /// A null.
-impl<P, B, T: KeyText> From<()> for Lazy<P, B, T> {
-    ghost from_gives = { λ _ v. owned T.text_of v ≡ Some (null) };
+impl<'b, 't, 'i> From<()> for Value<'b, 't, 'i> {
+    ghost from_gives = { λ _ v. owned cow_str_bytes v ≡ Some (null) };
 
     fn from(_nothing: ()) -> Self {
         Lazy::Value(Shared::Owned(Document::Static(StaticNode::Null)))
@@ -76,8 +76,8 @@ impl<P, B, T: KeyText> From<()> for Lazy<P, B, T> {
 }
 
 /// The truth value.
-impl<P, B, T: KeyText> From<bool> for Lazy<P, B, T> {
-    ghost from_gives = { λ b v. owned T.text_of v ≡ Some (boolean b) };
+impl<'b, 't, 'i> From<bool> for Value<'b, 't, 'i> {
+    ghost from_gives = { λ b v. owned cow_str_bytes v ≡ Some (boolean b) };
 
     fn from(truth: bool) -> Self {
         Lazy::Value(Shared::Owned(Document::Static(StaticNode::Bool(truth))))
@@ -85,8 +85,8 @@ impl<P, B, T: KeyText> From<bool> for Lazy<P, B, T> {
 }
 
 /// The number, carried in `i64`.
-impl<P, B, T: KeyText> From<i8> for Lazy<P, B, T> {
-    ghost from_gives = { λ n v. owned T.text_of v ≡ Some (int n i64) };
+impl<'b, 't, 'i> From<i8> for Value<'b, 't, 'i> {
+    ghost from_gives = { λ n v. owned cow_str_bytes v ≡ Some (int n i64) };
 
     fn from(number: i8) -> Self {
         Lazy::Value(Shared::Owned(Document::Static(StaticNode::I64(i64::from(number)))))
@@ -94,8 +94,8 @@ impl<P, B, T: KeyText> From<i8> for Lazy<P, B, T> {
 }
 
 /// The number, carried in `i64`.
-impl<P, B, T: KeyText> From<i16> for Lazy<P, B, T> {
-    ghost from_gives = { λ n v. owned T.text_of v ≡ Some (int n i64) };
+impl<'b, 't, 'i> From<i16> for Value<'b, 't, 'i> {
+    ghost from_gives = { λ n v. owned cow_str_bytes v ≡ Some (int n i64) };
 
     fn from(number: i16) -> Self {
         Lazy::Value(Shared::Owned(Document::Static(StaticNode::I64(i64::from(number)))))
@@ -103,8 +103,8 @@ impl<P, B, T: KeyText> From<i16> for Lazy<P, B, T> {
 }
 
 /// The number, carried in `i64`.
-impl<P, B, T: KeyText> From<i32> for Lazy<P, B, T> {
-    ghost from_gives = { λ n v. owned T.text_of v ≡ Some (int n i64) };
+impl<'b, 't, 'i> From<i32> for Value<'b, 't, 'i> {
+    ghost from_gives = { λ n v. owned cow_str_bytes v ≡ Some (int n i64) };
 
     fn from(number: i32) -> Self {
         Lazy::Value(Shared::Owned(Document::Static(StaticNode::I64(i64::from(number)))))
@@ -112,8 +112,8 @@ impl<P, B, T: KeyText> From<i32> for Lazy<P, B, T> {
 }
 
 /// The number, carried in `i64`.
-impl<P, B, T: KeyText> From<i64> for Lazy<P, B, T> {
-    ghost from_gives = { λ n v. owned T.text_of v ≡ Some (int n i64) };
+impl<'b, 't, 'i> From<i64> for Value<'b, 't, 'i> {
+    ghost from_gives = { λ n v. owned cow_str_bytes v ≡ Some (int n i64) };
 
     fn from(number: i64) -> Self {
         Lazy::Value(Shared::Owned(Document::Static(StaticNode::I64(number))))
@@ -121,8 +121,8 @@ impl<P, B, T: KeyText> From<i64> for Lazy<P, B, T> {
 }
 
 /// The number, carried in `i128`.
-impl<P, B, T: KeyText> From<i128> for Lazy<P, B, T> {
-    ghost from_gives = { λ n v. owned T.text_of v ≡ Some (int n i128) };
+impl<'b, 't, 'i> From<i128> for Value<'b, 't, 'i> {
+    ghost from_gives = { λ n v. owned cow_str_bytes v ≡ Some (int n i128) };
 
     fn from(number: i128) -> Self {
         Lazy::Value(Shared::Owned(Document::Static(StaticNode::I128(number))))
@@ -130,8 +130,8 @@ impl<P, B, T: KeyText> From<i128> for Lazy<P, B, T> {
 }
 
 /// The number, carried in `u64`.
-impl<P, B, T: KeyText> From<u8> for Lazy<P, B, T> {
-    ghost from_gives = { λ n v. owned T.text_of v ≡ Some (int (pos n) u64) };
+impl<'b, 't, 'i> From<u8> for Value<'b, 't, 'i> {
+    ghost from_gives = { λ n v. owned cow_str_bytes v ≡ Some (int (pos n) u64) };
 
     fn from(number: u8) -> Self {
         Lazy::Value(Shared::Owned(Document::Static(StaticNode::U64(u64::from(number)))))
@@ -139,8 +139,8 @@ impl<P, B, T: KeyText> From<u8> for Lazy<P, B, T> {
 }
 
 /// The number, carried in `u64`.
-impl<P, B, T: KeyText> From<u16> for Lazy<P, B, T> {
-    ghost from_gives = { λ n v. owned T.text_of v ≡ Some (int (pos n) u64) };
+impl<'b, 't, 'i> From<u16> for Value<'b, 't, 'i> {
+    ghost from_gives = { λ n v. owned cow_str_bytes v ≡ Some (int (pos n) u64) };
 
     fn from(number: u16) -> Self {
         Lazy::Value(Shared::Owned(Document::Static(StaticNode::U64(u64::from(number)))))
@@ -148,8 +148,8 @@ impl<P, B, T: KeyText> From<u16> for Lazy<P, B, T> {
 }
 
 /// The number, carried in `u64`.
-impl<P, B, T: KeyText> From<u32> for Lazy<P, B, T> {
-    ghost from_gives = { λ n v. owned T.text_of v ≡ Some (int (pos n) u64) };
+impl<'b, 't, 'i> From<u32> for Value<'b, 't, 'i> {
+    ghost from_gives = { λ n v. owned cow_str_bytes v ≡ Some (int (pos n) u64) };
 
     fn from(number: u32) -> Self {
         Lazy::Value(Shared::Owned(Document::Static(StaticNode::U64(u64::from(number)))))
@@ -157,8 +157,8 @@ impl<P, B, T: KeyText> From<u32> for Lazy<P, B, T> {
 }
 
 /// The number, carried in `u64`.
-impl<P, B, T: KeyText> From<u64> for Lazy<P, B, T> {
-    ghost from_gives = { λ n v. owned T.text_of v ≡ Some (int (pos n) u64) };
+impl<'b, 't, 'i> From<u64> for Value<'b, 't, 'i> {
+    ghost from_gives = { λ n v. owned cow_str_bytes v ≡ Some (int (pos n) u64) };
 
     fn from(number: u64) -> Self {
         Lazy::Value(Shared::Owned(Document::Static(StaticNode::U64(number))))
@@ -166,8 +166,8 @@ impl<P, B, T: KeyText> From<u64> for Lazy<P, B, T> {
 }
 
 /// The number, carried in `u64`.
-impl<P, B, T: KeyText> From<usize> for Lazy<P, B, T> {
-    ghost from_gives = { λ n v. owned T.text_of v ≡ Some (int (pos n) u64) };
+impl<'b, 't, 'i> From<usize> for Value<'b, 't, 'i> {
+    ghost from_gives = { λ n v. owned cow_str_bytes v ≡ Some (int (pos n) u64) };
 
     fn from(number: usize) -> Self {
         Lazy::Value(Shared::Owned(Document::Static(StaticNode::U64(number as u64))))
@@ -175,8 +175,8 @@ impl<P, B, T: KeyText> From<usize> for Lazy<P, B, T> {
 }
 
 /// The number, carried in `u128`.
-impl<P, B, T: KeyText> From<u128> for Lazy<P, B, T> {
-    ghost from_gives = { λ n v. owned T.text_of v ≡ Some (int (pos n) u128) };
+impl<'b, 't, 'i> From<u128> for Value<'b, 't, 'i> {
+    ghost from_gives = { λ n v. owned cow_str_bytes v ≡ Some (int (pos n) u128) };
 
     fn from(number: u128) -> Self {
         Lazy::Value(Shared::Owned(Document::Static(StaticNode::U128(number))))

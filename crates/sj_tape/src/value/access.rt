@@ -25,14 +25,9 @@ impl<'t, 'i> Value<'t, 'i> {
         ensures items { option_map items result ≡ as_items (tree self.now) }
         ensures choice { IfSome result (λ a. array_choice a ≡ choice self.now) }
     {
-        match self.nodes.at(0) {
-            Node::Array { len, .. } => Some(Array::from_nodes(
-                len,
-                self.nodes.from(1),
-                self.repeats,
-            )),
-            _ => None,
-        }
+        let len = self.nodes.array_len()?;
+        let nodes = self.nodes.from(1);
+        Some(Array::from_nodes(len, nodes, self.repeats))
     }
 
     /// The members, where it is an object; else None.
@@ -41,14 +36,9 @@ impl<'t, 'i> Value<'t, 'i> {
         ensures members { option_map members result ≡ as_members (tree self.now) }
         ensures choice { IfSome result (λ o. object_choice o ≡ choice self.now) }
     {
-        match self.nodes.at(0) {
-            Node::Object { len, .. } => Some(Object::from_nodes(
-                len,
-                self.nodes.from(1),
-                self.repeats,
-            )),
-            _ => None,
-        }
+        let len = self.nodes.object_len()?;
+        let nodes = self.nodes.from(1);
+        Some(Object::from_nodes(len, nodes, self.repeats))
     }
 
     /// As `as_array`; of another part, that an array was expected and which kind it is.

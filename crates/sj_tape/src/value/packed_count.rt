@@ -8,7 +8,7 @@ ghost use Rattle.sj_tape.specs.Marks.{packed_mark, packed_marks};
 ghost use Rattle.sj_tape.specs.PackedTree.{packed_tree};
 
 use super::packed_tree::PackedTree;
-use crate::list::Kept;
+use crate::kept::Kept;
 use crate::node::Node;
 use crate::packed::Packed;
 use sj_print::{Count, Output, PlainText, count};

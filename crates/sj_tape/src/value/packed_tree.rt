@@ -10,7 +10,7 @@ ghost use Rattle.sj_tape.specs.Parts.{AreItemNodes};
 
 use super::Value;
 use super::packed_key::{PackedKey, split_key};
-use crate::list::Kept;
+use crate::kept::Kept;
 use crate::node::Node;
 use crate::packed::Packed;
 use sj_print::{Level, Parts, PlainText};

@@ -1,6 +1,6 @@
 use Rattle.std.specs.Prelude.{◌-◌, ◌≤◌, map}
 use Rattle.sj_tape.specs.Parts.{ItemsFrom}
-use Rattle.sj_tape.proofs.list.item_place.Given as goal
+use Rattle.sj_tape.proofs.kept.item_place.Given as goal
 
 abbrev pub invariant-loop-passed : goal.invariant-loop-passed
 invariant-loop-passed g l = record {

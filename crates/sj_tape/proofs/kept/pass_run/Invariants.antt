@@ -1,6 +1,6 @@
 use Rattle.std.specs.Prelude.{map}
 use Rattle.sj_tape.specs.Parts.{ItemsFrom}
-use Rattle.sj_tape.proofs.list.pass_run.Given as goal
+use Rattle.sj_tape.proofs.kept.pass_run.Given as goal
 
 abbrev pub invariant-loop-count : goal.invariant-loop-count
 invariant-loop-count g l = ItemsFrom (map g.N.Kept.mark_of l.nodes) l.count l.at
