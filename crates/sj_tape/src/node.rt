@@ -1,8 +1,8 @@
 //! Nodes.
 
-ghost use Rattle.std.specs.Prelude.{◌≡◌, ◌^◌, ◌<◌};
+ghost use Rattle.std.specs.Prelude.{◌≡◌, ◌^◌, ◌<◌, is_some};
 ghost use Rattle.sj_text_core.specs.Nodes.{width};
-ghost use Rattle.sj_tape.specs.Marks.{mark};
+ghost use Rattle.sj_tape.specs.Marks.{mark, text_in};
 
 use crate::kept::Kept;
 use sj_text_core::StaticNode;
@@ -34,6 +34,21 @@ impl<'i> Node<'i> {
     }
 }
 
+impl<'i> Node<'i> {
+    /// Whether it is a text.
+    #[cold]
+    #[inline(never)]
+    fn is_string(&self) -> bool
+        ensures { result ≡ is_some (text_in (mark self.now)) }
+    {
+        match self {
+            Node::String(_) => true,
+            Node::Static(_) | Node::Array { .. } | Node::Object { .. } => false,
+        }
+    }
+}
+
+// Few tapes keep such nodes: two calls keep these reads out of the way of packed nodes.
 impl<'i> Kept<'i> for Node<'i> {
     ghost mark_of = { mark };
 
@@ -42,13 +57,17 @@ impl<'i> Kept<'i> for Node<'i> {
         self
     }
 
-    #[inline(always)]
+    #[cold]
+    #[inline(never)]
     fn width(&self) -> usize {
         Node::width(self)
     }
 
     #[inline(always)]
     fn text(&self) -> Option<&'i str> {
+        if !self.is_string() {
+            return None;
+        }
         match *self {
             Node::String(text) => Some(text),
             Node::Static(_) | Node::Array { .. } | Node::Object { .. } => None,

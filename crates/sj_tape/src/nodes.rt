@@ -154,7 +154,7 @@ impl<'t, 'i> Nodes<'t, 'i> {
     {
         match self.lists.first() {
             Some(List::Packed(nodes)) => kept_at(nodes.as_slice(), self.from + place).width(),
-            Some(List::Plain(nodes)) => kept_at(nodes.as_slice(), self.from + place).width(),
+            Some(List::Plain(nodes)) => Kept::width(kept_at(nodes.as_slice(), self.from + place)),
             None => 1,
         }
     }
