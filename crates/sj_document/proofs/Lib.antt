@@ -13,3 +13,8 @@ pub mod Levels
 pub mod Pairs
 pub mod rows
 pub mod Makes
+pub mod Nodes
+pub mod Loans
+pub mod Lent
+pub mod Descents
+pub mod Results

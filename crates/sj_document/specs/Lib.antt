@@ -2,6 +2,7 @@ pub mod Document
 pub mod Rows
 pub mod SameWith
 pub mod Makes
+pub mod Nodes
 pub use Rattle.sj_text_core.specs.Tree
 pub use Rattle.sj_text_core.specs.Find
 pub use Rattle.sj_text_core.specs.Paths
@@ -17,3 +18,5 @@ pub use Rattle.sj_object.specs.Edits
 pub use Rattle.sj_object.specs.Keys
 pub use Rattle.sj_object.specs.Builder
 pub use Rattle.sj_tape.specs.Value
+pub mod Taken
+pub mod Descents

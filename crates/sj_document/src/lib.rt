@@ -12,10 +12,11 @@ mod value;
 
 pub use sj_object::{Builder, HashMap, KeyText, Made, ObjectHasher};
 pub use sj_text_core::{
-    AccessError, ExtendedValueType, Refused, SameAs, StaticNode, TryMake, TryTypeError, TypedValue,
-    ValueAsScalar, ValueType, Writable, WriteError,
+    AccessError, ExtendedValueType, JsonError, Refused, SameAs, StaticNode, TryMake, TryTypeError,
+    TypedValue, ValueAsScalar, ValueType, Writable, WriteError,
 };
 pub use value::{
-    BorrowedValue, CopyText, Document, Object, OwnedValue, borrowed_from_tape, owned_from_tape,
-    replace_at, same,
+    BorrowedValue, Change, CopyText, Document, Leads, LendItem, LendMember, Object, OwnedValue,
+    Replace, Taken, borrowed_from_tape, change_item, change_member, climb, descend,
+    owned_from_tape, replace_at, same, swap_item, swap_member, swap_token,
 };

@@ -5,36 +5,57 @@ ghost use Rattle.sj_text_core.specs.Tree.{null, list, obj, no_items, no_members}
 
 mod access;
 mod build;
+mod change;
 mod cmp;
 mod convert;
 mod copy;
+mod drops;
 mod edit;
 mod from;
 mod index;
+mod lend;
 mod make;
 mod path;
 mod scalar;
 mod serialize;
+mod swap;
+mod taken;
 mod typed;
 
 pub use build::{borrowed_from_tape, owned_from_tape};
+pub use change::{Change, Replace, change_item, change_member};
 pub use cmp::same;
 pub use copy::CopyText;
-pub use path::replace_at;
+use drops::let_go;
+pub use lend::{LendItem, LendMember};
+pub use path::{Leads, climb, descend, replace_at};
 use sj_object::{HashMap, KeyText, ObjectHasher};
 use sj_text_core::StaticNode;
 use std::alloc::{AllocError, Global};
 use std::borrow::CowStr;
+pub use swap::{swap_item, swap_member, swap_token};
+pub use taken::Taken;
 
 /// A document whose keys and texts are `T`.
 ///
 /// It means a tree in which no object has two members of one key, at any depth.
-#[derive(Debug, Drop)]
+#[derive(Debug)]
 pub enum Document<T: KeyText> {
     Static(StaticNode),
     String(T),
     Array(Box<Vec<Document<T>>>),
     Object(Box<Object<T>>),
+}
+
+/// It goes with no recursion and no memory, at whatever depth its parts lie.
+impl<T: KeyText + Drop> Drop for Document<T> {
+    fn drop(self) {
+        match self {
+            Document::Static(_) | Document::String(_) => {}
+            Document::Array(items) => let_go(Document::Array(items)),
+            Document::Object(members) => let_go(Document::Object(members)),
+        }
+    }
 }
 
 /// The members of an object, in the order of their insertion.

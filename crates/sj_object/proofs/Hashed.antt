@@ -1,8 +1,8 @@
 -- The hashes of a map's members, and the members that a lookup compares.
-use Rattle.std.proofs.Common.{◌≡◌, ℕ, zero, suc, ◌+◌, ◌*◌, ◌<◌, ◌%◌, ◌==◌, nat_eq, Bool, true, false, ◌&&◌, List, [], ◌∷◌, ◌++◌, map, length, get_or, slice_set, take, drop, bytes_eq, Option, Some, None, IsSome, nat_le, ◌≤◌, subst, refl, sym, ap, ◌∙◌, arith, true≢false, count_by}
+use Rattle.std.proofs.Common.{◌≡◌, ℕ, zero, suc, ◌+◌, ◌-◌, ◌*◌, ◌<◌, ◌%◌, ◌==◌, nat_eq, Bool, true, false, ◌&&◌, List, [], ◌∷◌, ◌++◌, map, length, get_or, slice_set, take, drop, bytes_eq, Option, Some, None, IsSome, nat_le, ◌≤◌, subst, refl, sym, ap, ◌∙◌, arith, true≢false, count_by, Box, Global}
 use Rattle.std.specs.Bool.{if◌then◌else◌}
 use Rattle.std.proofs.lemmas.List.{length-map, length_push, map-append}
-use Rattle.std.proofs.lemmas.List.Edits.{length-remove}
+use Rattle.std.proofs.lemmas.Nat.{pow_pos}
 use Rattle.std.proofs.lemmas.List.Sums.{sum_by-cons}
 use Rattle.std.specs.List.{sum_by, take-map, drop-map, remove}
 use Rattle.std.proofs.lemmas.Bool.Decides.{nat_tests}
@@ -16,8 +16,8 @@ use Rattle.sj_object.specs.declared.map.HashMap.TheInside.{Inside}
 use Rattle.sj_object.specs.Texts.{no_repeats}
 use Rattle.sj_object.specs.Entries.{Entry, texts, entries_of}
 use Rattle.sj_object.specs.Chains.{is_in}
-use Rattle.sj_object.specs.declared.map.index.Index.{Index}
-use Rattle.sj_object.specs.Index.{IsIndexOf, IsTable, NeedsHash, HasRoom, HasRoom-prop, buckets_in, buckets_of, buckets_for}
+use Rattle.sj_object.specs.declared.map.index.Table.{Table}
+use Rattle.sj_object.specs.Index.{IsIndexOf, NeedsHash, HasRoom, HasRoom-prop, buckets_of, buckets_for}
 use Rattle.sj_object.specs.Steps.{chain, walk, found_on}
 use Rattle.sj_object.proofs.Walked.{Agrees, count}
 use Rattle.sj_object.proofs.Position.{IsFound}
@@ -90,49 +90,25 @@ module _ {K V : Type 0} (t : K → List ℕ) (H : List ℕ → ℕ) where
   pub hashes-remove : (ps : List (K × V)) (i : ℕ) → hashes t H (remove ps i) ≡ remove (hashes t H ps) i
   hashes-remove ps i = map-append (λ (p : K × V). H (t p.0)) (take i ps) (drop (suc i) ps) ∙ (λ j. sym (take-map (λ (p : K × V). H (t p.0)) i ps) j ++ sym (drop-map (λ (p : K × V). H (t p.0)) (suc i) ps) j)
 
+  pub hashes-take : (ps : List (K × V)) (m : ℕ) → hashes t H (take m ps) ≡ take m (hashes t H ps)
+  hashes-take ps m = sym (take-map (λ (p : K × V). H (t p.0)) m ps)
+
   pub hashes-last : (ps : List (K × V)) (p : K × V) → hashes t H (ps ++ p ∷ []) ≡ hashes t H ps ++ H (t p.0) ∷ []
   hashes-last ps p = map-append (λ (q : K × V). H (t q.0)) ps (p ∷ [])
 
-pub has_buckets : (hs : List ℕ) → 0 < length hs → IsSome (buckets_in hs)
-has_buckets [] l = absurd (omega arith)
-has_buckets (h ∷ hs) l = refl
-
--- one hash less
-pub IsIndexOf-remove : (hs : List ℕ) (a b : Index) (i : ℕ) → i < length hs → IsIndexOf hs a → length b.heads.items ≡ length a.heads.items
-    → (0 < length a.heads.items → b.hashes.items ≡ remove a.hashes.items i) → (0 < length a.heads.items → IsTable b) → IsIndexOf (remove hs i) b
-IsIndexOf-remove hs a b i l h s e f = record {
-  plain = λ z. omega (arith, h.plain (omega arith), length-remove hs i l);
-  same = λ z. let p : 0 < length a.heads.items = omega arith in e p ∙ ap (λ gs. remove gs i) (h.same p);
-  table = λ z. f (omega arith);
-}
-
 -- one hash more, which is read only where there are buckets then
-pub IsIndexOf-last : (hs : List ℕ) (h x : ℕ) (o : Option ℕ) (b : Index) → IsIndexOf (hs ++ h ∷ []) b → buckets_of b ≡ buckets_for (length hs + 1) o → (NeedsHash (length hs) o → h ≡ x) → IsIndexOf (hs ++ x ∷ []) b
+pub IsIndexOf-last : (hs : List ℕ) (h x : ℕ) (o : Option ℕ) (b : Option (Box Table Global)) → IsIndexOf (hs ++ h ∷ []) b → buckets_of b ≡ buckets_for (length hs + 1) o → (NeedsHash (length hs) o → h ≡ x) → IsIndexOf (hs ++ x ∷ []) b
 IsIndexOf-last hs h x (Some n) b k e f = subst (λ y. IsIndexOf (hs ++ y ∷ []) b) (f tt) k
 IsIndexOf-last hs h x None b k e f = by_test (nat_le 32 (length hs)) refl where
   by_test : (c : Bool) → nat_le 32 (length hs) ≡ c → IsIndexOf (hs ++ x ∷ []) b
   by_test true q = let r : 32 ≤ length hs = grind (arith, nat_tests) in subst (λ y. IsIndexOf (hs ++ y ∷ []) b) (f r) k
-  by_test false q =
-      let l : length hs + 1 ≤ 32 = grind (arith, nat_tests) in
-      let z : length b.heads.items ≡ 0 = none_in b.heads.items (e ∙ small (length hs + 1) l) in
-      let n = length_push hs x in
-      record { plain = λ y. omega arith; same = λ y. absurd (omega arith); table = λ y. absurd (omega arith) } where
-        none_in : (gs : List ℕ) → buckets_in gs ≡ None → length gs ≡ 0
-        none_in [] y = refl
-        none_in (g ∷ gs) y = cc
+  by_test false q = let l : length hs + 1 ≤ 32 = grind (arith, nat_tests) in plain l b (e ∙ small (length hs + 1) l) where
+    plain : length hs + 1 ≤ 32 → (i : Option (Box Table Global)) → buckets_of i ≡ None → IsIndexOf (hs ++ x ∷ []) i
+    plain l None z = omega (arith, l, length_push hs x)
+    plain l (Some t) z = cc
 
-        small : (m : ℕ) → m ≤ 32 → buckets_for m None ≡ None
-        small m l = let y : nat_le m 32 ≡ true = grind (arith, nat_tests) in λ j. if y j then None else Some 64
-
-pub buckets_same : (gs hs : List ℕ) → length gs ≡ length hs → buckets_in gs ≡ buckets_in hs
-buckets_same [] [] e = refl
-buckets_same [] (h ∷ hs) e = absurd (omega arith)
-buckets_same (g ∷ gs) [] e = absurd (omega arith)
-buckets_same (g ∷ gs) (h ∷ hs) e = ap (λ n. Some n) e
-
-pub no_buckets : (hs : List ℕ) → length hs ≡ 0 → buckets_in hs ≡ None
-no_buckets [] e = refl
-no_buckets (h ∷ hs) e = absurd (omega arith)
+    small : (m : ℕ) → m ≤ 32 → buckets_for m None ≡ None
+    small m l = let y : nat_le m 32 ≡ true = grind (arith, nat_tests) in λ j. if y j then None else Some 64
 
 -- fields that agree in what is data are the same
 pub same_inside : {K V S : Type 0} {G : text.Ghosts K} {E : eq.Ghosts K} {H : hasher.Ghosts S} (m : Inside K V S G E H) (d : no_repeats (texts (entries_of G.text_of m.pairs.items)) ≡ true)
@@ -145,24 +121,18 @@ same_inside {K} {V} {S} {G} m d r = λ i. record {
   room = HasRoom-prop (length (entries_of G.text_of m.pairs.items)) (buckets_of m.index) r m.room i;
 }
 
-pub needs_hash : (m : ℕ) (hs : List ℕ) → 0 < length hs → NeedsHash m (buckets_in hs)
-needs_hash m [] l = absurd (omega arith)
-needs_hash m (h ∷ hs) l = tt
-
 pub needs_where_some : (m : ℕ) (o : Option ℕ) → IsSome o → NeedsHash m o
 needs_where_some m None s = absurd (true≢false (sym s))
 needs_where_some m (Some n) s = tt
 
-pub has_room : (hs : List ℕ) (i : Index) → IsIndexOf hs i → HasRoom (length hs) (buckets_of i)
-has_room hs i h = by_heads i.heads.items refl where
-  by_heads : (gs : List ℕ) → i.heads.items ≡ gs → HasRoom (length hs) (buckets_in gs)
-  by_heads [] e = h.plain (ap length e)
-  by_heads (g ∷ gs) e =
-      let n : length i.heads.items ≡ length (g ∷ gs) = ap length e in
-      let p : 0 < length i.heads.items = omega (arith, n) in
-      (omega arith, omega (arith, n, (h.table p).room, (h.table p).linked.count, ap length (h.same p)))
+pub has_room : (hs : List ℕ) (i : Option (Box Table Global)) → IsIndexOf hs i → HasRoom (length hs) (buckets_of i)
+has_room hs None h = h
+has_room hs (Some b) h =
+    let n = h.table.linked.count in
+    let p = pow_pos b.value.bits in
+    (omega (arith, n, p), omega (arith, n, h.table.room, ap length h.same))
 
-pub room_of : {K V : Type 0} (t : K → List ℕ) (ps : List (K × V)) (hs : List ℕ) (i : Index) → IsIndexOf hs i → length hs ≡ length ps → HasRoom (length (entries_of t ps)) (buckets_of i)
+pub room_of : {K V : Type 0} (t : K → List ℕ) (ps : List (K × V)) (hs : List ℕ) (i : Option (Box Table Global)) → IsIndexOf hs i → length hs ≡ length ps → HasRoom (length (entries_of t ps)) (buckets_of i)
 room_of t ps hs i h e = subst (λ n. HasRoom n (buckets_of i)) (e ∙ sym (entries-length t ps)) (has_room hs i h)
 
 pub room_fewer : (n m : ℕ) (o : Option ℕ) → n ≤ m → HasRoom m o → HasRoom n o

@@ -101,6 +101,7 @@ one_item ns i n m x ps e f h =
 pub record OneMember (ns : List Mark) (i m : ℕ) (k x : Mark) (ps : List Tree) : Type 0 where
   pub key : At ns i k
   pub text : k ≡ string (key_of_mark k)
+  pub take : CanTake (drop (i + 1) ns) ps
   pub whole : Whole ns (i + 1) x ps
   pub can : CanTakePairs m (drop (i + 1 + width x) ns) (left_of x ps)
   pub made : taken_pairs (suc m) (drop i ns) ps ≡ (key_of_mark k, made_of x ps) ∷ taken_pairs m (drop (i + 1 + width x) ns) (left_of x ps)
@@ -111,12 +112,14 @@ one_member ns i n m k x ps e f g h =
     let can = subst (λ l. CanTakePairs l (drop i ns) ps) e h in
     let key = at ns i k f can.0 in
     let next : drop 1 (drop i ns) ≡ drop (i + 1) ns = drop-drop 1 i ns in
-    let w = whole_at ns (i + 1) x ps g (subst (λ l. CanTake l ps) next can.2) in
+    let take = subst (λ l. CanTake l ps) next can.2 in
+    let w = whole_at ns (i + 1) x ps g take in
     let first = ap first_mark next ∙ w.first in
     let after = ap behind next ∙ w.after in
     record {
       key = key;
       text = subst (λ l. l ≡ string (key_of_mark l)) key.first can.1;
+      take = take;
       whole = w;
       can = subst (λ (p : List Mark × List Tree). CanTakePairs m p.0 p.1) (λ j. (after j, left_of (first j) ps)) can.3;
       made = λ j. (key_of_mark (key.first j), made_of (first j) ps) ∷ taken_pairs m (after j) (left_of (first j) ps);

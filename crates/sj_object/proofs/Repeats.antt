@@ -1,5 +1,5 @@
 -- Lists of texts stay without repeats.
-use Rattle.std.proofs.Common.{◌≡◌, ℕ, Bool, true, false, List, [], ◌∷◌, ◌++◌, refl, ap, ◌∙◌, bytes_eq}
+use Rattle.std.proofs.Common.{◌≡◌, ℕ, zero, suc, take, Bool, true, false, List, [], ◌∷◌, ◌++◌, refl, ap, ◌∙◌, bytes_eq}
 use Rattle.std.specs.Bool.{if◌then◌else◌}
 use Rattle.sj_text_core.specs.Keep.{is_seen}
 use Rattle.sj_object.specs.Texts.{no_repeats, or_false, or_of_false, not_and, not_and_of, bytes_eq-sym}
@@ -24,6 +24,21 @@ texts-append (e ∷ es) fs = ap (λ l. e.0.1 ∷ l) (texts-append es fs)
 pub entries_of-append : {K V : Type 0} (t : K → List ℕ) (ps qs : List (K × V)) → entries_of t (ps ++ qs) ≡ entries_of t ps ++ entries_of t qs
 entries_of-append t [] qs = refl
 entries_of-append t (p ∷ ps) qs = ap (λ l. ((p.0, t p.0), p.1) ∷ l) (entries_of-append t ps qs)
+
+is_seen-take : (x : List ℕ) (m : ℕ) (ts : List (List ℕ)) → is_seen x ts ≡ false → is_seen x (take m ts) ≡ false
+is_seen-take x zero ts h = refl
+is_seen-take x (suc m) [] h = refl
+is_seen-take x (suc m) (t ∷ ts) h = let r = or_false (bytes_eq x t) _ h in or_of_false _ _ r.0 (is_seen-take x m ts r.1)
+
+pub no_repeats-take : (m : ℕ) (ts : List (List ℕ)) → no_repeats ts ≡ true → no_repeats (take m ts) ≡ true
+no_repeats-take zero ts d = refl
+no_repeats-take (suc m) [] d = refl
+no_repeats-take (suc m) (t ∷ ts) d = let n = not_and (is_seen t ts) _ d in not_and_of _ _ (is_seen-take t m ts n.0) (no_repeats-take m ts n.1)
+
+pub texts-take : {K V : Type 0} (t : K → List ℕ) (m : ℕ) (ps : List (K × V)) → texts (entries_of t (take m ps)) ≡ take m (texts (entries_of t ps))
+texts-take t zero ps = refl
+texts-take t (suc m) [] = refl
+texts-take t (suc m) (p ∷ ps) = ap (λ l. t p.0 ∷ l) (texts-take t m ps)
 
 -- where a push was done, or was refused
 pub no_repeats-push : {K V : Type 0} (t : K → List ℕ) (ps qs : List (K × V)) (b : Bool) (k : K) (v : V)

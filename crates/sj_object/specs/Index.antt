@@ -1,33 +1,35 @@
--- The index of a map's members by their hashes. A map of up to 32 members that never had more is a plain list, and its index is empty.
-use Rattle.std.specs.Prelude.{◌≡◌, ◌+◌, ◌<◌, ◌≤◌, ◌*◌, ◌^◌, ℕ, Bool, true, false, List, [], ◌∷◌, length, Option, Some, None, if◌then◌else◌, nat_le, ⊤, refl}
-use Rattle.std.proofs.Common.{arith}
+-- The index of a map's members by their hashes. A map of up to 32 members that never had more is a plain list, and has none.
+use Rattle.std.specs.Prelude.{◌≡◌, ◌+◌, ◌<◌, ◌≤◌, ◌*◌, ◌^◌, ℕ, Bool, true, false, List, length, Option, Some, None, if◌then◌else◌, nat_le, ⊤, refl}
+use Rattle.std.proofs.Common.{arith, Box, Global}
 use Rattle.std.proofs.lemmas.Bool.Decides.{nat_tests}
 use denote.Struct.Props.{props}
-use Rattle.sj_object.specs.declared.map.index.Index.{Index}
+use Rattle.sj_object.specs.declared.map.index.Table.{Table}
 use Rattle.sj_object.specs.Chains.{IsLinked}
 
--- how many buckets there are, from the heads of their chains
-abbrev pub buckets_in : List ℕ → Option ℕ
-buckets_in [] = None
-buckets_in (h ∷ hs) = Some (length (h ∷ hs))
+-- how many buckets there are
+abbrev pub buckets_of : Option (Box Table Global) → Option ℕ
+buckets_of None = None
+buckets_of (Some b) = Some (length b.value.heads.items)
 
-abbrev pub buckets_of : Index → Option ℕ
-buckets_of i = buckets_in i.heads.items
+-- the members whose hashes t keeps stand in their chains
+pub record IsTable (t : Table) : Type 0 where
+  pub bits : t.bits < 64
+  pub room : length t.hashes.items ≤ 2 ^ t.bits
+  pub linked : IsLinked (2 ^ t.bits) t.hashes.items t.links.items t.heads.items (length t.hashes.items)
 
--- i has buckets, and the members whose hashes it keeps stand in their chains
-pub record IsTable (i : Index) : Type 0 where
-  pub bits : i.bits < 64
-  pub room : length i.hashes.items ≤ 2 ^ i.bits
-  pub linked : IsLinked (2 ^ i.bits) i.hashes.items i.links.items i.heads.items (length i.hashes.items)
+-- t is the table of members with those hashes
+pub record IsTableOf (hashes : List ℕ) (t : Table) : Type 0 where
+  pub same : t.hashes.items ≡ hashes
+  pub table : IsTable t
 
--- i is the index of members with those hashes
-pub record IsIndexOf (hashes : List ℕ) (i : Index) : Type 0 where
-  pub plain : length i.heads.items ≡ 0 → length hashes ≤ 32
-  pub same : 0 < length i.heads.items → i.hashes.items ≡ hashes
-  pub table : 0 < length i.heads.items → IsTable i
+-- the index of members with those hashes
+abbrev pub IsIndexOf : List ℕ → Option (Box Table Global) → Type 0
+IsIndexOf hashes None = length hashes ≤ 32
+IsIndexOf hashes (Some b) = IsTableOf hashes b.value
 
-pub IsIndexOf-prop : (hashes : List ℕ) (i : Index) → IsProp (IsIndexOf hashes i)
-IsIndexOf-prop hashes i = hlevel props
+pub IsIndexOf-prop : (hashes : List ℕ) (i : Option (Box Table Global)) → IsProp (IsIndexOf hashes i)
+IsIndexOf-prop hashes None = hlevel props
+IsIndexOf-prop hashes (Some b) = hlevel props
 
 -- how many buckets there are once so many members stand in the map, from those before
 abbrev pub buckets_for : ℕ → Option ℕ → Option ℕ

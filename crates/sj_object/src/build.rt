@@ -3,13 +3,13 @@
 //! on a pile, the nearest on top.
 
 ghost use Rattle.std.specs.Prelude.{◌≡◌, ◌<◌, ◌∷◌, ◌++◌, [], length, map, IfOk, OnOk, All};
-ghost use Rattle.sj_text_core.specs.Nodes.{tree_of, IsPreorder};
+ghost use Rattle.sj_text_core.specs.Nodes.{tree_of, width, IsPreorder};
 ghost use Rattle.sj_text_core.specs.Repeats.{keep_by};
 ghost use Rattle.sj_tape.specs.Marks.{mark};
 ghost use Rattle.sj_tape.specs.Stretches.{nodes_in};
 ghost use Rattle.sj_tape.specs.Value.{tree, choice};
 ghost use Rattle.sj_object.specs.Builder.{AreMade};
-ghost use Rattle.sj_object.specs.Piles.{pile, made_of, left_of, IsThere, CanTakeItems, CanTakePairs, taken, left, taken_pairs, left_pairs, kept, kept_by, put_pair, shown, Needs, grown};
+ghost use Rattle.sj_object.specs.Piles.{pile, first_mark, made_of, left_of, IsThere, CanTake, CanTakeItems, CanTakePairs, taken, left, taken_pairs, left_pairs, kept, kept_by, put_pair, shown, Needs, grown};
 
 use crate::builder::{Builder, Made, MapOf};
 use crate::key::KeyOf;
@@ -102,56 +102,63 @@ fn take_members<'de, V: Builder<'de, Key>, Key: KeyOf<'de>>(
         let Some(text) = nodes.text_at(at) else {
             unreachable!();
         };
-        let node = nodes.at(at + 1);
-        put_member::<V, Key>(alloc, &mut members, made, text, node, repeats)?;
-        at += 1 + node.width();
+        let behind = nodes.from(at + 1);
+        let width = put_member::<V, Key>(alloc, &mut members, made, text, behind, repeats)?;
+        at += 1 + width;
     }
     Ok(members)
 }
 
-/// Adds a member; where its key is there, the one that counts stays.
+/// Adds the member of that key whose value's nodes stand first, and answers how many they are;
+/// where its key is there, the one that counts stays.
 #[inline(always)]
 fn put_member<'de, V: Builder<'de, Key>, Key: KeyOf<'de>>(
     alloc: Global,
     members: &mut V::Map,
     made: &mut Vec<V>,
     text: &'de str,
-    node: Node<'de>,
+    nodes: Nodes<'_, 'de>,
     repeats: Repeats,
-) -> Result<(), AllocError>
-    requires { IsThere (mark node) (pile V.tree made.old.items) }
-    ensures means { OnOk result (shown V.tree (V.Map.entries members.new) ≡ kept_by repeats (shown V.tree (V.Map.entries members.old)) ((text.now, made_of (mark node.entry) (pile V.tree made.old.items)) ∷ [])) }
-    ensures rest { OnOk result (pile V.tree made.new.items ≡ left_of (mark node.entry) (pile V.tree made.old.items)) }
+) -> Result<usize, AllocError>
+    requires { CanTake (nodes_in nodes) (pile V.tree made.old.items) }
+    ensures means { OnOk result (shown V.tree (V.Map.entries members.new) ≡ kept_by repeats (shown V.tree (V.Map.entries members.old)) ((text.now, made_of (first_mark (nodes_in nodes.entry)) (pile V.tree made.old.items)) ∷ [])) }
+    ensures rest { OnOk result (pile V.tree made.new.items ≡ left_of (first_mark (nodes_in nodes.entry)) (pile V.tree made.old.items)) }
+    ensures width { IfOk result (λ w. w ≡ width (first_mark (nodes_in nodes.entry))) }
     ensures property { AreMade Key.is_made V.built (V.Map.entries members.old) → All V.built made.old.items → OnOk result (AreMade Key.is_made V.built (V.Map.entries members.new) × All V.built made.new.items) }
 {
     match repeats {
-        Repeats::First => add_member::<V, Key>(alloc, members, made, text, node),
-        Repeats::Last => set_member::<V, Key>(alloc, members, made, text, node),
+        Repeats::First => add_member::<V, Key>(alloc, members, made, text, nodes),
+        Repeats::Last => set_member::<V, Key>(alloc, members, made, text, nodes),
     }
 }
 
-/// Adds a member, unless its key is there.
+/// Adds a member, unless its key is there. The node is read behind the search: what is then done
+/// with it is told from its kind once.
 #[inline(always)]
 fn add_member<'de, V: Builder<'de, Key>, Key: KeyOf<'de>>(
     alloc: Global,
     members: &mut V::Map,
     made: &mut Vec<V>,
     text: &'de str,
-    node: Node<'de>,
-) -> Result<(), AllocError>
-    requires { IsThere (mark node) (pile V.tree made.old.items) }
-    ensures means { OnOk result (shown V.tree (V.Map.entries members.new) ≡ kept (shown V.tree (V.Map.entries members.old)) ((text.now, made_of (mark node.entry) (pile V.tree made.old.items)) ∷ [])) }
-    ensures rest { OnOk result (pile V.tree made.new.items ≡ left_of (mark node.entry) (pile V.tree made.old.items)) }
+    nodes: Nodes<'_, 'de>,
+) -> Result<usize, AllocError>
+    requires { CanTake (nodes_in nodes) (pile V.tree made.old.items) }
+    ensures means { OnOk result (shown V.tree (V.Map.entries members.new) ≡ kept (shown V.tree (V.Map.entries members.old)) ((text.now, made_of (first_mark (nodes_in nodes.entry)) (pile V.tree made.old.items)) ∷ [])) }
+    ensures rest { OnOk result (pile V.tree made.new.items ≡ left_of (first_mark (nodes_in nodes.entry)) (pile V.tree made.old.items)) }
+    ensures width { IfOk result (λ w. w ≡ width (first_mark (nodes_in nodes.entry))) }
     ensures property { AreMade Key.is_made V.built (V.Map.entries members.old) → All V.built made.old.items → OnOk result (AreMade Key.is_made V.built (V.Map.entries members.new) × All V.built made.new.items) }
 {
     let hash = members.hash_for(text);
     if members.has_hashed(hash, text) {
+        let node = nodes.at(0);
         skip_value::<V, Key>(made, node);
-        return Ok(());
+        return Ok(node.width());
     }
     let key = Key::of(alloc, text)?;
+    let node = nodes.at(0);
     let value = take_value::<V, Key>(alloc, made, node)?;
-    members.add_hashed(hash, key, value)
+    members.add_hashed(hash, key, value)?;
+    Ok(node.width())
 }
 
 /// Sets the value of a member.
@@ -160,16 +167,19 @@ fn set_member<'de, V: Builder<'de, Key>, Key: KeyOf<'de>>(
     members: &mut V::Map,
     made: &mut Vec<V>,
     text: &'de str,
-    node: Node<'de>,
-) -> Result<(), AllocError>
-    requires { IsThere (mark node) (pile V.tree made.old.items) }
-    ensures means { OnOk result (shown V.tree (V.Map.entries members.new) ≡ put_pair text.now (made_of (mark node.entry) (pile V.tree made.old.items)) (shown V.tree (V.Map.entries members.old))) }
-    ensures rest { OnOk result (pile V.tree made.new.items ≡ left_of (mark node.entry) (pile V.tree made.old.items)) }
+    nodes: Nodes<'_, 'de>,
+) -> Result<usize, AllocError>
+    requires { CanTake (nodes_in nodes) (pile V.tree made.old.items) }
+    ensures means { OnOk result (shown V.tree (V.Map.entries members.new) ≡ put_pair text.now (made_of (first_mark (nodes_in nodes.entry)) (pile V.tree made.old.items)) (shown V.tree (V.Map.entries members.old))) }
+    ensures rest { OnOk result (pile V.tree made.new.items ≡ left_of (first_mark (nodes_in nodes.entry)) (pile V.tree made.old.items)) }
+    ensures width { IfOk result (λ w. w ≡ width (first_mark (nodes_in nodes.entry))) }
     ensures property { AreMade Key.is_made V.built (V.Map.entries members.old) → All V.built made.old.items → OnOk result (AreMade Key.is_made V.built (V.Map.entries members.new) × All V.built made.new.items) }
 {
     let key = Key::of(alloc, text)?;
+    let node = nodes.at(0);
     let value = take_value::<V, Key>(alloc, made, node)?;
-    members.set(key, value)
+    members.set(key, value)?;
+    Ok(node.width())
 }
 
 /// Puts the container on the pile that begins with the first node, where it is one.

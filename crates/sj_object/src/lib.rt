@@ -24,4 +24,4 @@ pub use key::{KeyMade, KeyOf, KeyText};
 pub use map::{HashMap, IntoIter, Iter, Keys, Values};
 pub use read::{deserialize, deserialize_repeats, deserialize_with_buffers};
 pub use sj_tape::Buffers;
-pub use sj_text_core::{ErrorKind, Refused, StaticNode};
+pub use sj_text_core::{ErrorKind, JsonError, Refused, StaticNode};

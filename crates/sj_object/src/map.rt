@@ -68,7 +68,7 @@ impl<K: KeyText, V, S: KeyHasher> HashMap<K, V, S> {
         Ok(HashMap {
             pairs: Vec::with_capacity(alloc, capacity)?,
             hasher,
-            index: Index::new(alloc),
+            index: None,
         })
     }
 
@@ -92,7 +92,7 @@ impl<K: KeyText, V, S: KeyHasher> HashMap<K, V, S> {
         ensures buckets { result ≡ self.now.buckets }
         ensures room { HasRoom (length self.now.entries) self.now.buckets }
     {
-        self.index.buckets()
+        index::buckets(&self.index)
     }
 
     /// What hashes the keys.

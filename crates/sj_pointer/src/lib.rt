@@ -12,13 +12,12 @@
 //! ```
 #![tactic(auto)]
 
-mod error;
 pub mod laws;
 mod parse;
 mod place;
 mod tokens;
 
-pub use error::PointerError;
 pub use parse::pointer;
 pub use place::position;
+pub use sj_text_core::PointerError;
 pub use tokens::Pointer;

@@ -4,8 +4,8 @@ ghost use Rattle.std.specs.Prelude.{◌≡◌, ◌≤◌, ◌<◌, ◌↔◌, �
 ghost use Rattle.sj_pointer.specs.Syntax.{has_code, is_begun, is_escaped};
 ghost use Rattle.sj_pointer.specs.Tokens.{decoded, parted, tokens_of};
 
-use crate::error::PointerError;
 use crate::tokens::Pointer;
+use sj_text_core::PointerError;
 use std::alloc::{AllocError, Global};
 
 /// Whether a 0 or a 1 comes first.

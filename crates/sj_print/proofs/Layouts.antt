@@ -1,19 +1,13 @@
 -- What a layout has between tokens, and in which order.
-use Rattle.std.proofs.Common.{◌≡◌, ℕ, ◌+◌, ◌-◌, ◌*◌, ◌^◌, min, List, [], ◌∷◌, ◌++◌, Option, Some, None, codes, replicate, flat_map, refl, sym, ap, ◌∙◌, subst, append_assoc, append-nil}
-use Rattle.sj_text_core.specs.Tree.{Tree, list, obj, Items, item, Members, member}
+use Rattle.std.proofs.Common.{◌≡◌, Bool, true, false, ℕ, ◌+◌, ◌-◌, ◌*◌, ◌^◌, min, List, [], ◌∷◌, ◌++◌, Option, Some, None, codes, replicate, flat_map, refl, sym, ap, ◌∙◌, subst, append_assoc, append-nil}
+use Rattle.sj_text_core.specs.Tree.{Tree, list, obj, Items, no_items, item, Members, no_members, member}
 use Rattle.sj_text_core.specs.Print.{escaped, quoted, compact, compact_items, compact_members, pretty, pretty_items, pretty_members, new_line}
 use Rattle.sj_print.proofs.Utf8.{IsUtf8-line}
-use Rattle.sj_print.specs.Layouts.{laid, laid_items, laid_members, deeper, gap, colon}
+use Rattle.sj_print.specs.Layouts.{laid, laid_items, laid_members, items_end, members_end, deeper, gap, colon}
+use Rattle.sj_print.specs.Piles.{items_mark, members_mark, items_laid, members_laid}
 use Rattle.sj_print.specs.Outputs.{Appends, AppendsText, HoldsText, Lays}
 use Rattle.sj_print.specs.declared.layout.Layout.TheVariants.{Compact, Pretty}
 use Rattle.sj_print.proofs.Puts.{appends_text, appends_both}
-
--- what follows an item of an array, and so for members
-abbrev pub items_end : Option ℕ → Items → List ℕ
-items_end s is = laid_items (deeper s) is ++ (gap s ++ 93 ∷ [])
-
-abbrev pub members_end : Option ℕ → Members → List ℕ
-members_end s ms = laid_members (deeper s) ms ++ (gap s ++ 125 ∷ [])
 
 five : (a b c d e : List ℕ) → (((a ++ b) ++ c) ++ d) ++ e ≡ a ++ (b ++ (c ++ (d ++ e)))
 five a b c d e = append_assoc ((a ++ b) ++ c) d e ∙ append_assoc (a ++ b) c (d ++ e) ∙ append_assoc a b (c ++ (d ++ e))
@@ -38,6 +32,33 @@ laid-obj (Some n) k t ms =
 pub laid-member : (s : Option ℕ) (k : List ℕ) (t : Tree) (ms : Members) → laid_members s (member k t ms) ≡ (44 ∷ gap s) ++ (quoted k ++ (colon s ++ (laid s t ++ laid_members s ms)))
 laid-member None k t ms = refl
 laid-member (Some n) k t ms = ap (λ l. 44 ∷ l) (five (new_line n) (quoted k) (codes ": ") (pretty n t) (pretty_members n ms))
+
+-- what is left behind a part, or of all, begins with the next part
+pub items_laid-item : (begun : Bool) (s : Option ℕ) (t : Tree) (is : Items) → items_laid begun s (item t is) ≡ (items_mark begun ∷ gap (deeper s)) ++ (laid (deeper s) t ++ items_end s is)
+items_laid-item false s t is = laid-list s t is
+items_laid-item true s t is =
+    ap (λ l. l ++ (gap s ++ 93 ∷ [])) (laid-item (deeper s) t is) ∙ append_assoc (44 ∷ gap (deeper s)) _ _ ∙ ap (λ l. (44 ∷ gap (deeper s)) ++ l) (append_assoc (laid (deeper s) t) _ _)
+
+-- a key with what stands before and behind it, and then the rest
+key_then : (mark : ℕ) (s : Option ℕ) (k rest : List ℕ) → ((mark ∷ gap s) ++ (quoted k ++ colon s)) ++ rest ≡ (mark ∷ gap s) ++ (quoted k ++ (colon s ++ rest))
+key_then mark s k rest = append_assoc (mark ∷ gap s) (quoted k ++ colon s) rest ∙ ap (λ l. (mark ∷ gap s) ++ l) (append_assoc (quoted k) (colon s) rest)
+
+pub members_laid-member : (begun : Bool) (s : Option ℕ) (k : List ℕ) (t : Tree) (ms : Members)
+    → members_laid begun s (member k t ms) ≡ ((members_mark begun ∷ gap (deeper s)) ++ (quoted k ++ colon (deeper s))) ++ (laid (deeper s) t ++ members_end s ms)
+members_laid-member false s k t ms = laid-obj s k t ms ∙ sym (key_then 123 (deeper s) k _)
+members_laid-member true s k t ms =
+    let d = deeper s in
+    ap (λ l. l ++ (gap s ++ 125 ∷ [])) (laid-member d k t ms) ∙ append_assoc (44 ∷ gap d) _ _
+    ∙ ap (λ l. (44 ∷ gap d) ++ l) (append_assoc (quoted k) _ _ ∙ ap (λ l. quoted k ++ l) (append_assoc (colon d) _ _ ∙ ap (λ l. colon d ++ l) (append_assoc (laid d t) _ _)))
+    ∙ sym (key_then 44 d k _)
+
+pub laid-no_items : (s : Option ℕ) → laid_items s no_items ≡ []
+laid-no_items None = refl
+laid-no_items (Some n) = refl
+
+pub laid-no_members : (s : Option ℕ) → laid_members s no_members ≡ []
+laid-no_members None = refl
+laid-no_members (Some n) = refl
 
 pub lays_gap : {S O : Type 0} (holds : S → O → List ℕ → Type 0) (a b : O) (spaces : ℕ) → ((k : ℕ) → spaces ≡ min k (2 ^ 64 - 1) → Appends holds a b (10 ∷ replicate k 32)) → Lays holds a b (Pretty spaces) gap
 lays_gap holds a b spaces f None l = absurd l

@@ -3,13 +3,7 @@ use Rattle.std.proofs.Common.{◌≡◌, ℕ, List, [], ◌++◌, IsUtf8, flat_m
 use Rattle.std.proofs.lemmas.Str.{IsUtf8-append}
 use Rattle.sj_text_core.specs.Print.{escaped}
 use Rattle.sj_print.proofs.Utf8.{IsUtf8-escaped}
-use Rattle.sj_print.specs.Outputs.{Appends, AppendsText}
-
--- what was put, with the rest makes the whole
-pub record Towards {S O : Type 0} (holds : S → O → List ℕ → Type 0) (old new : O) (rest whole : List ℕ) : Type 0 where
-  pub done : List ℕ
-  pub put : Appends holds old new done
-  pub makes : done ++ rest ≡ whole
+use Rattle.sj_print.specs.Outputs.{Appends, AppendsText, Towards}
 
 module _ {S O : Type 0} (holds : S → O → List ℕ → Type 0) where
   pub appends_nothing : (a : O) → Appends holds a a []

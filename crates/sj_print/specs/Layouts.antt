@@ -1,5 +1,5 @@
 -- Both prints of a tree, by one word.
-use Rattle.std.specs.Prelude.{◌≡◌, Bool, true, false, ℕ, ◌+◌, ◌-◌, ◌*◌, ◌^◌, min, List, [], ◌∷◌, Option, Some, None}
+use Rattle.std.specs.Prelude.{◌≡◌, Bool, true, false, ℕ, ◌+◌, ◌-◌, ◌*◌, ◌^◌, min, List, [], ◌∷◌, ◌++◌, Option, Some, None}
 use Rattle.sj_text_core.specs.Tree.{Tree, Items, Members}
 use Rattle.sj_text_core.specs.Print.{compact, compact_items, compact_members, pretty, pretty_items, pretty_members, new_line}
 use Rattle.sj_print.specs.declared.layout.Layout.{Layout}
@@ -31,6 +31,13 @@ gap (Some level) = new_line level
 abbrev pub colon : Option ℕ → List ℕ
 colon None = 58 ∷ []
 colon (Some level) = 58 ∷ 32 ∷ []
+
+-- what follows an item of an array, and so for members
+abbrev pub items_end : Option ℕ → Items → List ℕ
+items_end s is = laid_items (deeper s) is ++ (gap s ++ 93 ∷ [])
+
+abbrev pub members_end : Option ℕ → Members → List ℕ
+members_end s ms = laid_members (deeper s) ms ++ (gap s ++ 125 ∷ [])
 
 -- the layout of the code is this one
 abbrev pub IsLayout : Layout → Option ℕ → Type 0

@@ -2,6 +2,7 @@ pub mod Layouts
 pub mod Levels
 pub mod Outputs
 pub mod Generators
+pub mod Piles
 pub mod Printed
 pub mod Runs
 pub use Rattle.sj_text_core.specs.Tree

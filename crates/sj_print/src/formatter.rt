@@ -7,6 +7,7 @@ use crate::layout::Layout;
 use crate::output::Output;
 use crate::parts::Parts;
 use crate::print::print;
+use std::alloc::Global;
 use std::fmt;
 
 /// A formatter, up to its first fault.
@@ -46,12 +47,16 @@ impl<'f, W: fmt::Write> Output for Shown<'f, W> {
 }
 
 /// Writes the value's compact print to the formatter, up to its first fault.
-pub fn display<P: Parts, W: fmt::Write>(value: &P, formatter: &mut fmt::Formatter<W>) -> fmt::Result
+pub fn display<P: Parts, W: fmt::Write>(
+    value: &P,
+    alloc: Global,
+    formatter: &mut fmt::Formatter<W>,
+) -> fmt::Result
     ensures { WritesOnOk W.write_str_gives formatter.old result (compact (P.tree_of value.now)) formatter.new }
 {
     let shown = Shown {
         formatter,
         result: Ok(()),
     };
-    print(value, Layout::Compact, shown).result
+    print(value, Layout::Compact, alloc, shown).result
 }

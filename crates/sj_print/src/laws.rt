@@ -1,33 +1,34 @@
 //! What holds of values and their prints. A call goes over values and changes nothing.
 
-ghost use Rattle.std.specs.Prelude.{◌≡◌, ◌↔◌, ◌^◌, ◌≤◌, ◌⊎◌, ℕ, length, IfOk, IsErrOf, IsTrue, IsUtf8};
-ghost use Rattle.sj_text_core.specs.Grammar.{Spells};
+ghost use Rattle.std.specs.Prelude.{◌≡◌, ◌↔◌, ◌⊎◌, ℕ, List, IsUtf8};
+ghost use Rattle.sj_text_core.specs.Grammar.{Spells, IsReadable};
 ghost use Rattle.sj_text_core.specs.Print.{compact, pretty, recarry};
+ghost use Rattle.sj_text_core.specs.Repeats.{keep_by, SameBy};
 ghost use Rattle.sj_text_core.specs.Scalars.{static_tree};
-ghost use Rattle.sj_text_core.specs.Tree.{IsProper, AreProper, HasProper, items_from, members_from};
-ghost use Rattle.sj_print.specs.Layouts.{laid, top};
+ghost use Rattle.sj_text_core.specs.Tree.{Tree, IsProper, IsWithin, AreProper, HasProper, items_from, members_from};
+ghost use Rattle.sj_text_core.specs.declared.repeats.Repeats.{Repeats};
 
 use crate::parts::{Level, Parts};
-use crate::whole::encode;
-use sj_text_core::{StaticNode, WriteError};
-use std::alloc::Global;
+use sj_text_core::StaticNode;
 
-/// Whether two values have one print: so it is exactly where they differ in the carriers of
-/// numbers alone. It is refused where one of the two prints is.
-pub fn prints_alike<P: Parts, Q: Parts>(
-    alloc: Global,
-    left: &P,
-    right: &Q,
-    pretty: bool,
-) -> Result<bool, WriteError>
-    ensures ok { IfOk result (λ alike. IsTrue alike ↔ (recarry (P.tree_of left.now) ≡ recarry (Q.tree_of right.now))) }
-    ensures too_long { IsErrOf result WriteError.TooLong → (2 ^ 64 ≤ length (laid (top pretty) (P.tree_of left.now))) ⊎ (2 ^ 64 ≤ length (laid (top pretty) (Q.tree_of right.now))) }
+/// Both prints of a value read back: each is readable exactly where the value is within the limit.
+/// What it spells is then the same as the value, by the first or by the last member of each key,
+/// and so is what is kept of that by the same choice.
+pub fn reads_back<P: Parts>(value: &P)
+    ensures readable { (b : List ℕ) → (b ≡ compact (P.tree_of value.now)) ⊎ (b ≡ pretty 0 (P.tree_of value.now)) → IsReadable b ↔ IsWithin (P.tree_of value.now) }
+    ensures same { (b : List ℕ) → (b ≡ compact (P.tree_of value.now)) ⊎ (b ≡ pretty 0 (P.tree_of value.now)) → (choice : Repeats) (u : Tree) → Spells b u → SameBy choice choice (P.tree_of value.now) u × SameBy choice Repeats.First (P.tree_of value.now) (keep_by choice u) }
+{
+    is_proper(value);
+}
+
+/// Two values have one compact print exactly where they differ in the carriers of numbers alone,
+/// and so they have one pretty print at a level.
+pub fn prints_alike<P: Parts, Q: Parts>(left: &P, right: &Q)
+    ensures compact { (compact (P.tree_of left.now) ≡ compact (Q.tree_of right.now)) ↔ (recarry (P.tree_of left.now) ≡ recarry (Q.tree_of right.now)) }
+    ensures pretty { (level : ℕ) → (pretty level (P.tree_of left.now) ≡ pretty level (Q.tree_of right.now)) ↔ (recarry (P.tree_of left.now) ≡ recarry (Q.tree_of right.now)) }
 {
     is_proper(left);
     is_proper(right);
-    let text = encode(left, pretty, alloc)?;
-    let other = encode(right, pretty, alloc)?;
-    Ok(text == other)
 }
 
 /// Both prints of a value spell its tree, with the carriers of the prints.

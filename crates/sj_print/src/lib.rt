@@ -18,6 +18,9 @@
 //! walk: once for the exact length, which is asked for at once, and once for the bytes. Where the
 //! length is known another way, `write_counted` and `encode_counted` go over the value once.
 //!
+//! The walk calls itself for 128 levels and goes on with a pile in memory, so that its stack has one
+//! size at whatever depth; where memory for the pile is refused, it calls itself for as many again.
+//!
 //! Both put a text between quotes by one loop, which copies runs of plain bytes; a text that is known
 //! to need no escape (`PlainText`) is copied at once.
 #![tactic(auto)]

@@ -67,7 +67,7 @@ pub trait Output: Sized {
     }
 
     /// Appends the text between `before` and `behind`, with escapes where they are needed.
-    #[inline(never)]
+    #[inline(always)]
     final fn put_text(self, before: &str, text: &str, behind: &str) -> Self
         ensures { AppendsText holds self result (before.now ++ (flat_map escaped text.now ++ behind.now)) }
     {

@@ -12,13 +12,18 @@ use std::alloc::{AllocError, Global};
 
 /// How many bytes there are with the print behind so many; `TooLong` where they are past
 /// `usize::MAX`.
-pub fn count<P: Parts>(value: &P, pretty: bool, before: usize) -> Result<usize, WriteError>
+pub fn count<P: Parts>(
+    value: &P,
+    pretty: bool,
+    before: usize,
+    alloc: Global,
+) -> Result<usize, WriteError>
     ensures ok { IfOk result (λ n. n ≡ before + length (laid (top pretty) (P.tree_of value.now))) }
     ensures err { OnErr result (2 ^ 64 ≤ before + length (laid (top pretty) (P.tree_of value.now))) }
     ensures why { IfErr result (λ e. e ≡ WriteError.TooLong) }
     ensures fits { OnOk result (before + length (laid (top pretty) (P.tree_of value.now)) + 1 ≤ 2 ^ 64) }
 {
-    print(value, Layout::top(pretty), Count::behind(before)).end()
+    print(value, Layout::top(pretty), alloc, Count::behind(before)).end()
 }
 
 /// Writes the value's print over the bytes from `at` on, up to their end.
@@ -27,7 +32,8 @@ fn fill<P: Parts>(value: &P, pretty: bool, out: &mut Vec<u8>, at: usize)
     ensures bytes { out.new.items ≡ take at out.old.items ++ laid (top pretty) (P.tree_of value.now) }
     ensures utf8 { IsUtf8 (laid (top pretty) (P.tree_of value.now)) }
 {
-    print(value, Layout::top(pretty), Filling { out, at });
+    let alloc = *out.allocator();
+    print(value, Layout::top(pretty), alloc, Filling { out, at });
 }
 
 /// Appends the value's print, which ends where `end` tells. It asks for its room at once; refused,
@@ -71,7 +77,7 @@ pub fn write<P: Parts>(value: &P, pretty: bool, out: &mut Vec<u8>) -> Result<(),
     ensures err { OnErr result (out.new.items ≡ out.old.items) }
     ensures too_long { IsErrOf result WriteError.TooLong ↔ (2 ^ 64 ≤ length out.old.items + length (laid (top pretty) (P.tree_of value.now))) }
 {
-    let end = count(value, pretty, out.len())?;
+    let end = count(value, pretty, out.len(), *out.allocator())?;
     Ok(write_counted(value, pretty, end, out)?)
 }
 
@@ -81,6 +87,6 @@ pub fn encode<P: Parts>(value: &P, pretty: bool, alloc: Global) -> Result<String
     ensures ok { IfOk result (λ s. string_bytes s ≡ laid (top pretty) (P.tree_of value.now)) }
     ensures too_long { IsErrOf result WriteError.TooLong ↔ (2 ^ 64 ≤ length (laid (top pretty) (P.tree_of value.now))) }
 {
-    let len = count(value, pretty, 0)?;
+    let len = count(value, pretty, 0, alloc)?;
     Ok(encode_counted(value, pretty, len, alloc)?)
 }

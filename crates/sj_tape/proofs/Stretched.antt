@@ -1,7 +1,8 @@
 -- Stretches of nodes, by where they begin and end.
-use Rattle.std.proofs.Common.{◌≡◌, ℕ, ◌+◌, ◌-◌, ◌^◌, ◌<◌, ◌≤◌, List, take, drop, length, sym, ap, ◌∙◌, arith}
+use Rattle.std.proofs.Common.{◌≡◌, ℕ, zero, suc, ◌+◌, ◌-◌, ◌^◌, ◌<◌, ◌≤◌, List, [], ◌∷◌, take, drop, length, refl, sym, ap, ◌∙◌, arith}
 use Rattle.std.proofs.lemmas.List.{length-take-le, length-drop, take-take, drop-take, drop-drop}
-use Rattle.sj_text_core.specs.Nodes.{Mark}
+use Rattle.sj_text_core.specs.Nodes.{Mark, nothing, tree_of}
+use Rattle.sj_text_core.specs.Tree.{null}
 use Rattle.sj_tape.specs.Stretches.{nodes_in}
 use Rattle.sj_tape.specs.Whole.{all_nodes}
 use Rattle.sj_tape.specs.declared.nodes.Nodes.{Nodes}
@@ -18,3 +19,21 @@ inner ns from end i n h =
 pub few : (ns : Nodes) → length (nodes_in ns) < 2 ^ 64
 unfolding nodes_in
 few ns = omega (arith, long (all_nodes ns.lists.now) ns.from ns.end ns.within, ns.fits)
+
+nil_take : (n : ℕ) → take {A = Mark} n [] ≡ []
+nil_take zero = refl
+nil_take (suc n) = refl
+
+nil_drop : (n : ℕ) → drop {A = Mark} n [] ≡ []
+nil_drop zero = refl
+nil_drop (suc n) = refl
+
+null_in : (from end : ℕ) → tree_of (drop from (take end (nothing ∷ []))) ≡ null
+null_in from zero = ap (λ l. tree_of l) (nil_drop from)
+null_in zero (suc end) = ap (λ l. tree_of (nothing ∷ l)) (nil_take end)
+null_in (suc from) (suc end) = ap (λ l. tree_of (drop from l)) (nil_take end) ∙ ap (λ l. tree_of l) (nil_drop from)
+
+-- a stretch of the one node of a null is a null
+pub null_alone : (ns : Nodes) → all_nodes ns.lists.now ≡ nothing ∷ [] → tree_of (nodes_in ns) ≡ null
+unfolding nodes_in
+null_alone ns alone = ap (λ l. tree_of (drop ns.from (take ns.end l))) alone ∙ null_in ns.from ns.end

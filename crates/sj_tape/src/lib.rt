@@ -36,13 +36,13 @@ pub use array::Array;
 pub use node::Node;
 pub use nodes::Nodes;
 pub use object::Object;
-pub use reader::{Buffers, DEPTH_LIMIT, to_tape, to_tape_with_buffers};
+pub use reader::{Buffers, DEPTH_LIMIT, Spare, to_tape, to_tape_with_buffers, to_tape_with_spare};
 pub use sj_print::{
     BaseGenerator, DumpGenerator, PrettyGenerator, PrettyWriterGenerator, WriterGenerator,
 };
 pub use sj_text_core::{
-    AccessError, BadTape, ErrorKind, ExtendedValueType, Meaning, Refused, Repeats, SameAs,
-    SameWith, Scalar, StaticNode, Steps, TryMake, TryTypeError, TypedValue, ValueAsScalar,
+    AccessError, BadTape, ErrorKind, ExtendedValueType, JsonError, Meaning, Refused, Repeats,
+    SameAs, SameWith, Scalar, StaticNode, Steps, TryMake, TryTypeError, TypedValue, ValueAsScalar,
     ValueType, Writable, WriteError, are_same_bytes,
 };
 pub use tape::Tape;

@@ -9,6 +9,7 @@ use crate::list::List;
 use crate::node::Node;
 use crate::packed::Packed;
 use sj_text_core::StaticNode;
+use std::alloc::Global;
 use std::{fmt, slice};
 
 /// A stretch of the nodes of a tape, whose list is the one in `lists`, or the one node of a null.
@@ -51,6 +52,16 @@ impl<'t, 'i> Nodes<'t, 'i> {
             lists: slice::from_ref(list),
             from: 0,
             end: list.len(),
+        }
+    }
+
+    /// Where the memory of their tape is from; None where there is no tape.
+    pub(crate) fn allocator(&self) -> Option<Global>
+        ensures { IfNone result (all_nodes self.now.lists.now ≡ nothing ∷ []) }
+    {
+        match self.lists.first()? {
+            List::Packed(nodes) => Some(*nodes.allocator()),
+            List::Plain(nodes) => Some(*nodes.allocator()),
         }
     }
 

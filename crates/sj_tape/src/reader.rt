@@ -8,18 +8,22 @@ mod escape;
 mod nodes;
 mod number;
 mod run;
+mod spare;
 mod structure;
 mod text;
 mod value;
 
-ghost use Rattle.std.specs.Prelude.{◌≡◌, ◌≢◌, ◌↔◌, IfOk, IfErr, IsErrOf, IsUtf8};
+ghost use Rattle.std.specs.Prelude.{◌≡◌, ◌≢◌, ◌↔◌, length, max, IfOk, IfErr, OnErr, IsErrOf, IsUtf8};
+ghost use Rattle.sj_text_core.specs.Nodes.{flat};
 ghost use Rattle.sj_text_core.specs.Tree.{Tree, IsWithin};
+ghost use Rattle.sj_tape.specs.Room.{room as room_of};
 ghost use Rattle.sj_text_core.specs.Grammar.{Spells, IsReadable};
 
 pub use crate::reader::buffers::Buffers;
+pub use crate::reader::spare::Spare;
 use crate::reader::value::whole;
 use crate::tape::Tape;
-use sj_text_core::ErrorKind;
+use sj_text_core::{ErrorKind, Refused};
 use std::alloc::Global;
 
 /// How many arrays and objects may be open at once.
@@ -58,8 +62,42 @@ pub fn to_tape_with_buffers<'i>(
     // The bytes are no UTF-8.
     ensures utf8 { IsErrOf result ErrorKind.InvalidUtf8 ↔ ¬ (IsUtf8 bytes.old) }
     ensures err { IfErr result (λ e. e ≢ ErrorKind.InvalidUtf8 → e ≢ ErrorKind.OutOfMemory → ¬ (IsReadable bytes.old)) }
+    // The buffers have room for the nodes of the largest text that was read.
+    ensures room { IfOk result (λ t. room_of buffers.new ≡ max (length (flat t)) (room_of buffers.old)) }
+    ensures kept { OnErr result (room_of buffers.new ≡ room_of buffers.old) }
 {
     read(alloc, bytes, &mut buffers.nodes)
+}
+
+/// Reads as `to_tape` does, into the memory of a tape that is done with, which grows where it is too
+/// small. A refusal hands the memory back.
+pub fn to_tape_with_spare<'i>(
+    bytes: &'i mut [u8],
+    spare: Spare<'i>,
+) -> Result<Tape<'i>, Refused<ErrorKind, Spare<'i>>>
+    // What is read is spelled so, within the limit, and nothing else is.
+    ensures spelled { IfOk result (λ t. Spells bytes.old t) }
+    ensures within { IfOk result (λ t. IsWithin t) }
+    ensures only { IfOk result (λ t. (u : Tree) → Spells bytes.old u → u ≡ t) }
+    // The bytes are no UTF-8.
+    ensures utf8 { IfErr result (λ r. r.why ≡ ErrorKind.InvalidUtf8 ↔ ¬ (IsUtf8 bytes.old)) }
+    ensures err { IfErr result (λ r. r.why ≢ ErrorKind.InvalidUtf8 → r.why ≢ ErrorKind.OutOfMemory → ¬ (IsReadable bytes.old)) }
+{
+    let mut nodes = spare.nodes;
+    nodes.clear();
+    if simdutf8::basic::from_utf8(bytes).is_err() {
+        return Err(Refused {
+            why: ErrorKind::InvalidUtf8,
+            value: Spare { nodes },
+        });
+    }
+    match whole(bytes, DEPTH_LIMIT, &mut nodes) {
+        Ok(()) => Ok(Tape::from_packed(nodes)),
+        Err(why) => Err(Refused {
+            why,
+            value: Spare { nodes },
+        }),
+    }
 }
 
 /// Reads a text, with room for so many nodes at once, where it may have as many.
@@ -71,6 +109,8 @@ fn read<'i>(alloc: Global, bytes: &'i mut [u8], room: &mut usize) -> Result<Tape
     // The bytes are no UTF-8.
     ensures utf8 { IsErrOf result ErrorKind.InvalidUtf8 ↔ ¬ (IsUtf8 bytes.old) }
     ensures err { IfErr result (λ e. e ≢ ErrorKind.InvalidUtf8 → e ≢ ErrorKind.OutOfMemory → ¬ (IsReadable bytes.old)) }
+    ensures room { IfOk result (λ t. room.new ≡ max (length (flat t)) room.old) }
+    ensures kept { OnErr result (room.new ≡ room.old) }
 {
     if simdutf8::basic::from_utf8(bytes).is_err() {
         return Err(ErrorKind::InvalidUtf8);

@@ -5,8 +5,10 @@ use crate::node::Node;
 use crate::nodes::Nodes;
 use crate::packed::Packed;
 use crate::preorder::is_preorder;
+use crate::reader::Spare;
 use crate::value::Value;
 use sj_text_core::{BadTape, Refused, Repeats};
+use std::alloc::Global;
 use std::marker::Model;
 
 /// The nodes of one tree in preorder.
@@ -43,7 +45,7 @@ impl<'i> Tape<'i> {
     pub fn new(nodes: Vec<Node<'i>>) -> Result<Tape<'i>, Refused<BadTape, Vec<Node<'i>>>>
         ensures accepts { IsOk result ↔ IsPreorder (marks nodes.entry.items) }
         ensures tree { IfOk result (λ t. flat t ≡ marks nodes.entry.items) }
-        ensures back { IfErr result (λ r. r.value.items ≡ nodes.entry.items) }
+        ensures back { IfErr result (λ r. r.value ≡ nodes.entry) }
     {
         if is_preorder(&nodes) {
             Ok(Tape {
@@ -64,6 +66,14 @@ impl<'i> Tape<'i> {
     {
         Tape {
             nodes: List::Packed(nodes),
+        }
+    }
+
+    /// Its memory, for the next one. That of nodes of a caller's own is let go.
+    pub fn into_spare(self, alloc: Global) -> Spare<'i> {
+        match self.nodes {
+            List::Packed(nodes) => Spare { nodes },
+            List::Plain(_) => Spare::new(alloc),
         }
     }
 

@@ -1,5 +1,5 @@
 -- What is read of a print.
-use Rattle.std.proofs.Common.{◌≡◌, ◌≢◌, ◌↔◌, ◌⊎◌, ◌≤◌, ℕ, Bool, true, false, IsTrue, IsUtf8, IsErrOf, Err, List, if◌then◌else◌, bytes_eq, refl, sym, ap, ap₂, ◌∙◌, subst, true≢false}
+use Rattle.std.proofs.Common.{◌≡◌, ◌⊎◌, ◌≤◌, ℕ, Bool, true, false, List, if◌then◌else◌, bytes_eq, refl, sym, ap, ap₂, ◌∙◌, subst}
 use Rattle.sj_text_core.specs.Tree.{IsProper, IsWithin, depth, Tree, null, boolean, int, text, list, obj, Items, no_items, item, Members, no_members, member}
 use Rattle.sj_text_core.specs.Edits.{put}
 use Rattle.sj_text_core.specs.Grammar.{Spells, IsReadable}
@@ -9,13 +9,10 @@ use Rattle.sj_text_core.specs.Repeats.{keep_by, keep_last, keep_last_items, keep
 use Rattle.sj_text_core.specs.Same.{Same}
 use Rattle.sj_text_core.specs.declared.repeats.Repeats.{Repeats}
 use Rattle.sj_text_core.specs.declared.repeats.Repeats.TheVariants.{First, Last}
-use Rattle.sj_text_core.specs.declared.error.ErrorKind.{ErrorKind}
-use Rattle.sj_text_core.specs.declared.error.ErrorKind.TheVariants.{InvalidUtf8, OutOfMemory}
 use Rattle.sj_text_core.proofs.Equality.{same-trans}
 use Rattle.sj_text_core.proofs.Finds.{same-keep, same-recarry, depth-recarry, within-recarry}
 use Rattle.sj_text_core.proofs.Printed.{spelled_by}
 use Rattle.sj_text_core.proofs.parse.One.{one_tree}
-use Rattle.sj_text_core.proofs.Unread.{unreadable}
 
 put-recarry : (k : List ℕ) (t : Tree) (ms : Members) → recarry_members (put k t ms) ≡ put k (recarry t) (recarry_members ms)
 put-recarry k t no_members = refl
@@ -81,7 +78,3 @@ module _ (t : Tree) (b : List ℕ) (s : Spells b (recarry t)) where
   -- and each is
   pub readable_back : IsWithin t → IsReadable b
   readable_back w = (recarry t, s, within-recarry t w)
-
-  -- so a refusal that is not of memory comes of a tree past it
-  pub refused_back : {A : Type 0} (k : ErrorKind) → (IsErrOf {T = A} (Err k) InvalidUtf8 ↔ (IsUtf8 b → ⊥)) → (k ≢ InvalidUtf8 → k ≢ OutOfMemory → IsReadable b → ⊥) → k ≢ OutOfMemory → IsTrue false ↔ IsWithin t
-  refused_back k u h n = (λ e. absurd (true≢false (sym e)), λ w. absurd (unreadable k b u h n (readable_back w)))

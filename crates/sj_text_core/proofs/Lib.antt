@@ -18,3 +18,4 @@ pub mod Unread
 pub mod Shapes
 pub mod Paths
 pub mod Words
+pub mod Writes

@@ -15,8 +15,10 @@ pub mod Code
 pub mod Scalars
 pub mod Reads
 pub mod Laws
+pub mod EditLaws
 pub mod ScalarValues
 pub mod Nulls
 pub mod Repeats
 pub mod Agree
 pub mod Equal
+pub mod Faults

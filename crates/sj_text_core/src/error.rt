@@ -1,5 +1,6 @@
 //! Faults, by name.
 
+use crate::refused::Refused;
 use std::alloc::{AllocError, AllocFailed};
 use thiserror::Error;
 
@@ -54,6 +55,20 @@ pub enum AccessError {
     /// The target is no array.
     #[error("not an array")]
     NotAnArray,
+    /// A request for memory was refused.
+    #[error("out of memory")]
+    OutOfMemory,
+}
+
+/// Why a text was not read as a pointer.
+#[derive(Clone, Copy, Debug, PartialEq, Eq, Error)]
+pub enum PointerError {
+    /// The text is not empty and does not begin with a slash (RFC 6901, section 3).
+    #[error("no slash at the start")]
+    NoSlash,
+    /// A tilde has neither a 0 nor a 1 behind it (RFC 6901, section 3).
+    #[error("a tilde without 0 or 1 behind it")]
+    BadTilde,
     /// A request for memory was refused.
     #[error("out of memory")]
     OutOfMemory,
@@ -122,5 +137,61 @@ impl<T: Drop> From<AllocFailed<T>> for AccessError {
 
     fn from(_error: AllocFailed<T>) -> AccessError {
         AccessError::OutOfMemory
+    }
+}
+
+/// The value is let go.
+impl<V: Drop> From<Refused<AllocError, V>> for AccessError {
+    ghost use Rattle.std.specs.Prelude.{◌≡◌};
+    ghost use Rattle.sj_text_core.specs.declared.error.AccessError.TheVariants.{OutOfMemory};
+
+    ghost from_gives = { λ _ e. e ≡ OutOfMemory };
+
+    fn from(_refused: Refused<AllocError, V>) -> AccessError {
+        AccessError::OutOfMemory
+    }
+}
+
+/// The value is let go.
+impl<V: Drop> From<Refused<AccessError, V>> for AccessError {
+    ghost use Rattle.std.specs.Prelude.{◌≡◌};
+
+    ghost from_gives = { λ refused e. e ≡ refused.why };
+
+    fn from(refused: Refused<AccessError, V>) -> AccessError {
+        refused.why
+    }
+}
+
+/// The value is let go.
+impl<V: Drop> From<Refused<AllocError, V>> for AllocError {
+    ghost use Rattle.std.specs.Prelude.{◌≡◌};
+
+    ghost from_gives = { λ refused e. e ≡ refused.why };
+
+    fn from(refused: Refused<AllocError, V>) -> AllocError {
+        refused.why
+    }
+}
+
+impl From<AllocError> for PointerError {
+    ghost use Rattle.std.specs.Prelude.{◌≡◌};
+    ghost use Rattle.sj_text_core.specs.declared.error.PointerError.TheVariants.{OutOfMemory};
+
+    ghost from_gives = { λ _ e. e ≡ OutOfMemory };
+
+    fn from(_error: AllocError) -> PointerError {
+        PointerError::OutOfMemory
+    }
+}
+
+impl<T: Drop> From<AllocFailed<T>> for PointerError {
+    ghost use Rattle.std.specs.Prelude.{◌≡◌};
+    ghost use Rattle.sj_text_core.specs.declared.error.PointerError.TheVariants.{OutOfMemory};
+
+    ghost from_gives = { λ _ e. e ≡ OutOfMemory };
+
+    fn from(_error: AllocFailed<T>) -> PointerError {
+        PointerError::OutOfMemory
     }
 }

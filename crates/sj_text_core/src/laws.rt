@@ -2,6 +2,7 @@
 
 ghost use Rattle.sj_text_core.specs.Laws.{KeepsOnce, KeepsSingle, SingleIsKept, IsPreorderOfOne, PreorderIsFlat, TreeIsListed, SpellsOne, SpellsProper, SpellsUtf8};
 ghost use Rattle.sj_text_core.specs.Laws.{SameAsItself, SameBothWays, SameOnwards, SameKept, SameRecarried, WithinRecarried, FindsKept, FindsKeyKept};
+ghost use Rattle.sj_text_core.specs.EditLaws.{FindsPut, FindsOthersPut, CutIsGone, FindsOthersCut, PushedIsLast, SetIsThere, SetNowhere, SetTwice, SetSame, PathsJoin};
 ghost use Rattle.sj_text_core.specs.Laws.{CompactSpells, PrettySpells, PrintedAlike, PrintedApart, ReadsBack};
 
 /// Keeping the first or the last member of each key twice is keeping it once.
@@ -113,4 +114,54 @@ pub fn printed_apart()
 /// choice, and kept by that choice too.
 pub fn reads_back()
     ensures { ReadsBack }
+{}
+
+/// What was put under a text is found by it.
+pub fn finds_put()
+    ensures { FindsPut }
+{}
+
+/// After a put, other texts find what they found before.
+pub fn finds_others_put()
+    ensures { FindsOthersPut }
+{}
+
+/// What was cut is gone, where no text names two members, as in a kept tree.
+pub fn cut_is_gone()
+    ensures { CutIsGone }
+{}
+
+/// After a cut, other texts find what they found before.
+pub fn finds_others_cut()
+    ensures { FindsOthersCut }
+{}
+
+/// What was pushed is the last item, behind the items that were there.
+pub fn pushed_is_last()
+    ensures { PushedIsLast }
+{}
+
+/// What was set at a path stands there, where something stood there before.
+pub fn set_is_there()
+    ensures { SetIsThere }
+{}
+
+/// Where nothing stands at a path, a write at it changes nothing.
+pub fn set_nowhere()
+    ensures { SetNowhere }
+{}
+
+/// Of two writes at one path the second counts.
+pub fn set_twice()
+    ensures { SetTwice }
+{}
+
+/// What stands at a path, written there, changes nothing.
+pub fn set_same()
+    ensures { SetSame }
+{}
+
+/// A path of two parts leads on from where its first part leads, and a write at it is one there.
+pub fn paths_join()
+    ensures { PathsJoin }
 {}

@@ -10,6 +10,7 @@
 
 mod bytes;
 mod error;
+mod json_error;
 pub mod laws;
 mod meaning;
 mod refused;
@@ -26,7 +27,8 @@ mod value_type;
 mod writable;
 
 pub use bytes::{are_same_bytes, are_same_texts};
-pub use error::{AccessError, BadTape, ErrorKind, WriteError};
+pub use error::{AccessError, BadTape, ErrorKind, PointerError, WriteError};
+pub use json_error::{JsonError, Reason};
 pub use meaning::Meaning;
 pub use refused::Refused;
 pub use repeats::Repeats;

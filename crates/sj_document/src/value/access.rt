@@ -12,7 +12,12 @@ use sj_object::KeyText;
 use sj_text_core::{TryTypeError, TypedValue, ValueType};
 
 impl<T: KeyText> Document<T> {
-    ghost use Rattle.std.specs.Borrow.{LendsSo, sem};
+    ghost use Rattle.std.specs.Borrow.{LendsSo, LendsIf, sem};
+    ghost use Rattle.std.specs.Option.{option_copied_mut};
+    ghost use Rattle.std.specs.Vec.{with_item};
+    ghost use Rattle.sj_text_core.specs.Find.{nth_item};
+    ghost use Rattle.sj_text_core.specs.Paths.{by_key, by_place, set_found};
+    ghost use Rattle.sj_object.specs.Edits.{lookup, with_value};
     ghost use Rattle.sj_document.specs.Document.{tree};
     ghost use Rattle.sj_document.specs.Rows.{document_row, object_row, array_row};
 
@@ -139,25 +144,45 @@ impl<T: KeyText> Document<T> {
         }
     }
 
-    /// The value of the key, to write. What the document is then is said by `as_object_mut` with
-    /// the map's own `get_mut`, and not here.
+    /// The value of the key in the members of an object, to write.
+    fn value_of<'a>(members: &'a mut Object<T>, key: &str) -> Option<&'a mut Document<T>>
+        ensures* writes_back { sem 𝓛 (LendsIf (object_row T.row T.KeyText) (document_row T.row T.KeyText) members.entry result (with_value members.old key.now) members.old) }
+        ensures value { option_copied_mut result ≡ lookup key.now members.old.entries }
+    {
+        members.get_mut(key)
+    }
+
+    /// The value of the key, to write. The document is then as it was, with what the reference
+    /// last held in the place of that value.
     pub fn get_mut(&mut self, key: &str) -> Option<&mut Document<T>>
+        ensures* writes_back { sem 𝓛 (LendsSo (document_row T.row T.KeyText) (document_row T.row T.KeyText) self.entry result
+            (λ n w. OnSome result (tree T.text_of n ≡ set_found (by_key key.now) (tree T.text_of w) (tree T.text_of self.old))) (λ n. tree T.text_of n ≡ tree T.text_of self.old)) }
         ensures value { option_map (λ v. tree T.text_of v.now) result ≡ find key.now (tree T.text_of self.old) }
     {
-        match self {
-            Document::Object(members) => members.get_mut(key),
-            _ => None,
+        match self.as_object_mut() {
+            Some(members) => Document::value_of(members, key),
+            None => None,
         }
     }
 
-    /// The item at that position, to write. What the document is then is said by `as_array_mut`,
-    /// and not here.
+    /// The item at that position among the items of an array, to write.
+    fn item_of(items: &mut Vec<Document<T>>, index: usize) -> Option<&mut Document<T>>
+        ensures* writes_back { sem 𝓛 (LendsIf (array_row T.row T.KeyText) (document_row T.row T.KeyText) items.entry result (with_item items.old index) items.old) }
+        ensures value { option_map (λ v. tree T.text_of v.now) result ≡ nth_item index (items_from (map (tree T.text_of) items.old.items)) }
+    {
+        items.get_mut(index)
+    }
+
+    /// The item at that position, to write. The document is then as it was, with what the
+    /// reference last held in the place of that item.
     pub fn get_idx_mut(&mut self, index: usize) -> Option<&mut Document<T>>
+        ensures* writes_back { sem 𝓛 (LendsSo (document_row T.row T.KeyText) (document_row T.row T.KeyText) self.entry result
+            (λ n w. OnSome result (tree T.text_of n ≡ set_found (by_place index) (tree T.text_of w) (tree T.text_of self.old))) (λ n. tree T.text_of n ≡ tree T.text_of self.old)) }
         ensures value { option_map (λ v. tree T.text_of v.now) result ≡ nth index (tree T.text_of self.old) }
     {
-        match self {
-            Document::Array(items) => items.get_mut(index),
-            _ => None,
+        match self.as_array_mut() {
+            Some(items) => Document::item_of(items, index),
+            None => None,
         }
     }
 }

@@ -4,6 +4,7 @@ ghost use Rattle.std.specs.Prelude.{◌≡◌, IfOk, map};
 ghost use Rattle.sj_object.specs.Members.{entry_members};
 ghost use Rattle.sj_document.specs.Document.{tree};
 
+use crate::value::taken::Taken;
 use crate::value::{Document, Object};
 use sj_object::{HashMap, KeyText, MapOf, ObjectHasher};
 use std::alloc::{AllocError, Global};
@@ -48,14 +49,14 @@ pub(crate) fn convert<T: KeyText + Drop, U: TextFrom<T> + Drop>(
 ) -> Result<Document<U>, AllocError>
     ensures { IfOk result (λ v. tree U.text_of v ≡ tree T.text_of value) }
 {
-    match value {
-        Document::Static(scalar) => Ok(Document::Static(scalar)),
-        Document::String(text) => Ok(Document::String(U::text_from(alloc, text)?)),
-        Document::Array(items) => {
+    match value.take_apart() {
+        Taken::Static(scalar) => Ok(Document::Static(scalar)),
+        Taken::String(text) => Ok(Document::String(U::text_from(alloc, text)?)),
+        Taken::Array(items) => {
             let items = convert_items(alloc, Box::into_inner(items))?;
             Ok(Document::Array(Box::new(alloc, items)?))
         }
-        Document::Object(members) => {
+        Taken::Object(members) => {
             let members = convert_members(alloc, Box::into_inner(members))?;
             Ok(Document::Object(Box::new(alloc, members)?))
         }

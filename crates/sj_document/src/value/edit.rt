@@ -64,10 +64,7 @@ impl<T: KeyText + Drop> Document<T> {
         }
         match self.insert(key, value) {
             Ok(before) => Ok(before),
-            Err(refused) => Err(Refused {
-                why: AllocError,
-                value: refused.value,
-            }),
+            Err(refused) => Err(refused.because(AllocError)),
         }
     }
 

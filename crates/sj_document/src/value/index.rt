@@ -2,7 +2,10 @@
 
 ghost use Rattle.std.specs.Prelude.{◌≡◌, Some, IsSome, option_map};
 ghost use Rattle.sj_text_core.specs.Find.{find, nth};
+ghost use Rattle.std.specs.Borrow.{sem};
+ghost use Rattle.sj_text_core.specs.Paths.{by_key, by_place};
 ghost use Rattle.sj_document.specs.Document.{tree};
+ghost use Rattle.sj_document.specs.Rows.{LendsFound};
 
 use crate::value::Document;
 use sj_object::KeyText;
@@ -34,22 +37,32 @@ impl<T: KeyText> Index<usize> for Document<T> {
     }
 }
 
-/// The value of a key that is there, to write. What the document is then is not said.
+/// The value of a key that is there, to write. The document is then as it was, with what the
+/// reference last held in the place of that value.
 impl<'k, T: KeyText> IndexMut<&'k str> for Document<T> {
     fn index_mut(&mut self, key: &'k str) -> &mut Document<T>
         requires { IsSome (find key.now (tree T.text_of self.old)) }
+        ensures* writes_back { sem 𝓛 (LendsFound T.row T.KeyText self.entry result (by_key key.now)) }
         ensures value { Some (tree T.text_of result.now) ≡ find key.now (tree T.text_of self.old) }
     {
-        self.get_mut(key).unwrap()
+        match self.get_mut(key) {
+            Some(found) => found,
+            None => unreachable!(),
+        }
     }
 }
 
-/// The item at a position that is there, to write. What the document is then is not said.
+/// The item at a position that is there, to write. The document is then as it was, with what the
+/// reference last held in the place of that item.
 impl<T: KeyText> IndexMut<usize> for Document<T> {
     fn index_mut(&mut self, index: usize) -> &mut Document<T>
         requires { IsSome (nth index (tree T.text_of self.old)) }
+        ensures* writes_back { sem 𝓛 (LendsFound T.row T.KeyText self.entry result (by_place index)) }
         ensures value { Some (tree T.text_of result.now) ≡ nth index (tree T.text_of self.old) }
     {
-        self.get_idx_mut(index).unwrap()
+        match self.get_idx_mut(index) {
+            Some(found) => found,
+            None => unreachable!(),
+        }
     }
 }

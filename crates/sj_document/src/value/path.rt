@@ -1,40 +1,105 @@
-//! Writes at a path.
+//! Writes at a path, on a bounded stack and without memory.
+//!
+//! On the way down the part that a step finds is taken out, and what it stood in stands in turn in
+//! the place of the next part that is taken out. On the way up each goes back into its place.
 
-ghost use Rattle.std.specs.Prelude.{◌≡◌, map, string_bytes, Some, None};
-ghost use Rattle.sj_text_core.specs.Paths.{by_key, set_at};
-ghost use Rattle.sj_object.specs.Edits.{lookup, with_value};
+ghost use Rattle.std.specs.Prelude.{◌≡◌, ◌≤◌, length, map, string_bytes};
+ghost use Rattle.sj_text_core.specs.Paths.{Step, by_key, set_at};
 ghost use Rattle.sj_document.specs.Document.{tree};
-ghost use Rattle.sj_document.specs.declared.value.Document.{Document};
+ghost use Rattle.sj_document.specs.Descents.{plug, IsSpine, Descended, Exchanged};
 
-use crate::value::{Document, Object};
+use crate::value::Document;
+use crate::value::swap::swap_member;
 use sj_object::KeyText;
+use std::mem;
 
-/// Puts `new` in the place of what stands at the path of keys, if anything does.
-#[cycle(replace)]
-pub fn replace_at<T: KeyText + Drop>(value: &mut Document<T>, path: &[String], new: Document<T>)
-    ensures { tree T.text_of value.new ≡ set_at (map (λ s. by_key (string_bytes s)) path.now) (tree T.text_of new) (tree T.text_of value.old) }
-{
-    match path {
-        [] => *value = new,
-        [first, rest @ ..] => {
-            if let Document::Object(members) = value {
-                replace_in(members, first.as_str(), rest, new);
-            }
-        }
+/// How steps of one kind lead into documents.
+pub trait Leads<S> {
+    /// What a step means.
+    ghost step_of: { S → Step };
+
+    /// Puts `other` in the place of what the step finds, and answers that. Where it finds nothing,
+    /// `other` comes back as `Err`, and the document stays as it was.
+    fn swap<T: KeyText>(
+        step: &S,
+        value: &mut Document<T>,
+        other: Document<T>,
+    ) -> Result<Document<T>, Document<T>>
+        ensures { Exchanged T.text_of (step_of step.now) other (tree T.text_of value.old) (tree T.text_of value.new) result };
+}
+
+/// Steps that are keys.
+struct ByKey;
+
+impl Leads<String> for ByKey {
+    ghost step_of = { λ s. by_key (string_bytes s) };
+
+    fn swap<T: KeyText>(
+        step: &String,
+        value: &mut Document<T>,
+        other: Document<T>,
+    ) -> Result<Document<T>, Document<T>>
+        ensures { Exchanged T.text_of (by_key (string_bytes step.now)) other (tree T.text_of value.old) (tree T.text_of value.new) result }
+    {
+        swap_member(value, step.as_str(), other)
     }
 }
 
-#[cycle(replace)]
-fn replace_in<T: KeyText + Drop>(
-    members: &mut Object<T>,
-    key: &str,
-    rest: &[String],
-    new: Document<T>,
-)
-    ensures found { (v : Document T) → lookup key.now members.old.entries ≡ Some v → (w : Document T) × ((tree T.text_of w ≡ set_at (map (λ s. by_key (string_bytes s)) rest.now) (tree T.text_of new) (tree T.text_of v)) × (members.new ≡ with_value members.old key.now w)) }
-    ensures absent { lookup key.now members.old.entries ≡ None → members.new ≡ members.old }
+/// Goes down along the path as far as it leads: the value is then what stands there. Answers what
+/// that was taken out of, which `climb` takes, and how many steps were gone.
+pub fn descend<W: Leads<S>, S, T: KeyText + Drop>(
+    value: &mut Document<T>,
+    path: &[S],
+) -> (Document<T>, usize)
+    ensures { Descended (map W.step_of path.now) (tree T.text_of value.old) (tree T.text_of value.new) (tree T.text_of result.0) result.1 }
 {
-    if let Some(child) = members.get_mut(key) {
-        replace_at(child, rest, new);
+    let mut up = Document::null();
+    let mut depth = 0;
+    while depth < path.len() {
+        match W::swap(&path[depth], value, up) {
+            Ok(part) => {
+                up = mem::replace(value, part);
+                depth += 1;
+            }
+            Err(back) => return (back, depth),
+        }
     }
+    (up, depth)
+}
+
+/// Goes back up: the value is then the whole again, with what it was in the place that `depth` steps
+/// lead to.
+pub fn climb<W: Leads<S>, S, T: KeyText + Drop>(
+    value: &mut Document<T>,
+    path: &[S],
+    depth: usize,
+    up: Document<T>,
+)
+    requires within { depth ≤ length path.now }
+    requires spine { IsSpine (map W.step_of path.now) depth (tree T.text_of up) }
+    ensures { tree T.text_of value.new ≡ plug (map W.step_of path.now) depth (tree T.text_of up) (tree T.text_of value.old) }
+{
+    let mut up = up;
+    let mut left = depth;
+    while left > 0 {
+        left -= 1;
+        let below = mem::replace(value, up);
+        up = match W::swap(&path[left], value, below) {
+            Ok(next) => next,
+            Err(back) => back,
+        };
+    }
+}
+
+/// Puts `new` in the place of what stands at the path of keys, if anything does.
+pub fn replace_at<T: KeyText + Drop>(value: &mut Document<T>, path: &[String], new: Document<T>)
+    ensures { tree T.text_of value.new ≡ set_at (map (λ s. by_key (string_bytes s)) path.now) (tree T.text_of new) (tree T.text_of value.old) }
+{
+    let (up, depth) = descend::<ByKey, String, T>(value, path);
+    if depth < path.len() {
+        climb::<ByKey, String, T>(value, path, depth, up);
+        return;
+    }
+    *value = new;
+    climb::<ByKey, String, T>(value, path, depth, up);
 }

@@ -74,8 +74,9 @@ impl<T: KeyText> Writable for Document<T> {
     }
 }
 
-/// A scalar as it is printed, a text as it is, and a container as its compact print, without memory.
-/// It is refused where the formatter refuses.
+/// A scalar as it is printed, a text as it is, and a container as its compact print. It is refused
+/// where the formatter refuses. Memory is asked for past 128 levels alone, and a refusal of it shows
+/// in no answer.
 impl<T: KeyText> fmt::Display for Document<T> {
     ghost output = { λ v. Some (displayed (tree T.text_of v)) };
 
@@ -83,7 +84,8 @@ impl<T: KeyText> fmt::Display for Document<T> {
         match self {
             Document::Static(scalar) => write!(f, "{scalar}"),
             Document::String(text) => f.write_str(text.text()),
-            _ => display(&self, f),
+            Document::Array(items) => display(&self, *Box::allocator(items), f),
+            Document::Object(members) => display(&self, *Box::allocator(members), f),
         }
     }
 }

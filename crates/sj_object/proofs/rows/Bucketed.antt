@@ -1,6 +1,7 @@
 -- How many buckets there are.
-use Rattle.std.proofs.Common.{◌≡◌, [], ◌∷◌, refl, Some, None, arith}
-use Rattle.sj_object.specs.Index.{buckets_in, buckets_for, HasRoom, NeedsHash}
+use Rattle.std.proofs.Common.{◌≡◌, [], ◌∷◌, length, refl, ap, Some, None, arith, Box, Global}
+use Rattle.sj_object.specs.declared.map.index.Table.{Table}
+use Rattle.sj_object.specs.Index.{buckets_of, buckets_for, HasRoom, NeedsHash}
 
 at-32 : buckets_for 32 None ≡ None
 at-32 = refl
@@ -21,12 +22,12 @@ at-129 = refl
 after-removals : buckets_for 1 (Some 128) ≡ Some 128
 after-removals = refl
 
-plain : buckets_in [] ≡ None
+plain : buckets_of None ≡ None
 plain = refl
 
 -- one for each head of a chain, also where all chains are empty
-hashed : buckets_in (0 ∷ 0 ∷ []) ≡ Some 2
-hashed = refl
+hashed : (b : Box Table Global) → b.value.heads.items ≡ 0 ∷ 0 ∷ [] → buckets_of (Some b) ≡ Some 2
+hashed b e = ap (λ hs. Some (length hs)) e
 
 room-plain : HasRoom 32 None
 room-plain = omega arith

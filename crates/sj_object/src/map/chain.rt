@@ -29,17 +29,18 @@ pub fn link(bits: u32, hashes: &[u64], from: usize, links: &mut [usize], heads: 
     }
 }
 
-/// A place once the member at `position` is taken out, whose link is `next`.
+/// A place once the member at `position` is taken out, whose link is `next`. It has no branch, so
+/// several places are renumbered at once.
 #[inline]
 fn renumber(place: usize, position: usize, next: usize) -> usize
     ensures { result ≡ renumbered position next place }
 {
-    if place <= position {
-        place
-    } else if place - 1 == position {
+    let is_behind = place > position;
+    let lower = place - usize::from(is_behind);
+    if is_behind & (lower == position) {
         next
     } else {
-        place - 1
+        lower
     }
 }
 

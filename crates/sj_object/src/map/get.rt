@@ -20,7 +20,7 @@ impl<K: KeyText, V, S: KeyHasher> HashMap<K, V, S> {
     pub(super) fn hash_in(&self, key: &str) -> u64
         ensures { IsSome self.now.buckets → result ≡ S.hash_of self.now.hasher key.now }
     {
-        if self.index.is_plain() {
+        if self.index.is_none() {
             0
         } else {
             self.hasher.hash_text(key)

@@ -1,57 +1,41 @@
 //! The index of a map's members by their hashes.
 
-ghost use Rattle.std.specs.Prelude.{◌≡◌, ◌↔◌, ◌+◌, ◌<◌, ◌∷◌, ◌++◌, [], length, map, Some, IsTrue, IfOk, OnOk, OnErr};
+ghost use Rattle.std.specs.Prelude.{◌≡◌, ◌+◌, ◌-◌, ◌<◌, ◌∷◌, ◌++◌, [], ℕ, List, length, take, map, Some, IfOk, IfSome, OnOk, OnErr};
 ghost use Rattle.std.specs.List.{remove};
 ghost use Rattle.std.specs.Vec.{vec_len, vec_capacity};
 ghost use Rattle.sj_object.specs.Index.{buckets_of, buckets_for, IsTable, IsIndexOf};
 
-use super::chain::{link, renumber_all};
+use super::chain::{bucket_of, link, renumber_all};
 use crate::hasher::KeyHasher;
 use crate::key::KeyText;
 use std::alloc::{AllocError, Global};
 
+/// The index of a map's members; None for a plain list. It stands in a box, so that a plain list
+/// has little beside its members.
+pub type Index = Option<Box<Table>>;
+
 /// The hash of each member, the link to the next one in its chain, and where the chains begin, one
-/// for each bucket. A plain list has none of these.
+/// for each bucket.
 #[derive(Drop)]
-pub struct Index {
+pub struct Table {
     pub(super) bits: u32,
     pub(super) hashes: Vec<u64>,
     pub(super) links: Vec<usize>,
     pub(super) heads: Vec<usize>,
 }
 
-impl Index {
-    /// The index of a plain list.
-    pub fn new(alloc: Global) -> Self
-        ensures { result.heads.items ≡ [] }
-    {
-        Index {
-            bits: 0,
-            hashes: Vec::new(alloc),
-            links: Vec::new(alloc),
-            heads: Vec::new(alloc),
-        }
+/// How many buckets there are; None for a plain list.
+pub fn buckets(index: &Index) -> Option<usize>
+    ensures { result ≡ buckets_of index.now }
+{
+    match index {
+        None => None,
+        Some(table) => Some(table.heads.len()),
     }
+}
 
-    /// How many buckets there are; None for a plain list.
-    pub fn buckets(&self) -> Option<usize>
-        ensures { result ≡ buckets_of self.now }
-    {
-        if self.heads.is_empty() {
-            None
-        } else {
-            Some(self.heads.len())
-        }
-    }
-
-    /// Whether there are no buckets.
-    pub fn is_plain(&self) -> bool
-        ensures { IsTrue result ↔ (length self.now.heads.items ≡ 0) }
-    {
-        self.heads.is_empty()
-    }
-
-    /// The index of 33 members, with 64 buckets.
+impl Table {
+    /// The table of 33 members, with 64 buckets.
     fn of_hashes(alloc: Global, hashes: Vec<u64>) -> Result<Self, AllocError>
         requires { length hashes.items ≡ 33 }
         ensures hashes { IfOk result (λ i. i.hashes.items ≡ hashes.items) }
@@ -61,7 +45,7 @@ impl Index {
         let mut links = vec![in alloc; 0; hashes.len()]?;
         let mut heads = vec![in alloc; 0; 64]?;
         link(6, &hashes, 0, &mut links, &mut heads);
-        Ok(Index {
+        Ok(Table {
             bits: 6,
             hashes,
             links,
@@ -121,20 +105,56 @@ impl Index {
     }
 
     /// Takes the hash at a position out, and closes the rest up.
-    pub fn remove(&mut self, position: usize)
-        requires within { 0 < length self.old.heads.items → position < length self.old.hashes.items }
-        requires table { 0 < length self.old.heads.items → IsTable self.old }
-        ensures hashes { 0 < length self.old.heads.items → self.new.hashes.items ≡ remove self.old.hashes.items position }
+    fn remove(&mut self, position: usize)
+        requires within { position < length self.old.hashes.items }
+        requires table { IsTable self.old }
+        ensures hashes { self.new.hashes.items ≡ remove self.old.hashes.items position }
         ensures buckets { length self.new.heads.items ≡ length self.old.heads.items }
-        ensures table { 0 < length self.old.heads.items → IsTable self.new }
+        ensures table { IsTable self.new }
     {
-        if self.heads.is_empty() {
-            return;
-        }
         self.hashes.remove(position);
         let next = self.links.remove(position);
         renumber_all(&mut self.links, position, next);
         renumber_all(&mut self.heads, position, next);
+    }
+
+    /// Takes the last hash out. Its member heads a chain, so no other link changes.
+    fn pop(&mut self)
+        requires within { 0 < length self.old.hashes.items }
+        requires table { IsTable self.old }
+        ensures hashes { self.new.hashes.items ≡ take (length self.old.hashes.items - 1) self.old.hashes.items }
+        ensures buckets { length self.new.heads.items ≡ length self.old.heads.items }
+        ensures table { IsTable self.new }
+    {
+        let last = self.hashes.len() - 1;
+        let bucket = bucket_of(self.hashes[last], self.bits);
+        self.heads[bucket] = self.links[last];
+        self.hashes.truncate(last);
+        self.links.truncate(last);
+    }
+}
+
+/// Takes the hash at a position out, where there are buckets.
+pub fn remove(index: &mut Index, position: usize)
+    requires { IfSome index.old (λ b. (position < length b.value.hashes.items) × IsTable b.value) }
+    ensures index { (hashes : List ℕ) → position < length hashes → IsIndexOf hashes index.old → IsIndexOf (remove hashes position) index.new }
+    ensures buckets { buckets_of index.new ≡ buckets_of index.old }
+{
+    match index {
+        None => {}
+        Some(table) => table.remove(position),
+    }
+}
+
+/// Takes the last hash out, where there are buckets.
+pub fn pop(index: &mut Index)
+    requires { IfSome index.old (λ b. (0 < length b.value.hashes.items) × IsTable b.value) }
+    ensures index { (hashes : List ℕ) → 0 < length hashes → IsIndexOf hashes index.old → IsIndexOf (take (length hashes - 1) hashes) index.new }
+    ensures buckets { buckets_of index.new ≡ buckets_of index.old }
+{
+    match index {
+        None => {}
+        Some(table) => table.pop(),
     }
 }
 
@@ -169,15 +189,15 @@ fn add<K: KeyText, V, S: KeyHasher>(
     ensures refused { OnErr result (IsIndexOf (map (λ p. S.hash_of hasher.now (K.text_of p.0)) pairs.now) index.new) }
     ensures refused_buckets { OnErr result (buckets_of index.new ≡ buckets_of index.old) }
 {
-    if !index.is_plain() {
-        return index.push(alloc, hash);
+    match index {
+        Some(table) => table.push(alloc, hash),
+        None if pairs.len() < 32 => Ok(()),
+        None => {
+            let hashes = hashes_of(alloc, pairs, hasher, hash)?;
+            *index = Some(Box::new(alloc, Table::of_hashes(alloc, hashes)?)?);
+            Ok(())
+        }
     }
-    if pairs.len() < 32 {
-        return Ok(());
-    }
-    let hashes = hashes_of(alloc, pairs, hasher, hash)?;
-    *index = Index::of_hashes(alloc, hashes)?;
-    Ok(())
 }
 
 /// Makes every growth for one more member, whose hash is then there: only the pair is missing.

@@ -80,7 +80,7 @@ impl<K: KeyText, V, S: KeyHasher> HashMap<K, V, S> {
     pub(crate) fn hash_for(&self, text: &str) -> u64
         ensures { NeedsHash (length self.now.entries) self.now.buckets → result ≡ S.hash_of self.now.hasher text.now }
     {
-        if self.index.is_plain() && self.pairs.len() < 32 {
+        if self.index.is_none() && self.pairs.len() < 32 {
             0
         } else {
             self.hasher.hash_text(text)

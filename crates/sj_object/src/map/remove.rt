@@ -1,14 +1,15 @@
 //! What takes a member out.
 
-ghost use Rattle.std.specs.Prelude.{◌≡◌};
+ghost use Rattle.std.specs.Prelude.{◌≡◌, ◌++◌, [], IfNone, option_to_list};
 
-use super::HashMap;
 use super::search::position_of;
+use super::{HashMap, index};
 use crate::hasher::KeyHasher;
 use crate::key::KeyText;
 
 impl<K: KeyText, V, S: KeyHasher> HashMap<K, V, S> {
     ghost use Rattle.sj_object.specs.Edits.{lookup, cut};
+    ghost use Rattle.sj_object.specs.Entries.{entries_of};
 
     /// Takes the key's member out, and answers its value. The members after it close up.
     pub fn remove(&mut self, key: &str) -> Option<V>
@@ -22,7 +23,34 @@ impl<K: KeyText, V, S: KeyHasher> HashMap<K, V, S> {
         let hash = self.hash_in(key);
         let i = position_of(&self.pairs, &self.index, &self.hasher, hash, key)?;
         let (_, value) = self.pairs.remove(i);
-        self.index.remove(i);
+        index::remove(&mut self.index, i);
         Some(value)
+    }
+
+    /// Takes the last member out.
+    pub fn pop(&mut self) -> Option<(K, V)>
+    where
+        ensures entries { self.old.entries ≡ self.new.entries ++ entries_of K.text_of (option_to_list result) }
+        ensures none { IfNone result (self.new.entries ≡ []) }
+        ensures hasher { self.new.hasher ≡ self.old.hasher }
+        ensures buckets { self.new.buckets ≡ self.old.buckets }
+    {
+        let pair = self.pairs.pop()?;
+        index::pop(&mut self.index);
+        Some(pair)
+    }
+
+    /// Lets a map without members go, whatever its keys and values are.
+    pub fn destroy_empty(self)
+    where
+        S: Drop,
+        requires { self.entries ≡ [] }
+    {
+        let HashMap {
+            pairs,
+            hasher: _,
+            index: _,
+        } = self;
+        pairs.destroy_empty();
     }
 }

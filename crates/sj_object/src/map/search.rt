@@ -1,14 +1,14 @@
 //! Where a key stands among the members.
 
-ghost use Rattle.std.specs.Prelude.{◌≡◌, ◌+◌, ◌<◌, ◌%◌, ◌^◌, ◌&&◌, ◌∷◌, [], true, map, length, bytes_eq};
+ghost use Rattle.std.specs.Prelude.{◌≡◌, ◌+◌, ◌<◌, ◌%◌, ◌^◌, ◌&&◌, ◌∷◌, [], true, map, length, IsSome, bytes_eq};
 ghost use Rattle.std.specs.List.{position_from};
 ghost use Rattle.sj_object.specs.Entries.{entries_of, texts};
 ghost use Rattle.sj_object.specs.Texts.{no_repeats};
 ghost use Rattle.sj_object.specs.Steps.{visited, walk, compared};
-ghost use Rattle.sj_object.specs.Index.{IsIndexOf, buckets_of};
+ghost use Rattle.sj_object.specs.Index.{IsIndexOf, IsTableOf, buckets_of};
 
 use super::chain::bucket_of;
-use super::index::Index;
+use super::index::{Index, Table};
 use crate::hasher::KeyHasher;
 use crate::key::KeyText;
 use sj_text_core::{Steps, are_same_bytes};
@@ -46,26 +46,25 @@ fn position_in_list<K: KeyText, V, L: Ledger>(
 /// The same along the chain of the text's bucket.
 fn position_in_chain<K: KeyText, V, S: KeyHasher, L: Ledger>(
     pairs: &[(K, V)],
-    index: &Index,
+    table: &Table,
     _hasher: &S,
     hash: u64,
     text: &[u8],
     steps: &mut Steps<L>,
 ) -> Option<usize>
     requires distinct { no_repeats (texts (entries_of K.text_of pairs.now)) ≡ true }
-    requires index { IsIndexOf (map (λ p. S.hash_of _hasher.now (K.text_of p.0)) pairs.now) index.now }
-    requires hashed { 0 < length index.now.heads.items }
+    requires table { IsTableOf (map (λ p. S.hash_of _hasher.now (K.text_of p.0)) pairs.now) table.now }
     requires hash { hash ≡ S.hash_of _hasher.now text.now }
     ensures found { result ≡ position_from (λ p. bytes_eq text.now (K.text_of p.0)) 0 pairs.now }
-    ensures exact { steps.new ≡ steps.old + walk (S.hash_of _hasher.now) (length index.now.heads.items) text.now (entries_of K.text_of pairs.now) }
+    ensures exact { steps.new ≡ steps.old + walk (S.hash_of _hasher.now) (length table.now.heads.items) text.now (entries_of K.text_of pairs.now) }
 {
-    let mut place = index.heads[bucket_of(hash, index.bits)];
+    let mut place = table.heads[bucket_of(hash, table.bits)];
     while place > 0 {
         let i = place - 1;
-        if is_key(index.hashes[i] == hash, &pairs[i].0, text, steps) {
+        if is_key(table.hashes[i] == hash, &pairs[i].0, text, steps) {
             return Some(i);
         }
-        place = index.links[i];
+        place = table.links[i];
     }
     None
 }
@@ -81,14 +80,14 @@ pub fn position_counted<K: KeyText, V, S: KeyHasher, L: Ledger>(
 ) -> Option<usize>
     requires distinct { no_repeats (texts (entries_of K.text_of pairs.now)) ≡ true }
     requires index { IsIndexOf (map (λ p. S.hash_of hasher.now (K.text_of p.0)) pairs.now) index.now }
-    requires hash { 0 < length index.now.heads.items → hash ≡ S.hash_of hasher.now text.now }
+    requires hash { IsSome (buckets_of index.now) → hash ≡ S.hash_of hasher.now text.now }
     ensures found { result ≡ position_from (λ p. bytes_eq text.now (K.text_of p.0)) 0 pairs.now }
     ensures exact { steps.new ≡ steps.old + compared (S.hash_of hasher.now) (buckets_of index.now) text.now (entries_of K.text_of pairs.now) }
 {
-    if index.is_plain() {
-        return position_in_list(pairs, text, steps);
+    match index {
+        None => position_in_list(pairs, text, steps),
+        Some(table) => position_in_chain(pairs, table, hasher, hash, text, steps),
     }
-    position_in_chain(pairs, index, hasher, hash, text, steps)
 }
 
 /// The same, where nobody reads the steps.
@@ -105,7 +104,7 @@ fn position_blank<K: KeyText, V, S: KeyHasher, L: Ledger>(
     requires some { 0 < L.parts }
     requires distinct { no_repeats (texts (entries_of K.text_of pairs.now)) ≡ true }
     requires index { IsIndexOf (map (λ p. S.hash_of hasher.now (K.text_of p.0)) pairs.now) index.now }
-    requires hash { 0 < length index.now.heads.items → hash ≡ S.hash_of hasher.now text.now }
+    requires hash { IsSome (buckets_of index.now) → hash ≡ S.hash_of hasher.now text.now }
     ensures { result ≡ position_from (λ p. bytes_eq text.now (K.text_of p.0)) 0 pairs.now }
 {
     let mut steps = Steps::<L>::new(blank);
@@ -122,7 +121,7 @@ pub fn position_of<K: KeyText, V, S: KeyHasher>(
 ) -> Option<usize>
     requires distinct { no_repeats (texts (entries_of K.text_of pairs.now)) ≡ true }
     requires index { IsIndexOf (map (λ p. S.hash_of hasher.now (K.text_of p.0)) pairs.now) index.now }
-    requires hash { 0 < length index.now.heads.items → hash ≡ S.hash_of hasher.now text.now }
+    requires hash { IsSome (buckets_of index.now) → hash ≡ S.hash_of hasher.now text.now }
     ensures { result ≡ position_from (λ p. bytes_eq text.now (K.text_of p.0)) 0 pairs.now }
 {
     position_blank::<K, V, S, Brand>(pairs, index, hasher, hash, text.as_bytes(), Blank::new(1))

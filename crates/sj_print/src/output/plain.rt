@@ -1,6 +1,6 @@
 //! Passing over the plain bytes of a text.
 
-ghost use Rattle.std.specs.Prelude.{◌≡◌, ◌+◌, ◌≤◌, length, drop, map};
+ghost use Rattle.std.specs.Prelude.{◌≡◌, ◌+◌, ◌<◌, ◌≤◌, length, drop, map};
 ghost use Rattle.std.specs.Bool.{OnTrue};
 ghost use Rattle.std.specs.List.{prefix_len};
 ghost use Rattle.std.specs.Simd.Lanes.{mask_l};
@@ -83,6 +83,25 @@ fn is_all_plain_far(text: &[u8]) -> bool
     stops(u8x16::from_slice(&text[text.len() - 16..])) == 0
 }
 
+/// Whether a byte is neither a quote nor a backslash nor a control byte.
+#[inline(always)]
+fn is_plain_byte(byte: u8) -> bool
+    ensures { result ≡ is_plain byte }
+{
+    byte != b'"' && byte != b'\\' && byte >= 0x20
+}
+
+/// `is_all_plain` of a text below 4 bytes: the first, the middle and the last are all of them.
+#[inline(always)]
+fn is_all_plain_few(text: &[u8]) -> bool
+    requires { length text.now < 4 }
+    ensures { OnTrue result (prefix_len is_plain text.now ≡ length text.now) }
+{
+    let len = text.len();
+    len == 0
+        || (is_plain_byte(text[0]) & is_plain_byte(text[len / 2]) & is_plain_byte(text[len - 1]))
+}
+
 /// Whether the text has no quote, backslash or control byte. A short text is seen by two loads that
 /// overlap.
 #[inline(always)]
@@ -97,6 +116,6 @@ pub(super) fn is_all_plain(text: &[u8]) -> bool
     } else if len >= 4 {
         stops_4(u8x4::from_slice(text)) == 0 && stops_4(u8x4::from_slice(&text[len - 4..])) == 0
     } else {
-        plain_end_slowly(text, 0) == len
+        is_all_plain_few(text)
     }
 }

@@ -13,6 +13,7 @@ use crate::node::Node;
 use crate::packed::Packed;
 use sj_print::{Count, Output, PlainText, count};
 use sj_text_core::WriteError;
+use std::alloc::Global;
 
 /// Where a text in quotes ends that needs no escape and begins there.
 #[inline(always)]
@@ -66,14 +67,19 @@ fn count_compact(nodes: &[Packed], before: usize) -> Result<usize, WriteError>
 
 impl<'t, 'i> PackedTree<'t, 'i> {
     /// How many bytes there are with the print behind so many.
-    pub(super) fn count(&self, pretty: bool, before: usize) -> Result<usize, WriteError>
+    pub(super) fn count(
+        &self,
+        pretty: bool,
+        before: usize,
+        alloc: Global,
+    ) -> Result<usize, WriteError>
         ensures ok { IfOk result (λ n. n ≡ before + length (laid (top pretty) (packed_tree self.now))) }
         ensures err { OnErr result (2 ^ 64 ≤ before + length (laid (top pretty) (packed_tree self.now))) }
         ensures why { IfErr result (λ e. e ≡ WriteError.TooLong) }
         ensures fits { OnOk result (before + length (laid (top pretty) (packed_tree self.now)) + 1 ≤ 2 ^ 64) }
     {
         if pretty {
-            count(self, pretty, before)
+            count(self, pretty, before, alloc)
         } else {
             count_compact(self.nodes(), before)
         }

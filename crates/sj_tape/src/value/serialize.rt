@@ -72,7 +72,7 @@ impl<'t, 'i> Value<'t, 'i> {
     {
         match self.packed() {
             Some(packed) => {
-                let len = packed.count(pretty, 0)?;
+                let len = packed.count(pretty, 0, alloc)?;
                 Ok(encode_counted(&packed, pretty, len, alloc)?)
             }
             None => encode(self, pretty, alloc),
@@ -88,7 +88,7 @@ impl<'t, 'i> Value<'t, 'i> {
     {
         match self.packed() {
             Some(packed) => {
-                let end = packed.count(pretty, out.len())?;
+                let end = packed.count(pretty, out.len(), *out.allocator())?;
                 Ok(write_counted(&packed, pretty, end, out)?)
             }
             None => write(self, pretty, out),
@@ -128,9 +128,12 @@ impl<'t, 'i> fmt::Display for Value<'t, 'i> {
         if let Some(text) = self.into_string() {
             return write!(f, "{text}");
         }
+        let Some(alloc) = self.nodes.allocator() else {
+            unreachable!()
+        };
         match self.packed() {
-            Some(packed) => display(&packed, f),
-            None => display(self, f),
+            Some(packed) => display(&packed, alloc, f),
+            None => display(self, alloc, f),
         }
     }
 }

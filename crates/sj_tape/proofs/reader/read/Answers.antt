@@ -1,6 +1,8 @@
-use Rattle.std.proofs.Common.{IsUtf8, rules}
+use Rattle.std.proofs.Common.{◌≡◌, IsUtf8, length, max, rules, sym, ap, ◌∙◌}
+use Rattle.std.proofs.lemmas.List.{length-map}
 use Rattle.std.proofs.lemmas.Result.{err_from_is_err_and}
-use Rattle.sj_tape.specs.Marks.{packed_marks}
+use Rattle.sj_text_core.specs.Nodes.{flat}
+use Rattle.sj_tape.specs.Marks.{packed_mark, packed_marks}
 use Rattle.sj_tape.proofs.Reading.{is_read, is_taped, preorder_is, unreadable}
 use Rattle.sj_tape.proofs.reader.read.Goals as goal
 
@@ -26,3 +28,11 @@ pub returns-in_err-whole-clause-err : goal.returns-in_err-whole-clause-err
 returns-in_err-whole-clause-err c =
     let p = err_from_is_err_and c.from_residual-in_err-whole.result c.from_residual-in_err-whole.ensures.1 in
     rw (p.1, p.2) (λ _ n. unreadable c.args.bytes.now (c.in_err-whole.ensures.err n))
+
+pub returns-clause-room : goal.returns-clause-room
+returns-clause-room c =
+    let ms = packed_marks c.whole.new.nodes.items in
+    let e : length c.whole.new.nodes.items ≡ length (flat c.from_packed.result) =
+    sym (length-map c.whole.new.nodes.items packed_mark) ∙ ap length (preorder_is ms c.in_ok-whole.ensures.ok.tree c.in_ok-whole.ensures.ok.nodes) ∙ ap (λ t. length (flat t)) (sym c.from_packed.ensures) in
+    let l : c.len.result ≡ length c.whole.new.nodes.items = search rules in
+    c.max.ensures ∙ ap (λ n. max n c.args.room.now) (l ∙ e)

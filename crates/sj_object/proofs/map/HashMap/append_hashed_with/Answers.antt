@@ -4,10 +4,10 @@ use Rattle.sj_text_core.specs.Keep.{is_seen}
 use Rattle.sj_object.specs.Entries.{entries_of, texts}
 use Rattle.sj_object.specs.HashMap.{same_contents}
 use Rattle.sj_object.specs.Edits.{put}
-use Rattle.sj_object.specs.Index.{buckets_of, buckets_for}
+use Rattle.sj_object.specs.Index.{IsIndexOf, buckets_of, buckets_for}
 use Rattle.sj_object.proofs.Repeats.{no_repeats-push}
 use Rattle.sj_object.proofs.Position.{absent_at, unseen_where_none}
-use Rattle.sj_object.proofs.Hashed.{hashes, hashes-length, room_of}
+use Rattle.sj_object.proofs.Hashed.{hashes, hashes-last, hashes-length, room_of}
 use Rattle.sj_object.proofs.Added.{made_entries, made_value, made_length}
 use Rattle.sj_object.proofs.Lent.{lent_same}
 use Rattle.sj_object.proofs.map.HashMap.append_hashed_with.Goals as goal
@@ -31,6 +31,16 @@ invariant_of-self-inside-2 g c =
       no_repeats-push t c.self.inside.pairs.items c.push_reserved.new.self.items true c.args.key c.with-value.result c.self.inside.distinct a.unseen e,
       (room_of t c.push_reserved.new.self.items _ c.make_room.new.index c.in_default.ensures.ok n, tt),
     )
+
+pub invariant_of-self-2 : goal.invariant_of-self-2
+invariant_of-self-2 g c =
+    let t = g.K.KeyText.text_of in
+    let H = g.S.KeyHasher.hash_of c.self.inside.hasher in
+    let ps = c.self.inside.pairs.items in
+    let b = c.make_room.new.index in
+    let known = c.requires.hash ∙ ap (λ m. g.S.KeyHasher.hash_of m.hasher (t c.args.key)) (sym c.self.view_is) in
+    let e = ap (hashes t H) (c.push_reserved.ensures.items ∙ ap (λ l. l ++ (c.args.key, c.with-value.result) ∷ []) c.make_room.ensures.pairs) ∙ hashes-last t H ps (c.args.key, c.with-value.result) in
+    subst (λ hs. IsIndexOf hs b) (sym e) (subst (λ h. IsIndexOf (hashes t H ps ++ h ∷ []) b) known c.in_default.ensures.ok)
 
 pub returns : goal.returns
 returns g c =

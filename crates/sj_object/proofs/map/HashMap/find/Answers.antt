@@ -2,7 +2,7 @@ use Rattle.std.proofs.Common.{refl, sym, ap, ◌∙◌, arith, subst, IsSome}
 use Rattle.sj_object.specs.Edits.{lookup}
 use Rattle.sj_object.specs.Index.{IsIndexOf}
 use Rattle.sj_object.proofs.Position.{found, absent}
-use Rattle.sj_object.proofs.Hashed.{hashes, has_buckets}
+use Rattle.sj_object.proofs.Hashed.{hashes}
 use Rattle.sj_object.proofs.map.HashMap.find.Goals as goal
 
 pub index-requires : goal.index-requires
@@ -24,4 +24,4 @@ pub position_of-requires-clause-index : goal.position_of-requires-clause-index
 position_of-requires-clause-index g c = subst (λ ps. IsIndexOf (hashes g.K.KeyText.text_of (g.S.KeyHasher.hash_of c.self.inside.hasher) ps) c.self.inside.index) (sym c.deref.ensures.value) c.self.invariant
 
 pub position_of-requires-clause-hash : goal.position_of-requires-clause-hash
-position_of-requires-clause-hash g c = λ l. c.requires (subst (λ m. IsSome m.buckets) c.self.view_is (has_buckets c.self.inside.index.heads.items l)) ∙ ap (λ m. g.S.KeyHasher.hash_of m.hasher c.args.key.now) (sym c.self.view_is)
+position_of-requires-clause-hash g c = λ l. c.requires (subst (λ m. IsSome m.buckets) c.self.view_is l) ∙ ap (λ m. g.S.KeyHasher.hash_of m.hasher c.args.key.now) (sym c.self.view_is)

@@ -5,7 +5,7 @@ use Rattle.sj_object.specs.HashMap.{same_contents}
 use Rattle.sj_object.specs.Edits.{lookup, with_value, texts-set_value, length-set_value}
 use Rattle.sj_object.specs.Index.{IsIndexOf, HasRoom, buckets_of}
 use Rattle.sj_object.proofs.Position.{found, absent}
-use Rattle.sj_object.proofs.Hashed.{hashes, hashes-set, has_buckets}
+use Rattle.sj_object.proofs.Hashed.{hashes, hashes-set}
 use Rattle.sj_object.proofs.Lent.{lent_same}
 use Rattle.sj_object.proofs.map.HashMap.find_mut.Goals as goal
 
@@ -45,7 +45,7 @@ pub position_of-requires-clause-index : goal.position_of-requires-clause-index
 position_of-requires-clause-index g c = subst (λ ps. IsIndexOf (hashes g.K.KeyText.text_of (g.S.KeyHasher.hash_of c.self.inside.hasher) ps) c.self.inside.index) (sym c.deref.ensures.value) c.self.invariant
 
 pub position_of-requires-clause-hash : goal.position_of-requires-clause-hash
-position_of-requires-clause-hash g c = λ l. c.requires (subst (λ m. IsSome m.buckets) c.self.view_is (has_buckets c.self.inside.index.heads.items l)) ∙ ap (λ m. g.S.KeyHasher.hash_of m.hasher c.args.key.now) (sym c.self.view_is)
+position_of-requires-clause-hash g c = λ l. c.requires (subst (λ m. IsSome m.buckets) c.self.view_is l) ∙ ap (λ m. g.S.KeyHasher.hash_of m.hasher c.args.key.now) (sym c.self.view_is)
 
 pub invariant_of-self-lent : goal.invariant_of-self-lent
 invariant_of-self-lent g c w =

@@ -4,7 +4,7 @@ use Rattle.sj_object.specs.Entries.{texts, entries_of}
 use Rattle.sj_object.specs.Edits.{lookup, put, texts-set_value, length-set_value}
 use Rattle.sj_object.proofs.Repeats.{entries_of-append}
 use Rattle.sj_object.specs.Index.{IsIndexOf, NeedsHash, HasRoom, buckets_of}
-use Rattle.sj_object.proofs.Hashed.{hashes, hashes-set, needs_hash, same_inside}
+use Rattle.sj_object.proofs.Hashed.{hashes, hashes-set, needs_where_some, same_inside}
 use Rattle.sj_object.proofs.Position.{found, absent}
 use Rattle.sj_object.proofs.map.HashMap.put.Goals as goal
 
@@ -73,7 +73,7 @@ pub position_of-requires-clause-hash : goal.position_of-requires-clause-hash
 position_of-requires-clause-hash g c = λ l.
     let t = g.K.KeyText.text_of in
     let m = c.self.inside in
-    c.requires (subst (λ v. NeedsHash (length v.entries) v.buckets) c.self.view_is (needs_hash (length (entries_of t m.pairs.items)) m.index.heads.items l))
+    c.requires (subst (λ v. NeedsHash (length v.entries) v.buckets) c.self.view_is (needs_where_some (length (entries_of t m.pairs.items)) (buckets_of m.index) l))
     ∙ (λ j. g.S.KeyHasher.hash_of (sym c.self.view_is j).hasher (sym c.text.ensures j))
 
 pub same-self : goal.same-self

@@ -3,7 +3,7 @@ use Rattle.sj_object.specs.Texts.{no_repeats}
 use Rattle.sj_object.specs.Entries.{texts, entries_of}
 use Rattle.sj_object.specs.Edits.{lookup, cut}
 use Rattle.sj_object.specs.Index.{IsIndexOf, HasRoom, buckets_of}
-use Rattle.sj_object.proofs.Hashed.{hashes, hashes-remove, IsIndexOf-remove, buckets_same, same_inside, entries-length, room_fewer}
+use Rattle.sj_object.proofs.Hashed.{hashes, hashes-remove, same_inside, entries-length, room_fewer}
 use Rattle.std.proofs.lemmas.List.{length-map}
 use Rattle.std.proofs.lemmas.List.Edits.{length-remove}
 use Rattle.sj_object.proofs.Repeats.{no_repeats-cut}
@@ -25,7 +25,7 @@ invariant_of-self-inside-2 g c =
     let qs = c.remove-value.new.self.items in
     let n : length (entries_of t qs) ≤ length (entries_of t ps) = omega (arith, entries-length t qs, entries-length t ps, ap length c.remove-value.ensures.items, length-remove ps c.in_ok-i.i f.within) in (
       ap (λ es. no_repeats (texts es)) (ap (entries_of t) c.remove-value.ensures.items ∙ f.cut_at) ∙ no_repeats-cut k (entries_of t c.self.inside.pairs.items) c.self.inside.distinct,
-      (subst (HasRoom (length (entries_of t qs))) (sym (buckets_same c.remove.new.self.heads.items m.index.heads.items c.remove.ensures.buckets)) (room_fewer (length (entries_of t qs)) (length (entries_of t ps)) (buckets_of m.index) n m.room), tt),
+      (subst (HasRoom (length (entries_of t qs))) (sym c.remove.ensures.buckets) (room_fewer (length (entries_of t qs)) (length (entries_of t ps)) (buckets_of m.index) n m.room), tt),
     )
 
 pub returns-clause-answer : goal.returns-clause-answer
@@ -64,8 +64,8 @@ invariant_of-self g c =
     let i = c.in_ok-i.i in
     let f = found t c.args.key.now c.in_ok-i.was c.position_of.ensures refl c.deref.ensures.value in
     let l : i < length (hashes t H ps) = omega (arith, f.within, length-map ps (λ (p : g.row.K.Denot × g.row.V.Denot). H (t p.0))) in
-    let r = IsIndexOf-remove (hashes t H ps) c.self.inside.index c.remove.new.self i l c.self.invariant c.remove.ensures.buckets c.remove.ensures.hashes c.remove.ensures.table in
-    subst (λ hs. IsIndexOf hs c.remove.new.self) (sym (ap (hashes t H) c.remove-value.ensures.items ∙ hashes-remove t H ps i)) r
+    let r = c.remove.ensures.index (hashes t H ps) l c.self.invariant in
+    subst (λ hs. IsIndexOf hs c.remove.new.index) (sym (ap (hashes t H) c.remove-value.ensures.items ∙ hashes-remove t H ps i)) r
 
 pub returns-clause-buckets : goal.returns-clause-buckets
-returns-clause-buckets g c = buckets_same c.remove.new.self.heads.items c.self.inside.index.heads.items c.remove.ensures.buckets ∙ ap (λ m. m.buckets) c.self.view_is
+returns-clause-buckets g c = c.remove.ensures.buckets ∙ ap (λ m. m.buckets) c.self.view_is

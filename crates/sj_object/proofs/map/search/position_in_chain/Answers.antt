@@ -13,16 +13,16 @@ use Rattle.sj_object.proofs.map.search.position_in_chain.Goals as goal
 
 pub loop-place-init : goal.loop-place-init
 loop-place-init g c =
-    let q = c.requires.index.table c.requires.hashed in
-    let n = 2 ^ c.args.index.now.bits in
+    let q = c.requires.table.table in
+    let n = 2 ^ c.args.table.now.bits in
     let x = c.args.hash in
-    let hs = c.args.index.now.hashes.items in
-    let a = agrees g.K.KeyText.text_of (g.S.KeyHasher.hash_of c.args._hasher.now) c.args.text.now c.args.pairs.now hs x (c.requires.index.same c.requires.hashed) c.requires.hash in
+    let hs = c.args.table.now.hashes.items in
+    let a = agrees g.K.KeyText.text_of (g.S.KeyHasher.hash_of c.args._hasher.now) c.args.text.now c.args.pairs.now hs x c.requires.table.same c.requires.hash in
     let b = c.bucket_of.result in
-    let l : x % n < n = omega (arith, pow_pos c.args.index.now.bits) in
-    let w : b < length c.args.index.now.heads.items = omega (arith, q.linked.count, c.bucket_of.ensures) in
+    let l : x % n < n = omega (arith, pow_pos c.args.table.now.bits) in
+    let w : b < length c.args.table.now.heads.items = omega (arith, q.linked.count, c.bucket_of.ensures) in
     let e : c.index-place.result.now ≡ last_below n (x % n) hs (length hs) =
-    c.index-place.ensures ∙ get_or_default c.args.index.now.heads.items b c.index-place.result.now 0 w ∙ ap (λ m. get_or c.args.index.now.heads.items m 0) c.bucket_of.ensures ∙ q.linked.starts (x % n) l in
+    c.index-place.ensures ∙ get_or_default c.args.table.now.heads.items b c.index-place.result.now 0 w ∙ ap (λ m. get_or c.args.table.now.heads.items m 0) c.bucket_of.ensures ∙ q.linked.starts (x % n) l in
     let s = at_start n x c.args.text.now hs (texts (entries_of g.K.KeyText.text_of c.args.pairs.now)) a c.index-place.result.now e in
     record { stands = s.0; counted = omega (arith, s.1) }
 
@@ -46,11 +46,11 @@ returns-then-is_key-clause-exact g c =
     let ps = c.args.pairs.now in
     let i = c.loop-place.place - 1 in
     let r = c.index-pairs-i.result in
-    let q = c.requires.index.table c.requires.hashed in
-    let n = 2 ^ c.args.index.now.bits in
+    let q = c.requires.table.table in
+    let n = 2 ^ c.args.table.now.bits in
     let x = c.args.hash in
-    let hs = c.args.index.now.hashes.items in
-    let d = c.requires.index.same c.requires.hashed in
+    let hs = c.args.table.now.hashes.items in
+    let d = c.requires.table.same in
     let a = agrees t H k ps hs x d c.requires.hash in
     let l : i < length ps = omega (arith, texts-length t ps, c.loop-place.invariant.stands.within) in
     let e = compared_true (nat_eq c.index.result.now c.args.hash) (bytes_eq k (t (get_or ps i r).0)) (sym c.is_key.ensures.answer ∙ c.if-is_key.true) in
@@ -61,16 +61,16 @@ returns-then-is_key-clause-exact g c =
 
 pub loop-place-smaller : goal.loop-place-smaller
 loop-place-smaller g c =
-    let q = c.requires.index.table c.requires.hashed in
-    let n = 2 ^ c.args.index.now.bits in
-    let hs = c.args.index.now.hashes.items in
+    let q = c.requires.table.table in
+    let n = 2 ^ c.args.table.now.bits in
+    let hs = c.args.table.now.hashes.items in
     let i = c.loop-place.place - 1 in
     let p = c.index-place-in-loop-place.result.now in
     let t = g.K.KeyText.text_of in
-    let a = agrees t (g.S.KeyHasher.hash_of c.args._hasher.now) c.args.text.now c.args.pairs.now hs c.args.hash (c.requires.index.same c.requires.hashed) c.requires.hash in
+    let a = agrees t (g.S.KeyHasher.hash_of c.args._hasher.now) c.args.text.now c.args.pairs.now hs c.args.hash c.requires.table.same c.requires.hash in
     let v : i < length hs = omega (arith, a.size, c.loop-place.invariant.stands.within) in
-    let z : i < length c.args.index.now.links.items = omega (arith, q.linked.size, v) in
-    let e : p ≡ last_below n (get_or hs i 0 % n) hs i = c.index-place-in-loop-place.ensures ∙ get_or_default c.args.index.now.links.items i p 0 z ∙ q.linked.nexts i v in
+    let z : i < length c.args.table.now.links.items = omega (arith, q.linked.size, v) in
+    let e : p ≡ last_below n (get_or hs i 0 % n) hs i = c.index-place-in-loop-place.ensures ∙ get_or_default c.args.table.now.links.items i p 0 z ∙ q.linked.nexts i v in
     omega (arith, e, last_le n (get_or hs i 0 % n) hs i)
 
 pub loop-place-preserved : goal.loop-place-preserved
@@ -81,15 +81,15 @@ loop-place-preserved g c =
     let ps = c.args.pairs.now in
     let i = c.loop-place.place - 1 in
     let r = c.index-pairs-i.result in
-    let q = c.requires.index.table c.requires.hashed in
-    let n = 2 ^ c.args.index.now.bits in
+    let q = c.requires.table.table in
+    let n = 2 ^ c.args.table.now.bits in
     let x = c.args.hash in
-    let hs = c.args.index.now.hashes.items in
-    let a = agrees t H k ps hs x (c.requires.index.same c.requires.hashed) c.requires.hash in
+    let hs = c.args.table.now.hashes.items in
+    let a = agrees t H k ps hs x c.requires.table.same c.requires.hash in
     let p = c.index-place-in-loop-place.result.now in
     let v : i < length hs = omega (arith, a.size, c.loop-place.invariant.stands.within) in
-    let z : i < length c.args.index.now.links.items = omega (arith, q.linked.size, v) in
-    let e : p ≡ last_below n (get_or hs i 0 % n) hs i = c.index-place-in-loop-place.ensures ∙ get_or_default c.args.index.now.links.items i p 0 z ∙ q.linked.nexts i v in
+    let z : i < length c.args.table.now.links.items = omega (arith, q.linked.size, v) in
+    let e : p ≡ last_below n (get_or hs i 0 % n) hs i = c.index-place-in-loop-place.ensures ∙ get_or_default c.args.table.now.links.items i p 0 z ∙ q.linked.nexts i v in
     let l : i < length ps = omega (arith, texts-length t ps, c.loop-place.invariant.stands.within) in
     let o : get_or (texts (entries_of t ps)) i [] ≡ t (get_or ps i r).0 = text_there t ps i r l c.index-pairs-i.is in
     let same : bytes_eq k (t (get_or ps i r).0) ≡ true → c.index.result.now ≡ x = λ y. c.index.ensures ∙ get_or_default hs i c.index.result.now 0 v ∙ a.same i (omega (arith, a.size)) (ap (bytes_eq k) o ∙ y) in
@@ -110,12 +110,12 @@ returns-clause-exact g c =
     let H = g.S.KeyHasher.hash_of c.args._hasher.now in
     let k = c.args.text.now in
     let ps = c.args.pairs.now in
-    let n = 2 ^ c.args.index.now.bits in
+    let n = 2 ^ c.args.table.now.bits in
     let x = c.args.hash in
-    let hs = c.args.index.now.hashes.items in
-    let q = c.requires.index.table c.requires.hashed in
+    let hs = c.args.table.now.hashes.items in
+    let q = c.requires.table.table in
     let z : c.loop-place.place ≡ 0 = omega arith in
     let u : is_seen k (texts (entries_of t ps)) ≡ false = subst (λ m. is_seen k (drop m (texts (entries_of t ps))) ≡ false) z c.loop-place.invariant.stands.unseen in
-    let w = ap (λ m. walk H m k (entries_of t ps)) q.linked.count ∙ walk_absent t H k n x ps hs u (c.requires.index.same c.requires.hashed) c.requires.hash in
+    let w = ap (λ m. walk H m k (entries_of t ps)) q.linked.count ∙ walk_absent t H k n x ps hs u c.requires.table.same c.requires.hash in
     let d : count n (x % n) hs c.loop-place.place ≡ count n (x % n) hs 0 = ap (count n (x % n) hs) z in
     omega (arith, w, d, c.loop-place.invariant.counted)

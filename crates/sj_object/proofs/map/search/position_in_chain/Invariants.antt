@@ -6,8 +6,8 @@ use Rattle.sj_object.proofs.map.search.position_in_chain.Given as goal
 -- no member behind has the text, and those of the bucket behind were counted
 abbrev pub invariant-loop-place : goal.invariant-loop-place
 invariant-loop-place g l = record {
-  stands : IsAt (2 ^ l.index.bits) (l.hash % 2 ^ l.index.bits) l.text l.index.hashes.items (texts (entries_of g.K.KeyText.text_of l.pairs)) l.place;
-  counted : l.steps ≡ l.fn.steps + count (2 ^ l.index.bits) (l.hash % 2 ^ l.index.bits) l.index.hashes.items l.place;
+  stands : IsAt (2 ^ l.table.bits) (l.hash % 2 ^ l.table.bits) l.text l.table.hashes.items (texts (entries_of g.K.KeyText.text_of l.pairs)) l.place;
+  counted : l.steps ≡ l.fn.steps + count (2 ^ l.table.bits) (l.hash % 2 ^ l.table.bits) l.table.hashes.items l.place;
 }
 
 abbrev pub decreases-loop-place : goal.decreases-loop-place

@@ -1,0 +1,41 @@
+use Rattle.std.proofs.Common.{◌≡◌, ◌+◌, ℕ, length, sym, ap, ◌∙◌, rules, arith, Box, Vec, Global, Some, None}
+use Rattle.sj_document.specs.Nodes.{nodes, nodes_of}
+use Rattle.sj_document.specs.declared.value.Document.{Document, Array, Object, the_lemmas}
+use Rattle.sj_document.proofs.Trees.{Map}
+use Rattle.sj_document.proofs.Nodes.{nodes-Array, nodes-Object, of_items, of_members, items_popped, members_popped, members_rest, none_popped, items_zero}
+use Rattle.sj_document.proofs.value.Document.pop_part.Goals as goal
+
+pub returns-in-Array-clause-fewer : goal.returns-in-Array-clause-fewer
+returns-in-Array-clause-fewer g c =
+    let b : Box (Vec (Document g.row.T.Denot) Global) Global = record c.in-Array.items { value = c.pop.new.self } in
+    let same : c.deref_mut.result.now ≡ c.in-Array.items.value = c.deref_mut.ensures.value ∙ ap (λ b. b.value) c.in-Array.items-is in
+    ap nodes c.in-Array.is ∙ nodes-Array c.in-Array.items ∙ ap (λ v. of_items v.items + 1) (sym same)
+    ∙ items_popped c.deref_mut.result.now.items c.pop.new.self.items c.pop.result c.pop.ensures.items
+    ∙ ap (λ n. n + nodes_of c.pop.result) (sym (ap nodes (let e : _ ≡ Array b = search (rules, the_lemmas) in e) ∙ nodes-Array b))
+
+pub returns-in-Array-clause-none : goal.returns-in-Array-clause-none
+returns-in-Array-clause-none g c =
+    let b : Box (Vec (Document g.row.T.Denot) Global) Global = record c.in-Array.items { value = c.pop.new.self } in
+    none_popped c.pop.result c.deref_mut.result.now.len c.pop.new.self.len _ c.pop.ensures.cases (λ z. ap nodes (let e : _ ≡ Array b = search (rules, the_lemmas) in e) ∙ nodes-Array b ∙ items_zero c.pop.new.self.items (sym c.pop.new.self.ok.0 ∙ z))
+
+pub returns-in-Some-clause-fewer : goal.returns-in-Some-clause-fewer
+returns-in-Some-clause-fewer g c =
+    let t = g.T.KeyText.text_of in
+    let b : Box (Map g.row.T.Denot) Global = record c.in-Object.members { value = c.pop-in-Object.new.self } in
+    let same : c.deref_mut-in-Object.result.now ≡ c.in-Object.members.value = c.deref_mut-in-Object.ensures.value ∙ ap (λ b. b.value) c.in-Object.members-is in
+    ap nodes c.in-Object.is ∙ nodes-Object c.in-Object.members ∙ ap (λ m. of_members m.entries + 1) (sym same)
+    ∙ members_popped t c.deref_mut-in-Object.result.now.entries c.pop-in-Object.new.self.entries (c.in-Some.field-0-0, c.in-Some.value) c.in-Some.ensures.entries
+    ∙ ap (λ n. n + nodes c.in-Some.value) (sym (ap nodes (let e : _ ≡ Object b = search (rules, the_lemmas) in e) ∙ nodes-Object b))
+
+pub returns-in-Object-clause-fewer : goal.returns-in-Object-clause-fewer
+returns-in-Object-clause-fewer g c =
+    let b : Box (Map g.row.T.Denot) Global = record c.in-Object.members { value = c.pop-in-Object.new.self } in
+    let same : c.deref_mut-in-Object.result.now ≡ c.in-Object.members.value = c.deref_mut-in-Object.ensures.value ∙ ap (λ b. b.value) c.in-Object.members-is in
+    ap nodes c.in-Object.is ∙ nodes-Object c.in-Object.members ∙ ap (λ m. of_members m.entries + 1) (sym same)
+    ∙ members_rest c.deref_mut-in-Object.result.now.entries c.pop-in-Object.new.self.entries c.in-None.ensures.entries
+    ∙ ap (λ n. n + 0) (sym (ap nodes (let e : _ ≡ Object b = search (rules, the_lemmas) in e) ∙ nodes-Object b))
+
+pub returns-in-Object-clause-none : goal.returns-in-Object-clause-none
+returns-in-Object-clause-none g c =
+    let b : Box (Map g.row.T.Denot) Global = record c.in-Object.members { value = c.pop-in-Object.new.self } in
+    ap nodes (let e : _ ≡ Object b = search (rules, the_lemmas) in e) ∙ nodes-Object b ∙ ap (λ es. of_members es + 1) c.in-None.ensures.none

@@ -1,0 +1,17 @@
+use Rattle.std.proofs.Common.{◌≡◌, ◌≤◌, length, map}
+use Rattle.sj_document.specs.Document.{tree}
+use Rattle.sj_document.specs.Descents.{plug, IsSpine}
+use Rattle.sj_document.proofs.value.path.climb.Given as goal
+
+abbrev pub invariant-loop-left : goal.invariant-loop-left
+invariant-loop-left g l =
+    let t = g.T.KeyText.text_of in
+    let p = map g.W.Leads.step_of l.path in
+    record {
+      within : l.left ≤ length l.path;
+      spine : IsSpine p l.left (tree t l.up);
+      whole : plug p l.left (tree t l.up) (tree t l.value) ≡ plug p l.fn.depth (tree t l.fn.up) (tree t l.fn.value);
+    }
+
+abbrev pub decreases-loop-left : goal.decreases-loop-left
+decreases-loop-left g l = l.left
