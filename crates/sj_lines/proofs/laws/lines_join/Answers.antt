@@ -1,0 +1,5 @@
+use Rattle.sj_lines.proofs.LineLemmas.{concat-full_lines}
+use Rattle.sj_lines.proofs.laws.lines_join.Goals as goal
+
+pub returns : goal.returns
+returns c = λ b. concat-full_lines b

@@ -1,0 +1,8 @@
+-- What lines are still to come.
+use Rattle.std.specs.Prelude.{ℕ, suc, List}
+use Rattle.sj_lines.specs.Lines.{full_lines, numbered}
+use Rattle.sj_lines.specs.declared.lines.Lines.{Lines}
+
+-- the texts ahead, by the numbers of their lines
+abbrev pub ahead : Lines → List (ℕ × List ℕ)
+ahead s = numbered (suc s.line) (full_lines s.rest.now)
