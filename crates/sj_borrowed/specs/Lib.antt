@@ -13,3 +13,4 @@ pub use Rattle.sj_object.specs.Edits
 pub use Rattle.sj_object.specs.Index
 pub use Rattle.sj_tape.specs.Value as TapeValue
 pub use Rattle.sj_document.specs.Document
+pub mod Faults

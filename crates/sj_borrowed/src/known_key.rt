@@ -4,6 +4,7 @@ ghost use Rattle.std.specs.Prelude.{◌≡◌, string_bytes};
 ghost use Rattle.std.specs.Cow.{cow_str_bytes};
 ghost use Rattle.sj_text_core.specs.Hash.{hash as hash_of_text};
 
+mod change;
 mod error;
 mod insert;
 mod lookup;
@@ -21,6 +22,12 @@ pub use target::{KnownKeyTarget, KnownKeyTargetMut};
 
 /// A key beside its hash, which is taken once, where the known key is made. Contracts see it as
 /// its key.
+///
+/// ```
+/// let key = KnownKey::from("topic");
+/// key.insert(&mut document, Value::from("news"))?;
+/// key.lookup(&document).is_some(); // true
+/// ```
 #[derive(Debug, Drop)]
 pub struct KnownKey<'k> {
     key: CowStr<'k>,
@@ -43,6 +50,11 @@ impl<'k> Model for KnownKey<'k> {
 
 impl<'k> KnownKey<'k> {
     /// The key.
+    ///
+    /// ```
+    /// let key = KnownKey::from(CowStr::Borrowed("count"));
+    /// key.key(); // the text `count`, lent
+    /// ```
     pub fn key(&self) -> &CowStr<'k>
         ensures { result.now ≡ self.now }
     {

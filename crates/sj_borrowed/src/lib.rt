@@ -10,18 +10,18 @@
 //! ```
 //! let mut bytes = b"{\"some\":[\"key\",\"value\",2],\"some\":3}".to_vec(alloc)?;
 //! let mut value = sj_borrowed::to_value(alloc, bytes.as_mut_slice())?;
-//! assert!(rt; value.contains_key("some"));
-//! assert!(rt; matches!(value["some"].get_idx(0), Some(Value::String(CowStr::Borrowed("key")))));
+//! value.contains_key("some"); // true
 //! value.insert(CowStr::Borrowed("n"), Value::from("lent"))?;
-//! assert_eq!(rt; value.get_str("n"), Some("lent"));
+//! value.get_str("n"); // Some("lent")
 //! let copy = value.clone_static(alloc)?;
-//! assert_eq!(rt; value.pop(), Err(AccessError::NotAnArray));
-//! assert_eq!(rt; copy.encode(alloc)?.as_str(), "{\"some\":[\"key\",\"value\",2],\"n\":\"lent\"}");
+//! value.pop(); // refused: an object is no array
+//! println!(rt; "{copy}")?; // {"some":["key","value",2],"n":"lent"}
 //! ```
 #![tactic(auto)]
 
 pub mod known_key;
 pub mod laws;
+pub mod prelude;
 mod read;
 
 pub use known_key::KnownKey;
@@ -29,12 +29,15 @@ pub use read::{
     to_borrowed_value, to_borrowed_value_with_buffers, to_value, to_value_repeats,
     to_value_with_buffers,
 };
-pub use sj_document::{BorrowedValue, borrowed_from_tape, replace_at, same};
+pub use sj_document::{
+    BorrowedValue, Change, Replace, Taken, borrowed_from_tape, change_item, change_member,
+    replace_at, same,
+};
 pub use sj_object::{HashMap, ObjectHasher};
 pub use sj_tape::Buffers;
 pub use sj_text_core::{
-    AccessError, ErrorKind, ExtendedValueType, Refused, Repeats, SameAs, StaticNode, TryMake,
-    TryTypeError, TypedValue, ValueAsScalar, ValueType, Writable, WriteError,
+    AccessError, ErrorKind, ExtendedValueType, JsonError, Refused, Repeats, SameAs, StaticNode,
+    TryMake, TryTypeError, TypedValue, ValueAsScalar, ValueType, Writable, WriteError,
 };
 use std::borrow::CowStr;
 

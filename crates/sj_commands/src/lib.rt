@@ -15,4 +15,5 @@ pub mod laws;
 mod lines;
 
 pub use command::{Command, Step, Width, command_of};
-pub use lines::{Cut, cut_at_mark, line_len, text_len};
+pub use lines::{Cut, cut_at_mark};
+pub use sj_lines::{line_len, text_len};

@@ -7,6 +7,7 @@ use Rattle.sj_text_core.specs.declared.repeats.Repeats.TheVariants.{First}
 use Rattle.sj_tape.specs.Members.{chosen}
 use Rattle.sj_object.specs.Entries.{Entry, entries_of, texts, keys, values}
 use Rattle.sj_object.specs.Members.{entry_members}
+use Rattle.sj_lazy.specs.Value.{Form, of_tape, of_lent}
 
 pub listed-from : (ts : List Tree) → listed (items_from ts) ≡ ts
 listed-from [] = refl
@@ -32,14 +33,24 @@ pub no_members-empty : (ms : Members) → IsTrue (nat_eq (members_len ms) 0) ↔
 no_members-empty no_members = (λ e. refl, λ e. refl)
 no_members-empty (member k t ms) = (λ e. absurd (true≢false (sym e ∙ eqb-suc-zero _)), λ e. cc)
 
--- the same, each with the choice of a document
-pub parts-items : {A : Type 0} (f : A → Tree) (vs : List A) → map {B = Repeats × Tree} (λ v. (First, f v)) vs ≡ map (λ t. (First, t)) (listed (items_from (map f vs)))
+-- the same, each with the form and the choice of a lent document
+pub parts-items : {A : Type 0} (f : A → Tree) (vs : List A) → map {B = Form × (Repeats × Tree)} (λ v. (of_lent, (First, f v))) vs ≡ map (λ t. (of_lent, (First, t))) (listed (items_from (map f vs)))
 parts-items f [] = refl
-parts-items f (v ∷ vs) = ap (λ (l : List (Repeats × Tree)). (First, f v) ∷ l) (parts-items f vs)
+parts-items f (v ∷ vs) = ap (λ (l : List (Form × (Repeats × Tree))). (of_lent, (First, f v)) ∷ l) (parts-items f vs)
 
-pub parts-members : {K V : Type 0} (t : K → List ℕ) (f : V → Tree) (ps : List (K × V)) → map {B = List ℕ × (Repeats × Tree)} (λ (p : K × V). (t p.0, (First, f p.1))) ps ≡ chosen First (paired (entry_members f (entries_of t ps)))
+pub parts-members : {K V : Type 0} (t : K → List ℕ) (f : V → Tree) (ps : List (K × V))
+    → map {B = List ℕ × (Form × (Repeats × Tree))} (λ (p : K × V). (t p.0, (of_lent, (First, f p.1)))) ps ≡ map (λ (p : List ℕ × (Repeats × Tree)). (p.0, (of_lent, p.1))) (chosen First (paired (entry_members f (entries_of t ps))))
 parts-members t f [] = refl
-parts-members t f (p ∷ ps) = ap (λ (l : List (List ℕ × (Repeats × Tree))). (t p.0, (First, f p.1)) ∷ l) (parts-members t f ps)
+parts-members t f (p ∷ ps) = ap (λ (l : List (List ℕ × (Form × (Repeats × Tree)))). (t p.0, (of_lent, (First, f p.1))) ∷ l) (parts-members t f ps)
+
+-- and with those of a part of a tape
+pub formed-items : (c : Repeats) (ts : List Tree) → map {B = Form × (Repeats × Tree)} (λ (p : Repeats × Tree). (of_tape, p)) (map (λ t. (c, t)) ts) ≡ map (λ t. (of_tape, (c, t))) ts
+formed-items c [] = refl
+formed-items c (t ∷ ts) = ap (λ (l : List (Form × (Repeats × Tree))). (of_tape, (c, t)) ∷ l) (formed-items c ts)
+
+pub formed-values : (ps : List (List ℕ × (Repeats × Tree))) → map {B = Form × (Repeats × Tree)} (λ (p : Repeats × Tree). (of_tape, p)) (map (λ p. p.1) ps) ≡ map (λ p. (of_tape, p.1)) ps
+formed-values [] = refl
+formed-values (p ∷ ps) = ap (λ (l : List (Form × (Repeats × Tree))). (of_tape, p.1) ∷ l) (formed-values ps)
 
 pub keys-texts : {K V : Type 0} (t : K → List ℕ) (ps : List (K × V)) → map t (keys (entries_of t ps)) ≡ texts (entries_of t ps)
 keys-texts t [] = refl
@@ -49,6 +60,6 @@ pub texts-members : {K V : Type 0} (f : V → Tree) (es : List (Entry K V)) → 
 texts-members f [] = refl
 texts-members f (e ∷ es) = ap (λ l. e.0.1 ∷ l) (texts-members f es)
 
-pub values-members : {K V : Type 0} (f : V → Tree) (es : List (Entry K V)) → map {B = Repeats × Tree} (λ v. (First, f v)) (values es) ≡ map (λ (p : List ℕ × (Repeats × Tree)). p.1) (chosen First (paired (entry_members f es)))
+pub values-members : {K V : Type 0} (f : V → Tree) (es : List (Entry K V)) → map {B = Form × (Repeats × Tree)} (λ v. (of_lent, (First, f v))) (values es) ≡ map (λ (p : List ℕ × (Repeats × Tree)). (of_lent, p.1)) (chosen First (paired (entry_members f es)))
 values-members f [] = refl
-values-members f (e ∷ es) = ap (λ (l : List (Repeats × Tree)). (First, f e.1) ∷ l) (values-members f es)
+values-members f (e ∷ es) = ap (λ (l : List (Form × (Repeats × Tree))). (of_lent, (First, f e.1)) ∷ l) (values-members f es)

@@ -7,6 +7,7 @@ use Rattle.sj_text_core.specs.declared.repeats.Repeats.{Repeats}
 use Rattle.sj_text_core.specs.declared.repeats.Repeats.TheVariants.{First}
 use Rattle.sj_tape.specs.Items as tape
 use Rattle.sj_document.specs.Document.{tree as document_tree}
+use Rattle.sj_lazy.specs.Value.{Form, of_tape, of_lent}
 use Rattle.sj_lazy.specs.declared.array.Array.{Array}
 use Rattle.sj_lazy.specs.declared.array.Array.TheVariants as array
 use Rattle.sj_lazy.specs.declared.array.Iter.{Iter}
@@ -26,7 +27,12 @@ abbrev pub array_choice : Array → Repeats
 array_choice (array.Tape a) = tape.array_choice a
 array_choice (array.Value v) = First
 
+-- the form of its items, as reads give them
+abbrev pub item_form : Array → Form
+item_form (array.Tape a) = of_tape
+item_form (array.Value v) = of_lent
+
 -- the lazy values that an iterator has left
-abbrev pub parts_ahead : Iter → List (Repeats × Tree)
-parts_ahead (iter.Tape it) = tape.parts_ahead it
-parts_ahead (iter.Value it) = map (λ d. (First, document_tree cow_str_bytes d)) (iter_rest it)
+abbrev pub parts_ahead : Iter → List (Form × (Repeats × Tree))
+parts_ahead (iter.Tape it) = map (λ p. (of_tape, p)) (tape.parts_ahead it)
+parts_ahead (iter.Value it) = map (λ d. (of_lent, (First, document_tree cow_str_bytes d))) (iter_rest it)

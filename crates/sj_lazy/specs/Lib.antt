@@ -2,6 +2,7 @@ pub mod Value
 pub mod Array
 pub mod Object
 pub mod Edits
+pub mod Loans
 pub mod SameMap
 pub mod Rows
 pub mod Paths

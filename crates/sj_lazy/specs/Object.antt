@@ -7,6 +7,7 @@ use Rattle.sj_text_core.specs.declared.repeats.Repeats.TheVariants.{First}
 use Rattle.sj_tape.specs.Members as tape
 use Rattle.sj_object.specs.Members.{entry_members}
 use Rattle.sj_document.specs.Document.{tree as document_tree}
+use Rattle.sj_lazy.specs.Value.{Form, of_tape, of_lent}
 use Rattle.sj_lazy.specs.declared.object.Object.{Object}
 use Rattle.sj_lazy.specs.declared.object.Object.TheVariants as object
 use Rattle.sj_lazy.specs.declared.object.Iter.{Iter}
@@ -30,10 +31,15 @@ abbrev pub object_choice : Object → Repeats
 object_choice (object.Tape o) = tape.object_choice o
 object_choice (object.Value m) = First
 
+-- the form of its values, as reads give them
+abbrev pub value_form : Object → Form
+value_form (object.Tape o) = of_tape
+value_form (object.Value m) = of_lent
+
 -- the members that an iterator has left, their values as lazy values
-abbrev pub parts_ahead : Iter → List (List ℕ × (Repeats × Tree))
-parts_ahead (iter.Tape it) = tape.parts_ahead it
-parts_ahead (iter.Value it) = map (λ p. (cow_str_bytes p.0, (First, document_tree cow_str_bytes p.1))) it
+abbrev pub parts_ahead : Iter → List (List ℕ × (Form × (Repeats × Tree)))
+parts_ahead (iter.Tape it) = map (λ p. (p.0, (of_tape, p.1))) (tape.parts_ahead it)
+parts_ahead (iter.Value it) = map (λ p. (cow_str_bytes p.0, (of_lent, (First, document_tree cow_str_bytes p.1)))) it
 
 -- the keys that an iterator has left
 abbrev pub keys_ahead : Keys → List (List ℕ)
@@ -41,6 +47,6 @@ keys_ahead (keys.Tape it) = tape.keys_ahead it
 keys_ahead (keys.Value it) = map cow_str_bytes it
 
 -- the lazy values that an iterator has left
-abbrev pub values_ahead : Values → List (Repeats × Tree)
-values_ahead (values.Tape it) = tape.value_parts_ahead it
-values_ahead (values.Value it) = map (λ d. (First, document_tree cow_str_bytes d)) it
+abbrev pub values_ahead : Values → List (Form × (Repeats × Tree))
+values_ahead (values.Tape it) = map (λ p. (of_tape, p)) (tape.value_parts_ahead it)
+values_ahead (values.Value it) = map (λ d. (of_lent, (First, document_tree cow_str_bytes d))) it

@@ -61,6 +61,11 @@ abbrev pub form : {P B T : Type 0} → Lazy P B T → Form
 form (Tape x) = of_tape
 form (Value c) = shared_form c
 
+-- the form of its parts, as reads give them: a part of the same tape, or one that is lent
+abbrev pub part_form : {P B T : Type 0} → Lazy P B T → Form
+part_form (Tape x) = of_tape
+part_form (Value c) = of_lent
+
 abbrev pub Text : Type 0
 Text = CowStr Global
 
@@ -96,6 +101,10 @@ kept = lazy_kept part_kept lent_tree cow_str_bytes
 -- a lazy value as its readers see it
 abbrev pub part : Lazy TapeValue (Bor (Document Text)) Text → Repeats × Tree
 part v = (choice v, tree v)
+
+-- the same, as an iterator yields it
+abbrev pub formed : Lazy TapeValue (Bor (Document Text)) Text → Form × (Repeats × Tree)
+formed v = (form v, part v)
 
 -- the value of the member of a text that counts
 abbrev pub found : Lazy TapeValue (Bor (Document Text)) Text → List ℕ → Option Tree

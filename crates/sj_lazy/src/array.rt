@@ -18,8 +18,8 @@ pub enum Array<'b, 't, 'i> {
 }
 
 impl<'b, 't, 'i> Array<'b, 't, 'i> {
-    ghost use Rattle.sj_lazy.specs.Array.{items, items_ahead, parts_ahead, array_choice};
-    ghost use Rattle.sj_lazy.specs.Value.{tree, choice};
+    ghost use Rattle.sj_lazy.specs.Array.{items, items_ahead, parts_ahead, array_choice, item_form};
+    ghost use Rattle.sj_lazy.specs.Value.{tree, choice, form};
 
     /// The same array.
     pub fn clone(&self) -> Self
@@ -32,6 +32,7 @@ impl<'b, 't, 'i> Array<'b, 't, 'i> {
     pub fn get(&self, index: usize) -> Option<Value<'b, 't, 'i>>
         ensures value { option_map tree result ≡ nth_item index (items self.now) }
         ensures choice { IfSome result (λ v. choice v ≡ array_choice self.now) }
+        ensures form { IfSome result (λ v. form v ≡ item_form self.now) }
     {
         match self {
             Array::Tape(items) => of_tape(items.get(index)),
@@ -59,7 +60,7 @@ impl<'b, 't, 'i> Array<'b, 't, 'i> {
     /// The items in order.
     pub fn iter(&self) -> Iter<'b, 't, 'i>
         ensures items { items_ahead result ≡ listed (items self.now) }
-        ensures parts { parts_ahead result ≡ map (λ t. (array_choice self.now, t)) (listed (items self.now)) }
+        ensures parts { parts_ahead result ≡ map (λ t. (item_form self.now, (array_choice self.now, t))) (listed (items self.now)) }
     {
         match self {
             Array::Tape(items) => Iter::Tape(items.iter()),
@@ -80,9 +81,9 @@ impl<'b, 't, 'i> Iterator for Iter<'b, 't, 'i> {
 
     ghost use Rattle.std.specs.Iterator.{YieldsFirstBy, item_count};
     ghost use Rattle.sj_lazy.specs.Array.{parts_ahead};
-    ghost use Rattle.sj_lazy.specs.Value.{part};
+    ghost use Rattle.sj_lazy.specs.Value.{formed};
 
-    ghost next_gives = { YieldsFirstBy part parts_ahead };
+    ghost next_gives = { YieldsFirstBy formed parts_ahead };
 
     ghost remaining = { item_count parts_ahead };
 

@@ -8,7 +8,7 @@
 //! ```
 //! let mut text = br#"{"key": "value", "snot": 42}"#.to_vec(alloc)?;
 //! let tape = to_tape(alloc, text.as_mut_slice())?;
-//! let mut value: Value<'_, '_, '_> = Value::from_tape(tape.as_value());
+//! let mut value = Value::from_tape(tape.as_value());
 //! value.get_str("key"); // Some("value"); still a tape
 //! value.insert(alloc, CowStr::Borrowed("new"), BorrowedValue::from(42_u8))?; // a document from here on
 //! value.encode(alloc)?; // {"key":"value","snot":42,"new":42}
@@ -18,6 +18,7 @@
 pub mod array;
 pub mod laws;
 pub mod object;
+pub mod prelude;
 mod same_as_lazy;
 mod upgrade;
 mod value;
@@ -28,8 +29,8 @@ pub use same_as_lazy::SameAsLazy;
 pub use sj_document::{BorrowedValue, Document, OwnedValue};
 pub use sj_tape::{Buffers, Tape, to_tape, to_tape_with_buffers};
 pub use sj_text_core::{
-    AccessError, ErrorKind, ExtendedValueType, Refused, Repeats, SameAs, StaticNode, TryMake,
-    TryTypeError, TypedValue, ValueAsScalar, ValueType, Writable, WriteError,
+    AccessError, ErrorKind, ExtendedValueType, JsonError, Refused, Repeats, SameAs, StaticNode,
+    TryMake, TryTypeError, TypedValue, ValueAsScalar, ValueType, Writable, WriteError,
 };
 pub use upgrade::{Lent, Upgrade};
 pub use value::{Lazy, Shared, Value, ValueCow};

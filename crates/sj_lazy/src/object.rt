@@ -22,13 +22,14 @@ pub enum Object<'b, 't, 'i> {
 }
 
 impl<'b, 't, 'i> Object<'b, 't, 'i> {
-    ghost use Rattle.sj_lazy.specs.Object.{members, members_ahead, parts_ahead, keys_ahead, values_ahead, object_choice};
-    ghost use Rattle.sj_lazy.specs.Value.{tree, choice};
+    ghost use Rattle.sj_lazy.specs.Object.{members, members_ahead, parts_ahead, keys_ahead, values_ahead, object_choice, value_form};
+    ghost use Rattle.sj_lazy.specs.Value.{tree, choice, form};
 
     /// The value of the key; None where there is none.
     pub fn get(&self, key: &str) -> Option<Value<'b, 't, 'i>>
         ensures value { option_map tree result ≡ find_member_by (object_choice self.now) key.now (members self.now) }
         ensures choice { IfSome result (λ v. choice v ≡ object_choice self.now) }
+        ensures form { IfSome result (λ v. form v ≡ value_form self.now) }
     {
         match self {
             Object::Tape(members) => of_tape(members.get(key)),
@@ -56,7 +57,7 @@ impl<'b, 't, 'i> Object<'b, 't, 'i> {
     /// The members in order; of a tape repeats too.
     pub fn iter(&self) -> Iter<'b, 't, 'i>
         ensures members { members_ahead result ≡ paired (members self.now) }
-        ensures parts { parts_ahead result ≡ chosen (object_choice self.now) (paired (members self.now)) }
+        ensures parts { parts_ahead result ≡ map (λ p. (p.0, (value_form self.now, p.1))) (chosen (object_choice self.now) (paired (members self.now))) }
     {
         match self {
             Object::Tape(members) => Iter::Tape(members.iter()),
@@ -76,7 +77,7 @@ impl<'b, 't, 'i> Object<'b, 't, 'i> {
 
     /// The values in order; of a tape those of repeats too.
     pub fn values(&self) -> Values<'b, 't, 'i>
-        ensures { values_ahead result ≡ map (λ p. p.1) (chosen (object_choice self.now) (paired (members self.now))) }
+        ensures { values_ahead result ≡ map (λ p. (value_form self.now, p.1)) (chosen (object_choice self.now) (paired (members self.now))) }
     {
         match self {
             Object::Tape(members) => Values::Tape(members.values()),
@@ -106,9 +107,9 @@ impl<'b, 't, 'i> Iterator for Iter<'b, 't, 'i> {
 
     ghost use Rattle.std.specs.Iterator.{YieldsFirstBy, item_count};
     ghost use Rattle.sj_lazy.specs.Object.{parts_ahead};
-    ghost use Rattle.sj_lazy.specs.Value.{part};
+    ghost use Rattle.sj_lazy.specs.Value.{formed};
 
-    ghost next_gives = { YieldsFirstBy (λ p. (p.0.now, part p.1)) parts_ahead };
+    ghost next_gives = { YieldsFirstBy (λ p. (p.0.now, formed p.1)) parts_ahead };
 
     ghost remaining = { item_count parts_ahead };
 
@@ -163,9 +164,9 @@ impl<'b, 't, 'i> Iterator for Values<'b, 't, 'i> {
 
     ghost use Rattle.std.specs.Iterator.{YieldsFirstBy, item_count};
     ghost use Rattle.sj_lazy.specs.Object.{values_ahead};
-    ghost use Rattle.sj_lazy.specs.Value.{part};
+    ghost use Rattle.sj_lazy.specs.Value.{formed};
 
-    ghost next_gives = { YieldsFirstBy part values_ahead };
+    ghost next_gives = { YieldsFirstBy formed values_ahead };
 
     ghost remaining = { item_count values_ahead };
 

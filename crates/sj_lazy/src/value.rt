@@ -3,11 +3,12 @@
 ghost use Rattle.std.specs.Prelude.{◌≡◌, not, true, option_map, IfSome};
 ghost use Rattle.sj_text_core.specs.Tree.{null};
 ghost use Rattle.sj_tape.specs.Value.{tree as tape_tree, choice as tape_choice};
-ghost use Rattle.sj_lazy.specs.Value.{tree, choice, kept, lent_tree};
+ghost use Rattle.sj_lazy.specs.Value.{tree, choice, form, of_tape as tape_form, of_lent as lent_form, kept, lent_tree};
 ghost use Rattle.sj_text_core.specs.Repeats.{keep_by};
 ghost use Rattle.sj_text_core.specs.declared.repeats.Repeats.TheVariants.{First};
 
 mod access;
+mod change;
 mod cmp;
 mod convert;
 mod edit;
@@ -112,6 +113,7 @@ impl<'b, 't, 'i> Default for Value<'b, 't, 'i> {
 pub(crate) fn of_tape<'b, 't, 'i>(found: Option<TapeValue<'t, 'i>>) -> Option<Value<'b, 't, 'i>>
     ensures value { option_map tree result ≡ option_map tape_tree found.entry }
     ensures choice { option_map choice result ≡ option_map tape_choice found.entry }
+    ensures form { IfSome result (λ v. form v ≡ tape_form) }
 {
     match found {
         Some(part) => Some(Lazy::Tape(part)),
@@ -123,6 +125,7 @@ pub(crate) fn of_tape<'b, 't, 'i>(found: Option<TapeValue<'t, 'i>>) -> Option<Va
 pub(crate) fn of_lent<'b, 't, 'i>(found: Option<&'b BorrowedValue<'i>>) -> Option<Value<'b, 't, 'i>>
     ensures value { option_map tree result ≡ option_map lent_tree found.entry }
     ensures choice { IfSome result (λ v. choice v ≡ Repeats.First) }
+    ensures form { IfSome result (λ v. form v ≡ lent_form) }
 {
     match found {
         Some(lent) => Some(Lazy::Value(Shared::Borrowed(lent))),

@@ -9,28 +9,32 @@
 //! ```
 //! let mut bytes = b"{\"some\":[\"key\",\"value\",2],\"some\":3}".to_vec(alloc)?;
 //! let mut value = sj_owned::to_value(alloc, bytes.as_mut_slice())?;
-//! assert!(rt; value.contains_key("some"));
-//! assert!(rt; value["some"].get_idx(2).is_some_and(|item| item.is_u8()));
+//! value.get("some").and_then(|some| some.get_idx(2)); // the number 2
 //! value.insert(String::from_str(alloc, "n")?, Value::from(true))?;
-//! assert!(rt; value.contains_key("some"));
-//! value["some"].push(Value::null())?;
-//! assert_eq!(rt; value.remove("n")?, Some(Value::from(true)));
-//! assert_eq!(rt; value.encode(alloc)?.as_str(), "{\"some\":[\"key\",\"value\",2,null]}");
+//! if let Some(some) = value.get_mut("some") {
+//!     some.push(Value::null())?;
+//! }
+//! value.remove("n")?; // Some, a true
+//! println!(rt; "{value}")?; // {"some":["key","value",2,null]}
 //! ```
 #![tactic(auto)]
 
 pub mod laws;
+pub mod prelude;
 mod read;
 
 pub use read::{
     to_owned_value, to_owned_value_with_buffers, to_value, to_value_repeats, to_value_with_buffers,
 };
-pub use sj_document::{OwnedValue, owned_from_tape, replace_at, same};
+pub use sj_document::{
+    Change, OwnedValue, Replace, Taken, change_item, change_member, owned_from_tape, replace_at,
+    same,
+};
 pub use sj_object::{HashMap, ObjectHasher};
 pub use sj_tape::Buffers;
 pub use sj_text_core::{
-    AccessError, ErrorKind, ExtendedValueType, Refused, Repeats, SameAs, StaticNode, TryMake,
-    TryTypeError, TypedValue, ValueAsScalar, ValueType, Writable, WriteError,
+    AccessError, ErrorKind, ExtendedValueType, JsonError, Refused, Repeats, SameAs, StaticNode,
+    TryMake, TryTypeError, TypedValue, ValueAsScalar, ValueType, Writable, WriteError,
 };
 
 /// A document that owns its texts.

@@ -1,4 +1,3 @@
-pub mod Replaced
 pub use Rattle.sj_text_core.specs.Places
 pub use Rattle.sj_text_core.specs.Paths
 pub use Rattle.sj_pointer.specs.Syntax

@@ -5,7 +5,7 @@ ghost use Rattle.std.specs.Cow.{cow_str_bytes};
 ghost use Rattle.std.specs.Result.{result_ok};
 ghost use Rattle.sj_document.specs.Document.{tree as document_tree};
 ghost use Rattle.sj_tape.specs.Value.{tree as tape_tree, choice as tape_choice};
-ghost use Rattle.sj_lazy.specs.Value.{tree, choice, kept, lazy_kept, owned};
+ghost use Rattle.sj_lazy.specs.Value.{tree, choice, form, part_form, kept, lazy_kept, owned};
 ghost use Rattle.sj_pointer.specs.Pointed.{token_into, pointed, pointed_by, set_pointed};
 
 use crate::{walk, write};
@@ -43,13 +43,15 @@ fn find_on_tape<'t, 'i>(part: TapeValue<'t, 'i>, tokens: &[String]) -> Option<Ta
 }
 
 /// What the pointer's tokens find, by the value's own choice among members of one key; None where
-/// one of them finds nothing. The value keeps its form, and nothing is built.
+/// one of them finds nothing. The value keeps its form, and nothing is built: of a tape a part is
+/// answered, of a document one that is lent.
 pub fn find<'v, 't, 'i>(
     value: &'v Value<'_, 't, 'i>,
     pointer: &Pointer,
 ) -> Option<Value<'v, 't, 'i>>
     ensures value { option_map tree result ≡ pointed_by (choice value.now) pointer.now (tree value.now) }
     ensures choice { IfSome result (λ found. choice found ≡ choice value.now) }
+    ensures form { IfSome result (λ found. form found ≡ part_form value.now) }
 {
     match value {
         Lazy::Tape(part) => Some(Lazy::Tape(find_on_tape(*part, pointer.tokens())?)),

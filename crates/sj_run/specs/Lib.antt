@@ -19,3 +19,4 @@ pub use Rattle.sj_commands.specs.Meant as CommandMeant
 pub use Rattle.sj_commands.specs.Lines
 pub use Rattle.sj_commands.specs.CommandLines
 pub use Rattle.sj_commands.specs.Laws as LineLaws
+pub mod Faults

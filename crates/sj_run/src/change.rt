@@ -11,6 +11,7 @@ ghost use Rattle.sj_commands.specs.Meant.{step_meant};
 mod edit;
 mod insert;
 mod lazy;
+mod steps;
 mod told;
 
 use crate::document::Way;

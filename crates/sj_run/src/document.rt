@@ -75,7 +75,8 @@ impl Document for OwnedDoc {
     }
 }
 
-/// A document whose texts may be lent.
+/// A document whose texts may be lent. What is written is made a document of this form first, so a
+/// write may be refused for memory before its target is looked at.
 #[derive(Debug, Drop)]
 pub struct BorrowedDoc<'v> {
     /// How keys are looked up, and inserted.

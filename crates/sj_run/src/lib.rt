@@ -2,10 +2,11 @@
 //! are those that the same commands get on one plain tree.
 //!
 //! ```
-//! // the input: {"a":1}, a line ---, and the lines ["insert",[],"b",[true]] and ["encode",[]]
-//! let mut output = Vec::new(alloc);
-//! session(alloc, Form::Owned, Way::ByText, input.as_mut_slice(), &mut output)?;
-//! // the output: none, and on the next line {"a":1,"b":[true]}
+//! // the bytes: {"a":1}, a line ---, and the lines ["insert",[],"b",[true]] and ["encode",[]];
+//! // the form Form::Owned, the way Way::ByText
+//! let mut out = b"> ".to_vec(alloc)?;
+//! session(alloc, form, way, bytes.as_mut_slice(), &mut out); // Ok
+//! // behind what it had, `out` has none, and on the next line {"a":1,"b":[true]}
 //! ```
 #![tactic(auto)]
 
@@ -13,6 +14,7 @@ mod asked;
 mod change;
 mod document;
 mod find;
+mod json_error;
 mod keys;
 pub mod laws;
 mod reply;
@@ -26,4 +28,4 @@ pub use runs::{RunFault, Why, run};
 pub use sessions::{Form, SessionFault, session, session_repeats};
 pub use sj_commands::{Command, Step, Width};
 pub use sj_document::{BorrowedValue, OwnedValue};
-pub use sj_text_core::{ErrorKind, ValueType};
+pub use sj_text_core::{ErrorKind, JsonError, ValueType};

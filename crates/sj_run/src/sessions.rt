@@ -87,10 +87,11 @@ impl From<Why> for SessionFault {
 /// Reads the document of the input, answers the command lines behind its first line `---` in turn,
 /// and appends each printed reply with a line feed to `out`.
 ///
-/// A lazy document is built at the first write, so a session that only reads builds none. Refused
-/// as `Usage` for lazy documents by known key, as `Refused` where the document can't be read, as
-/// `OutOfMemory` where memory was refused, and as `TooLong` only where `out` with all replies would
-/// pass `usize::MAX` bytes. On a fault `out` is as it was, and of the input's bytes nothing is said.
+/// A lazy document is built at the first write; that a session which only reads builds none is seen
+/// by its requests for memory, and said by no clause. Refused as `Usage` for lazy documents by known
+/// key, as `Refused` where the document can't be read, as `OutOfMemory` where memory was refused, and
+/// as `TooLong` only where `out` with all replies would pass `usize::MAX` bytes. On a fault `out` is
+/// as it was, and of the input's bytes nothing is said.
 pub fn session(
     alloc: Global,
     form: Form,

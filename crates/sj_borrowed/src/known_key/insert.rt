@@ -24,6 +24,10 @@ impl<'k> KnownKey<'k> {
     /// Sets the value of the key, and answers the one before, as the map's own insert does. The
     /// key is cloned only where it is absent. It is refused only for want of memory, and for no
     /// key that is there: the value comes back, and the map is as it was.
+    ///
+    /// ```
+    /// key.map_insert(&mut members, Value::from(2_u8))?;
+    /// ```
     pub fn map_insert<'v>(
         &self,
         map: &mut Object<CowStr<'v>>,
@@ -57,6 +61,10 @@ impl<'k> KnownKey<'k> {
     /// Sets the value of the key, and answers the one before. The key is cloned only where it is
     /// absent. On a non-object, and for want of memory where the key is absent, it is refused: the
     /// value comes back, and the document is as it was.
+    ///
+    /// ```
+    /// key.insert(&mut document, Value::from("news"))?;
+    /// ```
     pub fn insert<'v>(
         &self,
         target: &mut BorrowedValue<'v>,
@@ -76,10 +84,7 @@ impl<'k> KnownKey<'k> {
         match target.as_object_mut() {
             Some(members) => match self.map_insert(members, value) {
                 Ok(before) => Ok(before),
-                Err(refused) => Err(Refused {
-                    why: Error::OutOfMemory,
-                    value: refused.value,
-                }),
+                Err(refused) => Err(refused.because(Error::OutOfMemory)),
             },
             None => Err(Refused {
                 why: Error::NotAnObject(kind),

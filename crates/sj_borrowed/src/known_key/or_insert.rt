@@ -62,6 +62,10 @@ impl<'k> KnownKey<'k> {
     /// with what `with` answers. The map is then as it was, but for what the reference last held.
     /// It is refused only for want of memory, and for no key that is there: then `with` is not
     /// called, and the map is as it was.
+    ///
+    /// ```
+    /// KnownKey::map_lookup_or_insert_mut(&mut members, &key, || Value::null())?;
+    /// ```
     pub fn map_lookup_or_insert_mut<'m, K: StoredKey<'k>, V, F: FnOnce() -> V + Drop>(
         map: &'m mut HashMap<K, V, ObjectHasher>,
         key: &KnownKey<'k>,
@@ -85,6 +89,11 @@ impl<'k> KnownKey<'k> {
     /// `with` answers. On a non-object, and for want of memory where the key is absent, it is
     /// refused, and `with` is not called. What the document is then is not said: on a map
     /// `map_lookup_or_insert_mut` says it.
+    ///
+    /// ```
+    /// let count = KnownKey::lookup_or_insert_mut(&mut document, &key, || Value::from(0_u8))?;
+    /// *count = Value::from(1_u8);
+    /// ```
     pub fn lookup_or_insert_mut<'t, 'v, F: FnOnce() -> BorrowedValue<'v> + Drop>(
         target: &'t mut BorrowedValue<'v>,
         key: &KnownKey<'k>,

@@ -10,7 +10,7 @@ ghost use Rattle.sj_commands.specs.CommandLines.{IsCommandOf, command_in as comm
 ghost use Rattle.sj_commands.specs.Meant.{command_meant, step_meant, path_meant, width_meant};
 
 use super::{Command, Step, Width};
-use sj_document::{Document, OwnedValue};
+use sj_document::{OwnedValue, Taken};
 use sj_object::deserialize;
 use sj_pointer::{PointerError, pointer};
 use sj_text_core::{ErrorKind, ValueAsScalar};
@@ -40,9 +40,9 @@ fn width_named(name: &str) -> Option<Width>
 fn step_in(value: OwnedValue) -> Option<Step>
     ensures { option_map step_meant result ≡ step_in_tree (tree string_bytes value) }
 {
-    match value {
-        Document::String(key) => Some(Step::Key(key)),
-        Document::Static(scalar) => match scalar.as_usize() {
+    match value.take_apart() {
+        Taken::String(key) => Some(Step::Key(key)),
+        Taken::Static(scalar) => match scalar.as_usize() {
             Some(place) => Some(Step::Idx(place)),
             None => None,
         },
@@ -88,9 +88,9 @@ fn pointer_in(alloc: Global, text: &str) -> Result<Option<Vec<Step>>, AllocError
 fn path_in(alloc: Global, value: OwnedValue) -> Result<Option<Vec<Step>>, AllocError>
     ensures { IfOk result (λ p. option_map (λ steps. path_meant steps.items) p ≡ path_in_tree (tree string_bytes value)) }
 {
-    match value {
-        Document::Array(items) => steps_in(alloc, Box::into_inner(items)),
-        Document::String(text) => pointer_in(alloc, text.as_str()),
+    match value.take_apart() {
+        Taken::Array(items) => steps_in(alloc, Box::into_inner(items)),
+        Taken::String(text) => pointer_in(alloc, text.as_str()),
         _ => Ok(None),
     }
 }
@@ -130,8 +130,8 @@ fn with_value(name: &str, path: Vec<Step>, value: OwnedValue) -> Command
     match name {
         "push" => Command::Push(path, value),
         "put" => Command::Put(path, value),
-        _ => match value {
-            Document::String(text) => with_text(name, path, text),
+        _ => match value.take_apart() {
+            Taken::String(text) => with_text(name, path, text),
             _ => Command::Bad,
         },
     }
@@ -140,8 +140,8 @@ fn with_value(name: &str, path: Vec<Step>, value: OwnedValue) -> Command
 fn with_member(name: &str, path: Vec<Step>, key: OwnedValue, value: OwnedValue) -> Command
     ensures { command_meant result ≡ unwrap_or (command_with_member name.now (path_meant path.items) (tree string_bytes key) (tree string_bytes value)) bad }
 {
-    match key {
-        Document::String(key) => {
+    match key.take_apart() {
+        Taken::String(key) => {
             if name == "insert" {
                 Command::Insert(path, key, value)
             } else {
@@ -172,7 +172,10 @@ fn in_items(alloc: Global, items: Vec<OwnedValue>) -> Result<Command, AllocError
     ensures { IfOk result (λ command. command_meant command ≡ command_in_tree (list (items_from (map (tree string_bytes) items.items)))) }
 {
     let mut items = items.into_iter();
-    let Some(Document::String(name)) = items.next() else {
+    let Some(first) = items.next() else {
+        return Ok(Command::Bad);
+    };
+    let Taken::String(name) = first.take_apart() else {
         return Ok(Command::Bad);
     };
     let Some(steps) = items.next() else {
@@ -187,8 +190,8 @@ fn in_items(alloc: Global, items: Vec<OwnedValue>) -> Result<Command, AllocError
 fn command_in(alloc: Global, value: OwnedValue) -> Result<Command, AllocError>
     ensures { IfOk result (λ command. command_meant command ≡ command_in_tree (tree string_bytes value)) }
 {
-    match value {
-        Document::Array(items) => in_items(alloc, Box::into_inner(items)),
+    match value.take_apart() {
+        Taken::Array(items) => in_items(alloc, Box::into_inner(items)),
         _ => Ok(Command::Bad),
     }
 }

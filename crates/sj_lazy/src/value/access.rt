@@ -1,4 +1,5 @@
-//! Reads of the parts. None of them changes the form.
+//! Reads of the parts. None of them changes the form; a part of a tape is one of the same tape, and a
+//! part of a document is lent.
 
 ghost use Rattle.std.specs.Prelude.{◌≡◌, option_map, is_some, IfOk, IfSome};
 ghost use Rattle.std.specs.Cow.{cow_str_bytes};
@@ -28,14 +29,15 @@ impl<'b, 'i> ValueCow<'b, 'i> {
 }
 
 impl<'b, 't, 'i> Value<'b, 't, 'i> {
-    ghost use Rattle.sj_lazy.specs.Value.{tree, choice, found};
-    ghost use Rattle.sj_lazy.specs.Array.{items, array_choice};
-    ghost use Rattle.sj_lazy.specs.Object.{members, object_choice};
+    ghost use Rattle.sj_lazy.specs.Value.{tree, choice, form, part_form, found};
+    ghost use Rattle.sj_lazy.specs.Array.{items, array_choice, item_form};
+    ghost use Rattle.sj_lazy.specs.Object.{members, object_choice, value_form};
 
     /// The value of the key; None where there is none, and on a non-object.
     pub fn get(&self, key: &str) -> Option<Value<'_, 't, 'i>>
         ensures value { option_map tree result ≡ found self.now key.now }
         ensures choice { IfSome result (λ v. choice v ≡ choice self.now) }
+        ensures form { IfSome result (λ v. form v ≡ part_form self.now) }
     {
         match self {
             Lazy::Tape(part) => Some(Lazy::Tape(part.get(key)?)),
@@ -47,6 +49,7 @@ impl<'b, 't, 'i> Value<'b, 't, 'i> {
     pub fn get_idx(&self, index: usize) -> Option<Value<'_, 't, 'i>>
         ensures value { option_map tree result ≡ nth index (tree self.now) }
         ensures choice { IfSome result (λ v. choice v ≡ choice self.now) }
+        ensures form { IfSome result (λ v. form v ≡ part_form self.now) }
     {
         match self {
             Lazy::Tape(part) => Some(Lazy::Tape(part.get_idx(index)?)),
@@ -70,6 +73,7 @@ impl<'b, 't, 'i> Value<'b, 't, 'i> {
     pub fn as_array(&self) -> Option<Array<'_, 't, 'i>>
         ensures items { option_map items result ≡ as_items (tree self.now) }
         ensures choice { IfSome result (λ a. array_choice a ≡ choice self.now) }
+        ensures form { IfSome result (λ a. item_form a ≡ part_form self.now) }
     {
         match self {
             Lazy::Tape(part) => Some(Array::Tape(part.as_array()?)),
@@ -81,6 +85,7 @@ impl<'b, 't, 'i> Value<'b, 't, 'i> {
     pub fn as_object(&self) -> Option<Object<'_, 't, 'i>>
         ensures members { option_map members result ≡ as_members (tree self.now) }
         ensures choice { IfSome result (λ o. object_choice o ≡ choice self.now) }
+        ensures form { IfSome result (λ o. value_form o ≡ part_form self.now) }
     {
         match self {
             Lazy::Tape(part) => Some(Object::Tape(part.as_object()?)),
@@ -92,6 +97,7 @@ impl<'b, 't, 'i> Value<'b, 't, 'i> {
     pub fn try_get(&self, key: &str) -> Result<Option<Value<'_, 't, 'i>>, TryTypeError>
         ensures value { result_map_both (option_map tree) (λ e. e) result ≡ found_in (as_members (tree self.now)) (kind_of (tree self.now)) (found self.now key.now) }
         ensures choice { IfOk result (λ value. IfSome value (λ v. choice v ≡ choice self.now)) }
+        ensures form { IfOk result (λ value. IfSome value (λ v. form v ≡ part_form self.now)) }
     {
         Ok(self.try_as_object()?.get(key))
     }
@@ -100,6 +106,7 @@ impl<'b, 't, 'i> Value<'b, 't, 'i> {
     pub fn try_get_idx(&self, index: usize) -> Result<Option<Value<'_, 't, 'i>>, TryTypeError>
         ensures value { result_map_both (option_map tree) (λ e. e) result ≡ result_map_both (λ is. nth_item index is) (λ e. e) (read_as (as_items (tree self.now)) ValueType.Array (kind_of (tree self.now))) }
         ensures choice { IfOk result (λ value. IfSome value (λ v. choice v ≡ choice self.now)) }
+        ensures form { IfOk result (λ value. IfSome value (λ v. form v ≡ part_form self.now)) }
     {
         Ok(self.try_as_array()?.get(index))
     }
@@ -108,6 +115,7 @@ impl<'b, 't, 'i> Value<'b, 't, 'i> {
     pub fn try_as_array(&self) -> Result<Array<'_, 't, 'i>, TryTypeError>
         ensures items { result_map_both items (λ e. e) result ≡ read_as (as_items (tree self.now)) ValueType.Array (kind_of (tree self.now)) }
         ensures choice { IfOk result (λ a. array_choice a ≡ choice self.now) }
+        ensures form { IfOk result (λ a. item_form a ≡ part_form self.now) }
     {
         match self.as_array() {
             Some(items) => Ok(items),
@@ -119,6 +127,7 @@ impl<'b, 't, 'i> Value<'b, 't, 'i> {
     pub fn try_as_object(&self) -> Result<Object<'_, 't, 'i>, TryTypeError>
         ensures members { result_map_both members (λ e. e) result ≡ read_as (as_members (tree self.now)) ValueType.Object (kind_of (tree self.now)) }
         ensures choice { IfOk result (λ o. object_choice o ≡ choice self.now) }
+        ensures form { IfOk result (λ o. value_form o ≡ part_form self.now) }
     {
         match self.as_object() {
             Some(members) => Ok(members),

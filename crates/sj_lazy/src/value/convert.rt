@@ -79,10 +79,7 @@ impl<'b, 't, 'i> Value<'b, 't, 'i> {
                 Document::String(CowStr::Owned(text)) => Ok(Some(CowStr::Owned(text.clone()?))),
                 _ => Ok(None),
             },
-            Lazy::Value(Shared::Owned(value)) => match value {
-                Document::String(text) => Ok(Some(text)),
-                _ => Ok(None),
-            },
+            Lazy::Value(Shared::Owned(value)) => Ok(value.into_string()),
         }
     }
 }

@@ -2,9 +2,10 @@
 
 ghost use Rattle.std.specs.Prelude.{◌≡◌, Some, None, IfOk, IfErr, IsSome, IsOk, option_map, map};
 ghost use Rattle.sj_document.specs.Document.{tree};
-ghost use Rattle.sj_document.specs.Rows.{object_row, array_row};
+ghost use Rattle.sj_document.specs.Rows.{document_row, object_row, array_row};
 ghost use Rattle.sj_object.specs.Members.{entry_members};
 ghost use Rattle.sj_text_core.specs.Find.{find, nth};
+ghost use Rattle.sj_text_core.specs.Paths.{by_key, by_place, set_found};
 ghost use Rattle.sj_text_core.specs.Reads.{as_items, as_members};
 ghost use Rattle.sj_text_core.specs.Tree.{list, obj, items_from};
 
@@ -20,6 +21,7 @@ impl<P: Upgrade<T> + Drop, B: Lent<T> + Drop, T: KeyText + Drop> Lazy<P, B, T> {
     ghost use Rattle.sj_lazy.specs.Value.{lazy_kept, owned};
     ghost use Rattle.sj_lazy.specs.Rows.{lazy_row};
     ghost use Rattle.sj_lazy.specs.Edits.{IsLeft};
+    ghost use Rattle.sj_lazy.specs.Loans.{LendsPart};
 
     /// The members of an object, to write, once it is owned. What it is then is the object of what
     /// they last were. Refused for its kind, it is owned; for want of memory, it is as it was.
@@ -59,52 +61,72 @@ impl<P: Upgrade<T> + Drop, B: Lent<T> + Drop, T: KeyText + Drop> Lazy<P, B, T> {
         }
     }
 
-    /// The members, to write, where it is an object; it is owned first.
+    /// The members, to write, where it is an object; it is owned first. What it is then is the
+    /// object of what they last were. Refused for want of memory, it is as it was.
     pub fn as_object_mut(&mut self, alloc: Global) -> Result<Option<&mut Object<T>>, AllocError>
+        ensures* writes_back { sem 𝓛 (LendsPart P.row B.row T.row T.KeyText (object_row T.row T.KeyText) self.entry result
+            (λ w. obj (entry_members (tree T.text_of) w.entries)) (lazy_kept P.part_kept B.lent_tree T.text_of self.old)) }
         ensures value { IfOk result (λ found. option_map (λ m. entry_members (tree T.text_of) m.now.entries) found ≡ as_members (lazy_kept P.part_kept B.lent_tree T.text_of self.old)) }
         ensures succeeds { IsSome (owned T.text_of self.old) → IsOk result }
     {
-        let document = self.as_mut(alloc)?;
-        Ok(document.as_object_mut())
+        match self.as_mut(alloc) {
+            Ok(document) => Ok(document.as_object_mut()),
+            Err(why) => Err(why),
+        }
     }
 
-    /// The items, to write, where it is an array; it is owned first.
+    /// The items, to write, where it is an array; it is owned first. What it is then is the array
+    /// of what they last were. Refused for want of memory, it is as it was.
     pub fn as_array_mut(
         &mut self,
         alloc: Global,
     ) -> Result<Option<&mut Vec<Document<T>>>, AllocError>
+        ensures* writes_back { sem 𝓛 (LendsPart P.row B.row T.row T.KeyText (array_row T.row T.KeyText) self.entry result
+            (λ w. list (items_from (map (tree T.text_of) w.items))) (lazy_kept P.part_kept B.lent_tree T.text_of self.old)) }
         ensures value { IfOk result (λ found. option_map (λ v. items_from (map (tree T.text_of) v.now.items)) found ≡ as_items (lazy_kept P.part_kept B.lent_tree T.text_of self.old)) }
         ensures succeeds { IsSome (owned T.text_of self.old) → IsOk result }
     {
-        let document = self.as_mut(alloc)?;
-        Ok(document.as_array_mut())
+        match self.as_mut(alloc) {
+            Ok(document) => Ok(document.as_array_mut()),
+            Err(why) => Err(why),
+        }
     }
 
-    /// The value of the key, to write; None where there is none, and on a non-object. What the
-    /// value is then is not said: `object_mut` and the map's `get_mut` say it.
+    /// The value of the key, to write; None where there is none, and on a non-object. It is owned
+    /// then, with what the reference last held in the place of that value. Refused for want of
+    /// memory, it is as it was.
     pub fn get_mut(
         &mut self,
         alloc: Global,
         key: &str,
     ) -> Result<Option<&mut Document<T>>, AllocError>
+        ensures* writes_back { sem 𝓛 (LendsPart P.row B.row T.row T.KeyText (document_row T.row T.KeyText) self.entry result
+            (λ w. set_found (by_key key.now) (tree T.text_of w) (lazy_kept P.part_kept B.lent_tree T.text_of self.old)) (lazy_kept P.part_kept B.lent_tree T.text_of self.old)) }
         ensures value { IfOk result (λ found. option_map (λ v. tree T.text_of v.now) found ≡ find key.now (lazy_kept P.part_kept B.lent_tree T.text_of self.old)) }
         ensures succeeds { IsSome (owned T.text_of self.old) → IsOk result }
     {
-        let document = self.as_mut(alloc)?;
-        Ok(document.get_mut(key))
+        match self.as_mut(alloc) {
+            Ok(document) => Ok(document.get_mut(key)),
+            Err(why) => Err(why),
+        }
     }
 
     /// The item at that position, counted from 0, to write; None past the last, and on a non-array.
-    /// What the value is then is not said: `array_mut` and the items' `get_mut` say it.
+    /// It is owned then, with what the reference last held in the place of that item. Refused for
+    /// want of memory, it is as it was.
     pub fn get_idx_mut(
         &mut self,
         alloc: Global,
         index: usize,
     ) -> Result<Option<&mut Document<T>>, AllocError>
+        ensures* writes_back { sem 𝓛 (LendsPart P.row B.row T.row T.KeyText (document_row T.row T.KeyText) self.entry result
+            (λ w. set_found (by_place index) (tree T.text_of w) (lazy_kept P.part_kept B.lent_tree T.text_of self.old)) (lazy_kept P.part_kept B.lent_tree T.text_of self.old)) }
         ensures value { IfOk result (λ found. option_map (λ v. tree T.text_of v.now) found ≡ nth index (lazy_kept P.part_kept B.lent_tree T.text_of self.old)) }
         ensures succeeds { IsSome (owned T.text_of self.old) → IsOk result }
     {
-        let document = self.as_mut(alloc)?;
-        Ok(document.get_idx_mut(index))
+        match self.as_mut(alloc) {
+            Ok(document) => Ok(document.get_idx_mut(index)),
+            Err(why) => Err(why),
+        }
     }
 }

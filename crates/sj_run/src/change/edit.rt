@@ -10,19 +10,63 @@ ghost use Rattle.sj_run.specs.Changed.{Edits};
 ghost use Rattle.sj_commands.specs.Meant.{step_meant};
 
 use super::insert::Inserts;
+use super::steps::BySteps;
 use super::{Changed, Write, change};
 use crate::document::Way;
 use crate::keys::member_mut;
 use sj_commands::Step;
-use sj_document::{Document, Object};
+use sj_document::{Document, Object, climb, descend};
 use sj_object::KeyText;
 use sj_pointer::position;
 use std::alloc::AllocError;
 
+/// How many steps are gone by calls, each of which looks its key up once. A longer path is gone on a
+/// bounded stack, and its keys are looked up by text, on the way down and on the way up.
+const CALLS: usize = 64;
+
 /// Changes the value at the path in its place; where nothing stands there, it changes nothing.
 /// Refused for want of memory, it leaves the document as it was.
-#[cycle(edit)]
 pub(crate) fn edit_at<T: KeyText + Drop>(
+    value: &mut Document<T>,
+    way: Way,
+    path: &[Step],
+    write: Write<T>,
+) -> Result<Changed<T>, AllocError>
+where
+    Way: Inserts<T>,
+    ensures { Edits T.text_of (map step_meant path.now) (write_meant T.text_of write) (tree T.text_of value.old) (tree T.text_of value.new) result }
+{
+    if path.len() <= CALLS {
+        edit_near(value, way, path, write)
+    } else {
+        edit_far(value, way, path, write)
+    }
+}
+
+/// The same on a bounded stack, however long the path is.
+fn edit_far<T: KeyText + Drop>(
+    value: &mut Document<T>,
+    way: Way,
+    path: &[Step],
+    write: Write<T>,
+) -> Result<Changed<T>, AllocError>
+where
+    Way: Inserts<T>,
+    ensures { Edits T.text_of (map step_meant path.now) (write_meant T.text_of write) (tree T.text_of value.old) (tree T.text_of value.new) result }
+{
+    let (up, depth) = descend::<BySteps, Step, T>(value, path);
+    if depth < path.len() {
+        climb::<BySteps, Step, T>(value, path, depth, up);
+        return Ok(Changed::Missing);
+    }
+    let changed = change(value, way, write);
+    climb::<BySteps, Step, T>(value, path, depth, up);
+    changed
+}
+
+/// The same by a call for each step.
+#[cycle(edit)]
+fn edit_near<T: KeyText + Drop>(
     value: &mut Document<T>,
     way: Way,
     path: &[Step],
@@ -100,7 +144,7 @@ where
     ensures { Edits T.text_of (by_key key.now ∷ map step_meant rest.now) (write_meant T.text_of write) (obj (entry_members (tree T.text_of) members.old.entries)) (obj (entry_members (tree T.text_of) members.new.entries)) result }
 {
     match member_mut(members, way, key) {
-        Some(child) => edit_at(child, way, rest, write),
+        Some(child) => edit_near(child, way, rest, write),
         None => Ok(Changed::Missing),
     }
 }
@@ -118,7 +162,7 @@ where
     ensures { Edits T.text_of (by_place at ∷ map step_meant rest.now) (write_meant T.text_of write) (list (items_from (map (tree T.text_of) items.old.items))) (list (items_from (map (tree T.text_of) items.new.items))) result }
 {
     if at < items.len() {
-        edit_at(&mut items[at], way, rest, write)
+        edit_near(&mut items[at], way, rest, write)
     } else {
         Ok(Changed::Missing)
     }

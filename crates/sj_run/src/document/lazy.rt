@@ -25,7 +25,9 @@ use sj_lazy::{Lazy, Value};
 use std::alloc::{AllocError, Global};
 use std::borrow::CowStr;
 
-/// A part of a tape until the first write, also one that is refused; a document from then on.
+/// A part of a tape until the first write, also one that is refused; a document from then on. What
+/// is written is made a document of this form first, so a write may be refused for memory before its
+/// target is looked at.
 #[derive(Debug, Drop)]
 pub struct LazyDoc<'b, 't, 'i> {
     /// The document.

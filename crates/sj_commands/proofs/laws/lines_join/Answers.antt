@@ -1,4 +1,4 @@
-use Rattle.sj_commands.proofs.LineLemmas.{concat-full_lines}
+use Rattle.sj_lines.proofs.LineLemmas.{concat-full_lines}
 use Rattle.sj_commands.proofs.laws.lines_join.Goals as goal
 
 pub returns : goal.returns

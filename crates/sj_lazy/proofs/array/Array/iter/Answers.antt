@@ -2,9 +2,11 @@ use Rattle.std.proofs.Common.{map, sym, ap, ◌∙◌}
 use Rattle.std.specs.Cow.{cow_str_bytes}
 use Rattle.sj_text_core.specs.declared.repeats.Repeats.TheVariants.{First}
 use Rattle.sj_text_core.specs.Tree.{listed}
+use Rattle.sj_tape.specs.Items as tape
 use Rattle.sj_document.specs.Document.{tree}
 use Rattle.sj_lazy.specs.Array.{items}
-use Rattle.sj_lazy.proofs.Lists.{listed-from, parts-items}
+use Rattle.sj_lazy.specs.Value.{of_lent, of_tape}
+use Rattle.sj_lazy.proofs.Lists.{listed-from, parts-items, formed-items}
 use Rattle.sj_lazy.proofs.array.Array.iter.Goals as goal
 
 pub returns-in-Value-clause-items : goal.returns-in-Value-clause-items
@@ -13,4 +15,8 @@ returns-in-Value-clause-items c =
 
 pub returns-in-Value-clause-parts : goal.returns-in-Value-clause-parts
 returns-in-Value-clause-parts c =
-    rw c.in-Value.is (ap (map (λ d. (First, tree cow_str_bytes d))) (c.iter-in-Value.ensures.rest ∙ c.deref.ensures.value) ∙ parts-items (tree cow_str_bytes) c.in-Value.items.now.items)
+    rw c.in-Value.is (ap (map (λ d. (of_lent, (First, tree cow_str_bytes d)))) (c.iter-in-Value.ensures.rest ∙ c.deref.ensures.value) ∙ parts-items (tree cow_str_bytes) c.in-Value.items.now.items)
+
+pub returns-in-Tape-clause-parts : goal.returns-in-Tape-clause-parts
+returns-in-Tape-clause-parts c =
+    rw c.in-Tape.is (ap (map (λ p. (of_tape, p))) c.iter.ensures.parts ∙ formed-items (tape.array_choice c.in-Tape.items) (listed (tape.items c.in-Tape.items)))

@@ -15,3 +15,6 @@ returns-in-Value-clause-value c =
 
 pub returns-in-Value-clause-choice : goal.returns-in-Value-clause-choice
 returns-in-Value-clause-choice c = rw c.in-Value.is c.of_lent.ensures.choice
+
+pub returns-in-Value-clause-form : goal.returns-in-Value-clause-form
+returns-in-Value-clause-form c = rw c.in-Value.is c.of_lent.ensures.form

@@ -18,9 +18,9 @@ edit_member-returns-in-Some g r c =
     let t = g.T.KeyText.text_of in
     let es = c.args.members.now.entries in
     let k = c.args.key.now in
-    answered_below t (by_key k) (map step_meant c.args.rest.now) (write_meant t c.args.write) (obj (entry_members (tree t) es)) _ (tree t c.in-Some.child.now) (tree t c.edit_at.new.value) c.edit_at.result
+    answered_below t (by_key k) (map step_meant c.args.rest.now) (write_meant t c.args.write) (obj (entry_members (tree t) es)) _ (tree t c.in-Some.child.now) (tree t c.edit_near.new.value) c.edit_near.result
     (sym (lookup-entry_members (tree t) k es) ∙ ap (option_map (tree t)) (sym c.in-Some.ensures.value))
-    (ap obj (entry_members-set_value (tree t) k c.edit_at.new.value c.in-Some.child.now es (sym c.in-Some.ensures.value))) c.edit_at.ensures
+    (ap obj (entry_members-set_value (tree t) k c.edit_near.new.value c.in-Some.child.now es (sym c.in-Some.ensures.value))) c.edit_near.ensures
 
 pub edit_member-returns-in-None : goal.edit_member-returns-in-None
 edit_member-returns-in-None g r c =
@@ -34,9 +34,9 @@ pub edit_item-returns-then-at-len : goal.edit_item-returns-then-at-len
 edit_item-returns-then-at-len g r c =
     let t = g.T.KeyText.text_of in
     let vs = c.args.items.now.items in
-    answered_below t (by_place c.args.at) (map step_meant c.args.rest.now) (write_meant t c.args.write) (list (items_from (map (tree t) vs))) _ (tree t c.index_mut.result.now) (tree t c.edit_at.new.value) c.edit_at.result
+    answered_below t (by_place c.args.at) (map step_meant c.args.rest.now) (write_meant t c.args.write) (list (items_from (map (tree t) vs))) _ (tree t c.index_mut.result.now) (tree t c.edit_near.new.value) c.edit_near.result
     (item_at t vs c.args.at c.index_mut.result.now (omega (arith, c.if-at-len.true, c.len.ensures, c.args.items.now.ok.0)) c.index_mut.ensures.value)
-    (ap list (item_set t vs c.args.at c.edit_at.new.value)) c.edit_at.ensures
+    (ap list (item_set t vs c.args.at c.edit_near.new.value)) c.edit_near.ensures
 
 pub edit_item-returns-else-at-len : goal.edit_item-returns-else-at-len
 edit_item-returns-else-at-len g r c =

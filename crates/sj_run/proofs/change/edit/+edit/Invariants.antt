@@ -1,8 +1,8 @@
 use Rattle.std.proofs.Common.{◌+◌, ◌*◌, length}
 use Rattle.sj_run.proofs.change.edit.+edit.Given as goal
 
-abbrev pub decreases-edit_at : goal.decreases-edit_at
-decreases-edit_at g l = 4 * length l.path.now
+abbrev pub decreases-edit_near : goal.decreases-edit_near
+decreases-edit_near g l = 4 * length l.path.now
 
 abbrev pub decreases-edit_step : goal.decreases-edit_step
 decreases-edit_step g l = 4 * length l.rest.now + 3
