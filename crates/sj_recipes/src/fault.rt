@@ -1,0 +1,35 @@
+//! A program's own faults beside the library's.
+
+use sj_owned::{AccessError, JsonError, Refused, Value};
+use sj_path::PointerError;
+use std::alloc::AllocError;
+use thiserror::Error;
+
+/// Why a setting was not changed.
+#[derive(Debug, Drop, Error)]
+pub enum Fault {
+    #[error("no server in the settings")]
+    NoServer,
+    #[error("no hosts in the settings")]
+    NoHosts,
+    #[error("{0}")]
+    Json(JsonError),
+}
+
+impl From<AllocError> for Fault {
+    fn from(error: AllocError) -> Fault {
+        Fault::Json(JsonError::from(error))
+    }
+}
+
+impl From<PointerError> for Fault {
+    fn from(error: PointerError) -> Fault {
+        Fault::Json(JsonError::from(error))
+    }
+}
+
+impl From<Refused<AccessError, Value>> for Fault {
+    fn from(refused: Refused<AccessError, Value>) -> Fault {
+        Fault::Json(JsonError::from(refused))
+    }
+}

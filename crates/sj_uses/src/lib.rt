@@ -1,0 +1,9 @@
+//! Callers of the library whose contracts rest on its own. Copy one as a start of yours.
+#![tactic(auto)]
+
+pub mod changes;
+pub mod merging;
+pub mod messages;
+pub mod patch;
+pub mod router;
+pub mod settings;
