@@ -179,6 +179,9 @@ fn main(rt: HostRuntime) -> io::Result<()> {
             tell_size(&rt, keys, members, rounds)?;
         }
     }
-    let texts = texts_of(alloc, Keys::Numbered, 1000, "key")?;
-    edits::tell_removals(&rt, texts.as_slice(), rounds)
+    for members in [8, 33, 1000, 10_000, 100_000] {
+        let texts = texts_of(alloc, Keys::Numbered, members, "key")?;
+        edits::tell_removals(&rt, texts.as_slice(), rounds)?;
+    }
+    Ok(())
 }

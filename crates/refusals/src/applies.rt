@@ -14,7 +14,7 @@ fn insert_of(alloc: Global) -> Result<Command, Fault> {
 }
 
 /// The compact print of the document.
-fn print_of<D: Document>(alloc: Global, document: &mut D) -> Result<String, Fault> {
+pub fn print_of<D: Document>(alloc: Global, document: &mut D) -> Result<String, Fault> {
     match document.apply(alloc, Command::Encode(Vec::new(alloc))) {
         Ok(Reply::Printed(text)) => Ok(text),
         _ => Err(Fault::OutOfMemory),
@@ -69,14 +69,19 @@ fn apply_to<D: Document + Drop>(
     say(rt, "\n")
 }
 
-/// Applies the insert to a document of that form, in that way.
-pub fn insert(rt: &(impl Print + AllocGlobal), form: &str, way: &str) -> Result<(), Fault> {
-    let alloc = rt.alloc();
-    let way = if way == "known" {
+/// The way of that name.
+pub fn way_of(name: &str) -> Way {
+    if name == "known" {
         Way::ByKnownKey
     } else {
         Way::ByText
-    };
+    }
+}
+
+/// Applies the insert to a document of that form, in that way.
+pub fn insert(rt: &(impl Print + AllocGlobal), form: &str, way: &str) -> Result<(), Fault> {
+    let alloc = rt.alloc();
+    let way = way_of(way);
     match form {
         "owned" => apply_to(
             rt,

@@ -22,6 +22,9 @@ enum Call {
     Clone,
     Insert,
     TryInsert,
+    /// An insert at a key that is there.
+    Set,
+    TrySet,
     Push,
     Encode,
     EncodePretty,
@@ -39,12 +42,22 @@ impl Call {
             "clone" => Ok(Call::Clone),
             "insert" => Ok(Call::Insert),
             "try_insert" => Ok(Call::TryInsert),
+            "set" => Ok(Call::Set),
+            "try_set" => Ok(Call::TrySet),
             "push" => Ok(Call::Push),
             "encode" => Ok(Call::Encode),
             "encode_pp" => Ok(Call::EncodePretty),
             "write" => Ok(Call::Write),
             "write_pp" => Ok(Call::WritePretty),
             _ => Err(Fault::Usage),
+        }
+    }
+
+    /// The key that it inserts.
+    fn key(self) -> &'static str {
+        match self {
+            Call::Set | Call::TrySet => "some",
+            _ => "n",
         }
     }
 }
@@ -116,6 +129,16 @@ fn tried<T: KeyText + Drop>(
     }
 }
 
+/// What was put in the place of a value, by a call that is not refused.
+fn replaced<T: KeyText + Drop, E: Drop>(
+    inserted: Result<Option<Document<T>>, Refused<E, Document<T>>>,
+) -> Answer<T> {
+    match inserted {
+        Ok(Some(_)) => Answer::Done,
+        _ => Answer::Another,
+    }
+}
+
 /// Appends to the array `some` of the document.
 fn pushed<T: KeyText + Drop>(document: &mut Document<T>, value: Document<T>) -> Answer<T> {
     let Some(items) = document.get_mut("some") else {
@@ -146,6 +169,8 @@ fn answer_of<T: CopyText + Drop>(
         }
         Call::Insert => inserted(document.insert(key, value)),
         Call::TryInsert => tried(document.try_insert(key, value)),
+        Call::Set => replaced(document.insert(key, value)),
+        Call::TrySet => replaced(document.try_insert(key, value)),
         Call::Push => pushed(document, value),
         Call::Encode => Answer::from(document.encode(alloc)),
         Call::EncodePretty => Answer::from(document.encode_pp(alloc)),
@@ -174,16 +199,16 @@ pub fn run_call(
 
 fn on_owned(rt: &(impl Print + AllocGlobal), call: Call, bytes: &mut [u8]) -> Result<(), Fault> {
     let alloc = rt.alloc();
-    let first = (String::from_str(alloc, "n")?, OwnedValue::null());
-    let second = (String::from_str(alloc, "n")?, OwnedValue::null());
+    let first = (String::from_str(alloc, call.key())?, OwnedValue::null());
+    let second = (String::from_str(alloc, call.key())?, OwnedValue::null());
     let document = read(deserialize::<OwnedValue, String>(alloc, bytes))?;
     make(rt, call, document, first, second)
 }
 
 fn on_borrowed(rt: &(impl Print + AllocGlobal), call: Call, bytes: &mut [u8]) -> Result<(), Fault> {
     let document = read(deserialize::<BorrowedValue<'_>, CowStr<'_>>(rt.alloc(), bytes))?;
-    let first = (CowStr::Borrowed("n"), BorrowedValue::null());
-    let second = (CowStr::Borrowed("n"), BorrowedValue::null());
+    let first = (CowStr::Borrowed(call.key()), BorrowedValue::null());
+    let second = (CowStr::Borrowed(call.key()), BorrowedValue::null());
     make(rt, call, document, first, second)
 }
 

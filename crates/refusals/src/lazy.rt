@@ -4,7 +4,7 @@ use crate::documents::{buckets_of, read};
 use crate::fault::Fault;
 use crate::say::{say, say_call, say_kept};
 use crate::texts::text_of;
-use sj_document::BorrowedValue;
+use sj_document::{BorrowedValue, Replace};
 use sj_lazy::{Shared, Value};
 use sj_object::deserialize;
 use sj_tape::{Value as TapeValue, to_tape};
@@ -22,6 +22,8 @@ enum Call {
     ObjectMut,
     GetMut,
     GetIdxMut,
+    ChangeMember,
+    ChangeItem,
     Insert,
     TryInsert,
     Set,
@@ -41,6 +43,8 @@ impl Call {
             "object_mut" => Ok(Call::ObjectMut),
             "get_mut" => Ok(Call::GetMut),
             "get_idx_mut" => Ok(Call::GetIdxMut),
+            "change_member" => Ok(Call::ChangeMember),
+            "change_item" => Ok(Call::ChangeItem),
             "insert" => Ok(Call::Insert),
             "try_insert" => Ok(Call::TryInsert),
             "set" => Ok(Call::Set),
@@ -54,7 +58,10 @@ impl Call {
 
     /// Whether it is made on the array `some` of the document.
     fn is_on_array(self) -> bool {
-        matches!(self, Call::ArrayMut | Call::Push | Call::Pop)
+        matches!(
+            self,
+            Call::ArrayMut | Call::ChangeItem | Call::Push | Call::Pop
+        )
     }
 
     /// Whether it may be refused for the write, once the value is a document.
@@ -70,11 +77,15 @@ enum Answer {
     Refused,
     Returned,
     ValueLost,
+    /// A refusal of another name.
+    Another,
 }
 
 /// A call that was given a null is refused.
-fn returned(value: &BorrowedValue<'_>) -> Answer {
-    if value.is_null() {
+fn returned(why: AccessError, value: &BorrowedValue<'_>) -> Answer {
+    if why != AccessError::OutOfMemory {
+        Answer::Another
+    } else if value.is_null() {
         Answer::Returned
     } else {
         Answer::ValueLost
@@ -86,7 +97,7 @@ fn inserted<'i>(
 ) -> Answer {
     match answer {
         Ok(_) => Answer::Done,
-        Err(refused) => returned(&refused.value),
+        Err(refused) => returned(refused.why, &refused.value),
     }
 }
 
@@ -95,17 +106,46 @@ fn tried<'i>(
 ) -> Answer {
     match answer {
         Ok(_) => Answer::Done,
-        Err(refused) => returned(&refused.value),
+        Err(refused) => returned(AccessError::OutOfMemory, &refused.value),
     }
 }
 
 fn pushed<'i>(answer: Result<(), Refused<AccessError, BorrowedValue<'i>>>) -> Answer {
     match answer {
         Ok(()) => Answer::Done,
-        Err(refused) => returned(&refused.value),
+        Err(refused) => returned(refused.why, &refused.value),
     }
 }
 
+fn to_null<'i>() -> Replace<BorrowedValue<'i>> {
+    Replace {
+        value: BorrowedValue::null(),
+    }
+}
+
+fn changed<'i>(
+    answer: Result<
+        Result<BorrowedValue<'i>, Replace<BorrowedValue<'i>>>,
+        Refused<AllocError, Replace<BorrowedValue<'i>>>,
+    >,
+) -> Answer {
+    match answer {
+        Ok(Ok(_)) => Answer::Done,
+        Ok(Err(_)) => Answer::Another,
+        Err(refused) => returned(AccessError::OutOfMemory, &refused.value.value),
+    }
+}
+
+/// A call that hands nothing back.
+fn refused(why: AccessError) -> Answer {
+    if why == AccessError::OutOfMemory {
+        Answer::Refused
+    } else {
+        Answer::Another
+    }
+}
+
+/// A call whose one refusal is want of memory.
 fn done(is_done: bool) -> Answer {
     if is_done {
         Answer::Done
@@ -121,17 +161,31 @@ fn answer_of(alloc: Global, call: Call, value: &mut Value<'_, '_, '_>) -> Answer
         Call::AsMut => done(value.as_mut(alloc).is_ok()),
         Call::AsArrayMut => done(value.as_array_mut(alloc).is_ok()),
         Call::AsObjectMut => done(value.as_object_mut(alloc).is_ok()),
-        Call::ArrayMut => done(value.array_mut(alloc).is_ok()),
-        Call::ObjectMut => done(value.object_mut(alloc).is_ok()),
+        Call::ArrayMut => match value.array_mut(alloc) {
+            Ok(_) => Answer::Done,
+            Err(why) => refused(why),
+        },
+        Call::ObjectMut => match value.object_mut(alloc) {
+            Ok(_) => Answer::Done,
+            Err(why) => refused(why),
+        },
         Call::GetMut => done(value.get_mut(alloc, "some").is_ok()),
         Call::GetIdxMut => done(value.get_idx_mut(alloc, 0).is_ok()),
+        Call::ChangeMember => changed(value.change_member(alloc, "some", to_null())),
+        Call::ChangeItem => changed(value.change_item(alloc, 0, to_null())),
         Call::Insert => inserted(value.insert(alloc, key, BorrowedValue::null())),
         Call::TryInsert => tried(value.try_insert(alloc, key, BorrowedValue::null())),
         Call::Set => inserted(value.insert(alloc, there, BorrowedValue::null())),
         Call::TrySet => tried(value.try_insert(alloc, there, BorrowedValue::null())),
-        Call::Remove => done(value.remove(alloc, "some").is_ok()),
+        Call::Remove => match value.remove(alloc, "some") {
+            Ok(_) => Answer::Done,
+            Err(why) => refused(why),
+        },
         Call::Push => pushed(value.push(alloc, BorrowedValue::null())),
-        Call::Pop => done(value.pop(alloc).is_ok()),
+        Call::Pop => match value.pop(alloc) {
+            Ok(_) => Answer::Done,
+            Err(why) => refused(why),
+        },
     }
 }
 
@@ -167,10 +221,10 @@ fn write(
         say(rt, "refused, ")?;
         say(
             rt,
-            if answer == Answer::ValueLost {
-                "VALUE LOST, "
-            } else {
-                ""
+            match answer {
+                Answer::ValueLost => "VALUE LOST, ",
+                Answer::Another => "FOR ANOTHER REASON, ",
+                _ => "",
             },
         )?;
         let is_same = value.encode(alloc)?.as_str() == before.as_str();

@@ -3,15 +3,15 @@
 //! that call refused in turn, which `tools/refusals.sh` does; its words name the call:
 //!
 //!     refusals room_in FORM
-//!     refusals read CALL TEXT | read_value FORM CALL | buffers | capacity | room | map reads
-//!     refusals insert CALL MEMBERS | present CALL MEMBERS | member CALL MEMBERS
-//!     refusals member_present CALL MEMBERS | write CALL GENERATOR | tape new | tape reads
+//!     refusals read CALL TEXT | read_value FORM CALL TEXT | buffers | capacity | room
+//!     refusals map reads | insert CALL MEMBERS | present CALL MEMBERS | member CALL MEMBERS
+//!     refusals member_present CALL MEMBERS | write CALL GENERATOR | tape CALL
 //!     refusals document FORM CALL [MEMBERS] | make SOURCE | make_lazy SOURCE | convert CALL
-//!     refusals lazy FORM CALL [MEMBERS] | copy FORM CALL | copy_key | law LAW | run FORM WAY
+//!     refusals lazy FORM CALL [MEMBERS] | copy FORM CALL | copy_key | laws | run FORM WAY
 //!     refusals apply FORM WAY | session FORM INPUT | session_known FORM INPUT
 //!     refusals session_last FORM INPUT | pointer | no_pointer | pointer_in FORM
 //!     refusals pointer_lazy FORM CALL | kinds FORM | parts FORM | reads WHAT | from WHAT
-//!     refusals display FORM
+//!     refusals display FORM | stream CALL | fault CALL | changes
 //!
 //! `refusals nodes LIST ..` makes a tape of each list of nodes.
 //!
@@ -20,10 +20,12 @@
 #![tactic(auto)]
 
 mod applies;
+mod changes;
 mod copies;
 mod displays;
 mod documents;
 mod fault;
+mod faults;
 mod froms;
 mod kinds;
 mod laws;
@@ -43,6 +45,7 @@ mod runs;
 mod say;
 mod scalars;
 mod sessions;
+mod streams;
 mod tapes;
 mod texts;
 mod typed;
@@ -67,9 +70,11 @@ fn run_texts(rt: &(impl Print + AllocGlobal), words: &[String]) -> Result<(), Fa
     let (second, third) = (word(words, 1), word(words, 2));
     match word(words, 0) {
         "read" => readings::read(rt, second, third),
-        "read_value" => values::read(rt, second, third),
+        "read_value" => values::read(rt, second, third, word(words, 3)),
         "buffers" => readings::buffers(rt),
-        "law" => laws::try_law(rt, second),
+        "stream" => streams::run_call(rt, second),
+        "fault" => faults::run_call(rt, second),
+        "laws" => laws::go_over(rt),
         "nodes" => nodes::tell(rt, words.get(1..).unwrap_or(&[])),
         "run" => runs::run_form(rt, second, third),
         "apply" => applies::insert(rt, second, third),
@@ -118,6 +123,7 @@ fn run_documents(rt: &(impl Print + AllocGlobal), words: &[String]) -> Result<()
         "copy" => copies::run_call(rt, second, third),
         "kinds" => kinds::reads(rt, second),
         "parts" => parts::reads(rt, second),
+        "changes" => changes::change(rt),
         _ => Err(Fault::Usage),
     }
 }

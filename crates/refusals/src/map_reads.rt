@@ -16,6 +16,7 @@ use std::sync::ledger::{Blank, Ledger};
 pub fn reads(rt: &(impl Print + AllocGlobal), what: &str) -> Result<(), Fault> {
     let alloc = rt.alloc();
     let map = numbered(alloc, 33)?;
+    let empty = numbered(alloc, 0)?;
     let mut document = Value::object(alloc)?;
     if document
         .insert(CowStr::Borrowed("k07"), Value::Static(StaticNode::U64(7)))
@@ -25,7 +26,7 @@ pub fn reads(rt: &(impl Print + AllocGlobal), what: &str) -> Result<(), Fault> {
     }
     say_call(rt)?;
     let is_found = match what {
-        "map" => is_found_in(map),
+        "map" => is_found_in(map) && is_emptied(empty),
         "document" => is_known_in(document),
         _ => return Err(Fault::Usage),
     };
@@ -43,7 +44,8 @@ fn is_found_in(mut map: Numbers) -> bool {
         && KnownKey::lookup_mut(&mut map, &key).is_some()
         && KnownKey::map_lookup_mut(&mut map, &key).is_some()
         && is_first_written(&mut map)
-        && map.into_iter().count() == 33
+        && is_last_out(&mut map)
+        && map.into_iter().count() == 32
 }
 
 fn is_read(map: &Numbers) -> bool {
@@ -63,6 +65,24 @@ fn is_first_written(map: &mut Numbers) -> bool {
     }
     *map.value_at_mut(0) = 99;
     map.get("k00").copied() == Some(99)
+}
+
+fn is_last_out(map: &mut Numbers) -> bool {
+    match map.pop() {
+        Some((_, value)) => value == 32,
+        None => false,
+    }
+}
+
+/// Whether a map is empty; then it goes.
+fn is_emptied(mut map: Numbers) -> bool {
+    match map.pop() {
+        Some(_) => false,
+        None => {
+            map.destroy_empty();
+            true
+        }
+    }
 }
 
 fn has_none_in(map: &Numbers) -> bool {

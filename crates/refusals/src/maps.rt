@@ -121,7 +121,7 @@ fn get_or_insert(map: &mut Numbers, hash: u64, key: String, value: u64) -> Answe
         value
     }) {
         Ok(found) => Some(*found),
-        Err(_) => None,
+        Err(AllocError) => None,
     };
     answer_made(found, is_made)
 }
@@ -145,7 +145,7 @@ fn append(map: &mut Numbers, is_made_late: bool, hash: u64, key: String, value: 
         value
     }) {
         Ok(found) => Some(*found),
-        Err(_) => None,
+        Err(AllocError) => None,
     };
     answer_made(found, is_made)
 }

@@ -1,4 +1,5 @@
-//! Inserts into the object of a borrowed document, by a text and by a known key that owns its text.
+//! Inserts into the object of a borrowed document, by a text and by a known key that owns its text,
+//! and what such a key puts in the place of a value.
 //! The members are `k00` with 0, `k01` with 1 and so on.
 
 ghost use Rattle.std.specs.Prelude.{◌<◌};
@@ -8,6 +9,7 @@ use crate::maps::{buckets_at, key_of};
 use crate::say::{say, say_call, say_kept};
 use sj_borrowed::known_key::Error;
 use sj_borrowed::{AccessError, KnownKey, Object, Refused, SameAs, StaticNode, Value};
+use sj_document::Replace;
 use std::alloc::{AllocError, Global};
 use std::borrow::CowStr;
 
@@ -19,6 +21,8 @@ enum Call {
     LookupOrInsert,
     MapInsert,
     MapLookupOrInsert,
+    Replace,
+    Change,
 }
 
 impl Call {
@@ -29,6 +33,8 @@ impl Call {
             "lookup_or_insert" => Some(Call::LookupOrInsert),
             "map_insert" => Some(Call::MapInsert),
             "map_lookup_or_insert" => Some(Call::MapLookupOrInsert),
+            "replace" => Some(Call::Replace),
+            "change" => Some(Call::Change),
             _ => None,
         }
     }
@@ -68,12 +74,14 @@ fn answer_of(before: Option<Value<'_>>) -> Answer {
     }
 }
 
-/// What a call that calls a closure for an absent key answered.
-fn answer_made(found: Option<u64>, is_made: bool) -> Answer {
+/// What a call that calls a closure for an absent key answered: the number of the value that it
+/// lent, or whether it was refused for want of memory.
+fn answer_made(found: Result<Option<u64>, bool>, is_made: bool) -> Answer {
     match found {
-        Some(_) if is_made => Answer::Inserted,
-        Some(number) => Answer::There(number),
-        None => Answer::OutOfMemory(!is_made),
+        Ok(Some(_)) if is_made => Answer::Inserted,
+        Ok(Some(number)) => Answer::There(number),
+        Err(true) => Answer::OutOfMemory(!is_made),
+        _ => Answer::Other,
     }
 }
 
@@ -109,10 +117,24 @@ fn lookup_or_insert<'v>(document: &mut Value<'v>, key: &KnownKey<'v>, new: u64) 
         is_made = true;
         number(new)
     }) {
-        Ok(value) => number_of(value),
-        Err(_) => None,
+        Ok(value) => Ok(number_of(value)),
+        Err(why) => Err(why == Error::OutOfMemory),
     };
     answer_made(found, is_made)
+}
+
+fn replace(members: &mut Object<'static>, key: &KnownKey<'static>, new: u64) -> Answer {
+    match KnownKey::replace(members, key, number(new)) {
+        Ok(before) => answer_of(Some(before)),
+        Err(_) => Answer::Other,
+    }
+}
+
+fn change(document: &mut Value<'static>, key: &KnownKey<'static>, new: u64) -> Answer {
+    match KnownKey::change(document, key, Replace { value: number(new) }) {
+        Ok(before) => answer_of(Some(before)),
+        Err(_) => Answer::Other,
+    }
 }
 
 fn map_insert(members: &mut Object<'static>, key: &KnownKey<'static>, new: u64) -> Answer {
@@ -132,8 +154,8 @@ fn map_lookup_or_insert(
         is_made = true;
         number(new)
     }) {
-        Ok(value) => number_of(value),
-        Err(_) => None,
+        Ok(value) => Ok(number_of(value)),
+        Err(AllocError) => Err(true),
     };
     answer_made(found, is_made)
 }
@@ -166,6 +188,11 @@ fn insert_by(call: Call, document: &mut Value<'static>, key: Key, new: u64) -> A
             Some(members) => map_lookup_or_insert(members, &known, new),
             None => Answer::Other,
         },
+        Call::Replace => match document.as_object_mut() {
+            Some(members) => replace(members, &known, new),
+            None => Answer::Other,
+        },
+        Call::Change => change(document, &known, new),
     }
 }
 

@@ -27,11 +27,13 @@ fn write_told(alloc: Global, list: &str, out: &mut Vec<u8>) -> Result<(), Fault>
         return Err(Fault::Usage);
     };
     let nodes = nodes_of(alloc, items)?;
-    let count = nodes.len();
+    let given = nodes_of(alloc, items)?;
     match Tape::new(nodes) {
         Ok(tape) => Ok(tape.as_value().write(out)?),
-        Err(refused) if refused.value.len() == count => Ok(out.extend_from_slice(b"refused")?),
-        Err(_) => Ok(out.extend_from_slice(b"NODES LOST")?),
+        Err(refused) if refused.value.as_slice() == given.as_slice() => Ok(out.extend_from_slice(
+            b"refused",
+        )?),
+        Err(_) => Ok(out.extend_from_slice(b"OTHER NODES")?),
     }
 }
 

@@ -5,7 +5,7 @@ use crate::say::{say, say_bytes, say_call, say_made};
 use crate::texts::text_of;
 use sj_document::{BorrowedValue, Document, OwnedValue};
 use sj_object::{KeyText, deserialize, deserialize_with_buffers};
-use sj_tape::{Buffers, Tape, to_tape, to_tape_with_buffers};
+use sj_tape::{Buffers, Spare, Tape, to_tape, to_tape_with_buffers, to_tape_with_spare};
 use sj_text_core::{ErrorKind, Writable};
 use std::borrow::CowStr;
 
@@ -14,6 +14,7 @@ use std::borrow::CowStr;
 enum Call {
     ToTape,
     ToTapeWithBuffers,
+    ToTapeWithSpare,
     Owned,
     OwnedWithBuffers,
     Borrowed,
@@ -25,6 +26,7 @@ impl Call {
         match word {
             "to_tape" => Ok(Call::ToTape),
             "to_tape_with_buffers" => Ok(Call::ToTapeWithBuffers),
+            "to_tape_with_spare" => Ok(Call::ToTapeWithSpare),
             "owned" => Ok(Call::Owned),
             "owned_with_buffers" => Ok(Call::OwnedWithBuffers),
             "borrowed" => Ok(Call::Borrowed),
@@ -57,6 +59,10 @@ fn read_once(
     match call {
         Call::ToTape => tell_tape(rt, to_tape(alloc, bytes)),
         Call::ToTapeWithBuffers => tell_tape(rt, to_tape_with_buffers(alloc, bytes, buffers)),
+        Call::ToTapeWithSpare => match to_tape_with_spare(bytes, Spare::new(alloc)) {
+            Ok(tape) => tell_tape(rt, Ok(tape)),
+            Err(refused) => tell_kind(rt, refused.why),
+        },
         Call::Owned => tell_document(rt, deserialize::<OwnedValue, String>(alloc, bytes)),
         Call::OwnedWithBuffers => tell_document(
             rt,

@@ -1,16 +1,18 @@
 //! Calls on tapes, none of which asks for memory.
 
+use crate::documents::read;
 use crate::fault::Fault;
 use crate::say::{say, say_call};
 use crate::texts::text_of;
-use sj_tape::{Node, Tape, Value, to_tape};
-use sj_text_core::{ErrorKind, StaticNode, TypedValue, ValueAsScalar, ValueType};
+use sj_tape::{Node, Tape, Value, to_tape, to_tape_with_spare};
+use sj_text_core::{StaticNode, TypedValue, ValueAsScalar, ValueType};
 
 /// Makes a tape of nodes, or reads one.
 pub fn call(rt: &(impl Print + AllocGlobal), call: &str) -> Result<(), Fault> {
     match call {
         "new" => make(rt),
         "reads" => reads(rt),
+        "spare" => read_into_spare(rt),
         _ => Err(Fault::Usage),
     }
 }
@@ -39,13 +41,24 @@ fn make(rt: &(impl Print + AllocGlobal)) -> Result<(), Fault> {
 /// Reads the tape of the first example in every way.
 fn reads(rt: &(impl Print + AllocGlobal)) -> Result<(), Fault> {
     let mut bytes = text_of(rt.alloc(), "example")?;
-    let tape = match to_tape(rt.alloc(), bytes.as_mut_slice()) {
-        Ok(tape) => tape,
-        Err(ErrorKind::OutOfMemory) => return Err(Fault::OutOfMemory),
-        Err(_) => return Err(Fault::Usage),
-    };
+    let tape = read(to_tape(rt.alloc(), bytes.as_mut_slice()))?;
     say_call(rt)?;
     let is_found = is_example(tape.as_value());
+    say(rt, if is_found { "found\n" } else { "NOT FOUND\n" })
+}
+
+/// Reads the first example once more, into the memory of its tape.
+fn read_into_spare(rt: &(impl Print + AllocGlobal)) -> Result<(), Fault> {
+    let alloc = rt.alloc();
+    let mut bytes = text_of(alloc, "example")?;
+    let mut copy = text_of(alloc, "example")?;
+    let tape = read(to_tape(alloc, bytes.as_mut_slice()))?;
+    say_call(rt)?;
+    let spare = tape.into_spare(alloc);
+    let is_found = match to_tape_with_spare(copy.as_mut_slice(), spare) {
+        Ok(tape) => is_example(tape.as_value()),
+        Err(_) => false,
+    };
     say(rt, if is_found { "found\n" } else { "NOT FOUND\n" })
 }
 

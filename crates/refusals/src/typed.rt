@@ -51,10 +51,7 @@ macro_rules! reads_parts {
     };
 }
 
-use crate::scalars::{
-    is_lazy_nothing, is_lazy_seven, is_lazy_text, is_lazy_true, is_nothing, is_seven, is_text,
-    is_true,
-};
+use crate::scalars::{are_lazy_scalars, is_lazy_seven, is_nothing, is_seven, is_text, is_true};
 use sj_document::Document;
 use sj_lazy::Value as LazyValue;
 use sj_object::KeyText;
@@ -84,8 +81,6 @@ pub fn is_tape_of_kinds(value: TapeValue<'_, '_>, text: &String) -> bool {
 pub fn is_lazy_of_kinds(value: &LazyValue<'_, '_, '_>, text: &String) -> bool {
     reads_members!(value)
         && reads_parts!(value)
-        && is_lazy_nothing(value.get("null"))
-        && is_lazy_true(value.get("bool"))
         && is_lazy_seven(value.get("int"))
-        && is_lazy_text(value.get("str"), text)
+        && are_lazy_scalars(value.get("bool"), value.get("str"), text)
 }

@@ -79,13 +79,18 @@ fn read_borrowed(
     tell_document(rt, read)
 }
 
-/// Reads the text with a repeat twice, each time from a fresh copy: between the first two writes,
+/// Reads the text of that name twice, each time from a fresh copy: between the first two writes,
 /// and once more.
-pub fn read(rt: &(impl Print + AllocGlobal), form: &str, reader: &str) -> Result<(), Fault> {
+pub fn read(
+    rt: &(impl Print + AllocGlobal),
+    form: &str,
+    reader: &str,
+    text: &str,
+) -> Result<(), Fault> {
     let alloc = rt.alloc();
     let reader = Reader::of(reader)?;
-    let mut bytes = text_of(alloc, "repeat")?;
-    let mut copy = text_of(alloc, "repeat")?;
+    let mut bytes = text_of(alloc, text)?;
+    let mut copy = text_of(alloc, text)?;
     let mut buffers = Buffers::new(alloc, 0)?;
     say_call(rt)?;
     match form {

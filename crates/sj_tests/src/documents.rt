@@ -1,6 +1,7 @@
 //! Documents, through the type that both forms have.
 
 mod comparisons;
+mod depths;
 mod repeats;
 
 use sj_document::{BorrowedValue, Document, OwnedValue, replace_at};
@@ -99,17 +100,5 @@ fn prints_exactly(rt: HostRuntime) -> Result<(), Fail> {
     let print =
         "{\"a\":\"x\",\"b\":{\"a\":null},\"c\":\"a\\\"\\u0001\u{e9}\\n\",\"d\":[-5,340282366920938463463374607431768211455]}";
     assert_eq!(rt; value.encode(rt.alloc())?.as_str(), print);
-    let mut out = b">".to_vec(rt.alloc())?;
-    value.write(&mut out)?;
-    let appended = out.as_slice().strip_prefix(b">");
-    assert_eq!(rt; appended, Some(print.as_bytes()));
-    Ok(())
-}
-
-#[test]
-fn prints_lines(rt: HostRuntime) -> Result<(), Fail> {
-    let value = nested(rt.alloc())?;
-    let print = "{\n  \"a\": \"x\",\n  \"b\": {\n    \"a\": null\n  }\n}";
-    assert_eq!(rt; value.encode_pp(rt.alloc())?.as_str(), print);
     Ok(())
 }

@@ -9,7 +9,7 @@ use sj_print::{
 use sj_text_core::StaticNode;
 use std::alloc::{AllocError, Global};
 
-const TEXTS: [(&str, &str); 51] = [
+const TEXTS: [(&str, &str); 52] = [
     ("\x00", "\"\\u0000\""),
     ("\x01", "\"\\u0001\""),
     ("\x02", "\"\\u0002\""),
@@ -52,6 +52,7 @@ const TEXTS: [(&str, &str); 51] = [
     ("", "\"\""),
     ("bla", "\"bla\""),
     ("a \"long\" test", "\"a \\\"long\\\" test\""),
+    (r#"a \"long\" test"#, r#""a \\\"long\\\" test""#),
     ("ends with a quote\"", "\"ends with a quote\\\"\""),
     ("\"\"", "\"\\\"\\\"\""),
     ("tab\x09and\x1fnul\x00", "\"tab\\tand\\u001fnul\\u0000\""),

@@ -1,4 +1,4 @@
-//! Tests of scalars and faults, generators, tapes, maps and documents, by their public calls.
+//! Tests of scalars and faults, generators, tapes, streams, maps and documents, by their public calls.
 //!
 //! Tests stand in crates of their own because a crate with tests is proved twice.
 #![tactic(auto)]
@@ -9,6 +9,9 @@ mod documents;
 mod generators;
 #[cfg(test)]
 mod map;
+pub mod plain;
+#[cfg(test)]
+mod streams;
 #[cfg(test)]
 mod tape;
 #[cfg(test)]

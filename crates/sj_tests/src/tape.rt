@@ -37,28 +37,30 @@ fn has_items(array: Option<Array<'_, '_>>, wanted: &[Option<u8>]) -> bool {
     let Some(array) = array else {
         return wanted.is_empty();
     };
-    for (i, item) in array.iter().enumerate() {
-        let number = item.as_u8();
+    let mut items = array.iter();
+    for (i, number) in wanted.iter().enumerate() {
         let found = match array.get(i) {
             Some(item) => item.as_u8(),
             None => None,
         };
-        if wanted.get(i).copied() != Some(number) || found != number {
-            return false;
-        }
-    }
-    array.len() == wanted.len() && array.get(wanted.len()).is_none()
-}
-
-/// Whether the object has these members in order.
-fn has_members(object: Object<'_, '_>, wanted: &[(&str, Option<u128>)]) -> bool {
-    for (i, (key, value)) in object.iter().enumerate() {
-        match wanted.get(i) {
-            Some((name, number)) if *name == key && *number == value.as_u128() => {}
+        match items.next() {
+            Some(item) if item.as_u8() == *number && found == *number => {}
             _ => return false,
         }
     }
-    object.len() == wanted.len() && !object.is_empty()
+    items.next().is_none() && array.len() == wanted.len() && array.get(wanted.len()).is_none()
+}
+
+/// Whether the object has these members in order, and no others.
+fn has_members(object: Object<'_, '_>, wanted: &[(&str, Option<u128>)]) -> bool {
+    let mut members = object.iter();
+    for (name, number) in wanted {
+        match members.next() {
+            Some((key, value)) if *name == key && *number == value.as_u128() => {}
+            _ => return false,
+        }
+    }
+    members.next().is_none() && object.len() == wanted.len() && !object.is_empty()
 }
 
 /// Whether its keys and values, each for themselves, are these.

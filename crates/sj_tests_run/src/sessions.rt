@@ -84,7 +84,7 @@ fn nested(alloc: Global, count: usize) -> Result<String, Fail> {
 }
 
 /// Inputs of sessions, each with what is answered.
-const ANSWERS: [(&str, &str); 16] = [
+const ANSWERS: [(&str, &str); 17] = [
     // the first example, and a key that is written with escapes
     (
         "{\"some\": [\"key\", \"value\", 2]}\n---\n[\"encode\",[]]\n[\"insert\",[],\"n\",-0]\n[\"insert\",[],\"n\",true]\n[\"encode\",[]]\n",
@@ -124,6 +124,11 @@ const ANSWERS: [(&str, &str); 16] = [
     (
         "{\"key\": \"value\", \"snot\": 42}\n---\n[\"str\",[\"key\"]]\n[\"insert\",[],\"new\",42]\n[\"keys\",[]]\n[\"fits\",[\"snot\"],\"i8\"]\n[\"remove\",[],\"snot\"]\n[\"encode\",[]]",
         "> \"value\"\nnone\n[\"key\",\"snot\",\"new\"]\ntrue\n42\n{\"key\":\"value\",\"new\":42}\n",
+    ),
+    // keys, and whether there is one
+    (
+        "{\"a\":{\"b\":1,\"q\\\"k\":[]},\"d\":null}\n---\n[\"keys\",[]]\n[\"keys\",[\"a\"]]\n[\"keys\",[\"d\"]]\n[\"keys\",[\"b\"]]\n[\"has\",[],\"a\"]\n[\"has\",[],\"b\"]\n[\"has\",[\"a\"],\"b\"]\n[\"has\",[\"a\"],\"q\\\"k\"]\n[\"has\",[\"d\"],\"b\"]\n[\"has\",[\"b\"],\"a\"]\n",
+        "> [\"a\",\"d\"]\n[\"b\",\"q\\\"k\"]\nnot an object\nmissing\ntrue\nfalse\ntrue\ntrue\nfalse\nmissing\n",
     ),
     // a pretty print
     (

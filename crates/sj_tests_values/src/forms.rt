@@ -1,6 +1,8 @@
 //! Tests that are one for both forms: each makes its calls on owned texts, and then on borrowed.
 
+mod changes;
 mod edits;
+mod laws;
 mod numbers;
 mod parts;
 mod prints;

@@ -2,7 +2,7 @@
 
 use super::owned;
 use sj_document::{BorrowedValue, Document, OwnedValue};
-use sj_object::deserialize;
+use sj_object::{KeyMade, deserialize};
 use sj_tape::{Value, to_tape};
 use sj_text_core::{ErrorKind, Repeats, SameAs, StaticNode};
 use std::alloc::Global;
@@ -10,7 +10,11 @@ use std::borrow::CowStr;
 use std::test::Fail;
 
 /// A tape's text, and what it is compared with.
-const ROWS: [(&str, &str, bool); 9] = [
+const ROWS: [(&str, &str, bool); 13] = [
+    ("{\"a\":1,\"b\":2}", "{\"b\":2,\"a\":1}", true),
+    ("{\"a\":1,\"a\":2}", "{\"a\":1}", true),
+    ("[1,2]", "[2,1]", false),
+    ("{\"a\":1}", "{\"b\":1}", false),
     (
         "{\"a\":[{\"b\":1,\"b\":2}],\"a\":0}",
         "{\"a\":[{\"b\":1}]}",
@@ -84,6 +88,21 @@ fn forms_are_compared(rt: HostRuntime) {
         assert!(rt; told == Ok(([[same; 2]; 2], true)), "{left} and {right}");
         assert!(rt; forms_agree(rt.alloc(), left) == Ok(true), "{left}");
     }
+}
+
+/// Whether documents of one number in two carriers are the same.
+fn five_is_five<K: KeyMade>() -> [bool; 2] {
+    let (signed, unsigned): (Document<K>, Document<K>) = (
+        Document::from(5_i64),
+        Document::from(5_u64),
+    );
+    [signed == unsigned, unsigned.same_as(&signed)]
+}
+
+#[test]
+fn carriers_are_not_compared(rt: HostRuntime) {
+    let told = [five_is_five::<String>(), five_is_five::<CowStr<'static>>()];
+    assert_eq!(rt; told, [[true; 2]; 2]);
 }
 
 /// Whether a document of the number 5 is 5, however it is given.

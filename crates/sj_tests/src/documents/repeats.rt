@@ -1,9 +1,13 @@
 //! Documents of objects with repeats.
 
 use super::owned;
-use sj_document::{Document, Object, OwnedValue, borrowed_from_tape, owned_from_tape};
-use sj_tape::{Node, Tape, to_tape};
-use sj_text_core::{StaticNode, Writable};
+use crate::plain::Plain;
+use sj_document::{
+    BorrowedValue, Document, Object, OwnedValue, borrowed_from_tape, owned_from_tape,
+};
+use sj_object::deserialize;
+use sj_tape::{Node, Tape, Value, to_tape};
+use sj_text_core::{Repeats, StaticNode, Writable};
 use std::alloc::Global;
 use std::borrow::CowStr;
 use std::test::Fail;
@@ -59,7 +63,7 @@ fn repeating<'i>(alloc: Global, keys: &'i [String], repeat: usize) -> Result<Tap
 
 /// Whether all keys of the borrowed document are lent.
 fn lends_keys(alloc: Global, tape: &Tape<'_>) -> Result<bool, Fail> {
-    let Document::Object(members) = borrowed_from_tape(alloc, tape.as_value())? else {
+    let Some(members) = borrowed_from_tape(alloc, tape.as_value())?.into_object() else {
         return Ok(false);
     };
     Ok(members.keys().all(|key| matches!(key, CowStr::Borrowed(_))))
@@ -107,6 +111,39 @@ fn reads_a_text_with_a_repeat(rt: HostRuntime) -> Result<(), Fail> {
         let buckets = if len > 32 { Some(64) } else { None };
         assert!(rt; held(rt.alloc(), len, repeat)? == Some(buckets), "{len}");
     }
+    Ok(())
+}
+
+/// How many members and nodes a tape's object has, and what `k00` and `k31` are.
+fn looked(whole: Value<'_, '_>) -> Option<(usize, usize, [Option<u8>; 2])> {
+    let len = whole.as_object()?.len();
+    let found = [whole.get_u8("k00"), whole.get_u8("k31")];
+    Some((len, whole.nodes().len(), found))
+}
+
+/// 33 members, the last a repeat of the first: on a tape all of them, by both choices.
+#[test]
+fn a_tape_has_all_members(rt: HostRuntime) -> Result<(), Fail> {
+    let mut bytes = text_with_repeat(rt.alloc(), 32, 0)?.into_bytes();
+    let tape = to_tape(rt.alloc(), bytes.as_mut_slice())?;
+    let last = tape.as_value_repeats(Repeats::Last).get_u8("k00");
+    let told = (looked(tape.as_value()), last);
+    assert_eq!(rt; told, (Some((33, 67, [Some(0), Some(31)])), Some(99)));
+    Ok(())
+}
+
+/// The same text as a borrowed document, and as one of another type, which have the first 32.
+#[test]
+fn other_documents_have_the_first_members(rt: HostRuntime) -> Result<(), Fail> {
+    let mut lent = text_with_repeat(rt.alloc(), 32, 0)?.into_bytes();
+    let mut read = text_with_repeat(rt.alloc(), 32, 0)?.into_bytes();
+    let borrowed = deserialize::<BorrowedValue, CowStr>(rt.alloc(), lent.as_mut_slice())?;
+    let members = borrowed.as_object().ok_or("an object")?;
+    let told = (borrowed.get_u8("k00"), members.len(), members.buckets());
+    assert_eq!(rt; told, (Some(0), 32, None));
+    let plain = Plain::read(rt.alloc(), read.as_mut_slice())?;
+    assert_eq!(rt; plain.numbers("k00"), Some((32, Some(0))));
+    assert_eq!(rt; plain.numbers("k31"), Some((32, Some(31))));
     Ok(())
 }
 

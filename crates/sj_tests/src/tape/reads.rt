@@ -259,34 +259,6 @@ fn members_of_objects(rt: HostRuntime) -> Result<(), Fail> {
     Ok(())
 }
 
-/// The text of an object with the keys `k00` to `k31`, each with its number, and then `k00` with 99.
-fn text_past_32_members(alloc: Global) -> Result<Vec<u8>, Fail> {
-    let mut text = String::new(alloc);
-    for i in 0..32 {
-        let comma = if i == 0 { "{" } else { "," };
-        text.push_str(format!(in alloc; "{comma}\"k{i:02}\":{i}")?.as_str())?;
-    }
-    text.push_str(",\"k00\":99}")?;
-    Ok(text.into_bytes())
-}
-
-/// How many members and nodes there are, and what `k00` and `k31` are.
-fn looked(whole: Value<'_, '_>) -> Option<(usize, usize, [Option<u8>; 2])> {
-    let len = whole.as_object()?.len();
-    let found = [whole.get_u8("k00"), whole.get_u8("k31")];
-    Some((len, whole.nodes().len(), found))
-}
-
-#[test]
-fn repeats_past_32_members(rt: HostRuntime) -> Result<(), Fail> {
-    let mut bytes = text_past_32_members(rt.alloc())?;
-    let tape = to_tape(rt.alloc(), bytes.as_mut_slice())?;
-    let last = tape.as_value_repeats(Repeats::Last).get_u8("k00");
-    let told = (looked(tape.as_value()), last);
-    assert_eq!(rt; told, (Some((33, 67, [Some(0), Some(31)])), Some(99)));
-    Ok(())
-}
-
 /// The members of a text with a repeat, where the last of each key counts.
 #[test]
 fn the_last_of_a_key_counts(rt: HostRuntime) -> Result<(), Fail> {

@@ -3,8 +3,8 @@
 ghost use Rattle.std.specs.Prelude.{◌≡◌, ◌<◌};
 
 use super::{has_items, has_members, lists_members, nested_arrays, number_of, tape_of};
-use sj_tape::{Array, Node, Tape, Value};
-use sj_text_core::{Repeats, StaticNode, Steps, TypedValue, ValueAsScalar, ValueType};
+use sj_tape::{Array, Node, Tape, Value, Writable, to_tape};
+use sj_text_core::{StaticNode, Steps, TypedValue, ValueAsScalar, ValueType};
 use std::alloc::Global;
 use std::marker::Brand;
 use std::sync::ledger::{Blank, Ledger};
@@ -26,15 +26,15 @@ fn object(len: usize, count: usize) -> Node<'static> {
     Node::Object { len, count }
 }
 
-/// Whether the list is accepted; a refused one comes back.
-fn is_accepted(alloc: Global, nodes: &[Node<'_>]) -> Result<bool, Fail> {
+/// What the tape of the list prints; None where the list is refused, and comes back.
+fn printed(alloc: Global, nodes: &[Node<'_>]) -> Result<Option<String>, Fail> {
     match Tape::new(nodes.to_vec(alloc)?) {
-        Ok(_) => Ok(true),
+        Ok(tape) => Ok(Some(tape.as_value().encode(alloc)?)),
         Err(refused) => {
             let given = format!(in alloc; "{nodes:?}")?;
             let back = format!(in alloc; "{:?}", refused.value)?;
             if back.as_str() == given.as_str() {
-                Ok(false)
+                Ok(None)
             } else {
                 Err("another list came back".into())
             }
@@ -45,26 +45,31 @@ fn is_accepted(alloc: Global, nodes: &[Node<'_>]) -> Result<bool, Fail> {
 #[test]
 fn preorders_alone_are_accepted(rt: HostRuntime) -> Result<(), Fail> {
     let most = usize::MAX;
-    let lists: [(&[Node], bool); 16] = [
-        (&[array(2, 1), NULL], false),
-        (&[object(1, 1), KEY], false),
-        (&[], false),
-        (&[NULL, NULL], false),
-        (&[array(1, 1), NULL], true),
-        (&[array(0, 0), NULL], false),
-        (&[array(0, 1), NULL], false),
-        (&[array(1, 2), NULL], false),
-        (&[array(1, 1), array(0, 1)], false),
-        (&[array(2, 3), array(1, 2), NULL, NULL], false),
-        (&[array(1, 3), array(1, 1), NULL, NULL], false),
-        (&[object(1, 2), NULL, NULL], false),
-        (&[array(most, most)], false),
-        (&[object(most, most)], false),
-        (&[array(2, 3), array(1, 1), NULL, NULL], true),
-        (&[object(1, 2), KEY, NULL], true),
+    let lists: [(&[Node], Option<&str>); 16] = [
+        (&[array(2, 1), NULL], None),
+        (&[object(1, 1), KEY], None),
+        (&[], None),
+        (&[NULL, NULL], None),
+        (&[array(1, 1), NULL], Some("[null]")),
+        (&[array(0, 0), NULL], None),
+        (&[array(0, 1), NULL], None),
+        (&[array(1, 2), NULL], None),
+        (&[array(1, 1), array(0, 1)], None),
+        (&[array(2, 3), array(1, 2), NULL, NULL], None),
+        (&[array(1, 3), array(1, 1), NULL, NULL], None),
+        (&[object(1, 2), NULL, NULL], None),
+        (&[array(most, most)], None),
+        (&[object(most, most)], None),
+        (
+            &[array(2, 3), array(1, 1), NULL, NULL],
+            Some("[[null],null]"),
+        ),
+        (&[object(1, 2), KEY, NULL], Some("{\"k\":null}")),
     ];
-    for &(nodes, accepted) in &lists {
-        assert!(rt; is_accepted(rt.alloc(), nodes)? == accepted, "{nodes:?}");
+    for &(nodes, wanted) in &lists {
+        let told = printed(rt.alloc(), nodes)?;
+        let print = told.as_ref().map(|print| print.as_str());
+        assert!(rt; print == wanted, "{nodes:?}");
     }
     Ok(())
 }
@@ -102,6 +107,7 @@ fn finds_members(whole: Value<'_, '_>) -> Option<[bool; 7]> {
     ])
 }
 
+/// On a tape of nodes, and on one that was read.
 #[test]
 fn members(rt: HostRuntime) -> Result<(), Fail> {
     let x = Node::String("x");
@@ -116,8 +122,11 @@ fn members(rt: HostRuntime) -> Result<(), Fail> {
         x,
         number(3),
     ];
-    let tape = tape_of(rt.alloc(), &nodes)?;
-    assert_eq!(rt; finds_members(tape.as_value()), Some([true; 7]));
+    let made = tape_of(rt.alloc(), &nodes)?;
+    let mut bytes = *b"{\"x\":{\"k\":1},\"k\":2,\"x\":3}";
+    let read = to_tape(rt.alloc(), &mut bytes)?;
+    assert_eq!(rt; finds_members(made.as_value()), Some([true; 7]));
+    assert_eq!(rt; finds_members(read.as_value()), Some([true; 7]));
     Ok(())
 }
 
@@ -217,17 +226,6 @@ fn scalars(rt: HostRuntime) -> Result<(), Fail> {
     Ok(())
 }
 
-#[test]
-fn texts(rt: HostRuntime) -> Result<(), Fail> {
-    let text = {
-        let tape = tape_of(rt.alloc(), &[KEY])?;
-        assert_eq!(rt; tape.as_value().value_type(), ValueType::String);
-        tape.as_value().into_string()
-    };
-    assert_eq!(rt; text, Some("k"));
-    Ok(())
-}
-
 /// What counted lookups find.
 fn counted<L: Ledger>(tape: &Tape<'_>, blank: Blank) -> [Option<u128>; 3]
     requires name { blank.name ≡ L.name }
@@ -250,41 +248,5 @@ fn counted_lookups(rt: HostRuntime) -> Result<(), Fail> {
         counted::<Brand>(&tape, Blank::new(1)),
         [Some(2), None, None]
     );
-    Ok(())
-}
-
-/// By which choice the value goes, and what `k` is in it and in its part `x`.
-fn chosen(whole: Value<'_, '_>) -> Option<([Repeats; 2], [Option<u128>; 2], usize)> {
-    let part = whole.get("x")?;
-    let numbers = [number_of(whole.get("k")), number_of(part.get("k"))];
-    let object = whole.as_object()?;
-    Some(([whole.repeats(), part.repeats()], numbers, object.len()))
-}
-
-#[test]
-fn last_members(rt: HostRuntime) -> Result<(), Fail> {
-    // {"k":1,"x":{"k":4,"k":5},"k":3}
-    let nodes = [
-        object(3, 10),
-        KEY,
-        number(1),
-        Node::String("x"),
-        object(2, 4),
-        KEY,
-        number(4),
-        KEY,
-        number(5),
-        KEY,
-        number(3),
-    ];
-    let tape = tape_of(rt.alloc(), &nodes)?;
-    let first = ([Repeats::First; 2], [Some(1), Some(4)], 3);
-    let last = ([Repeats::Last; 2], [Some(3), Some(5)], 3);
-    let told = [
-        chosen(tape.as_value()),
-        chosen(tape.as_value_repeats(Repeats::First)),
-        chosen(tape.as_value_repeats(Repeats::Last)),
-    ];
-    assert_eq!(rt; told, [Some(first), Some(first), Some(last)]);
     Ok(())
 }

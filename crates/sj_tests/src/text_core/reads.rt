@@ -1,128 +1,138 @@
 //! Typed reads.
 
 use sj_text_core::{
-    ExtendedValueType, SameAs, StaticNode, TryTypeError, TypedValue, ValueAsScalar, ValueType,
+    ExtendedValueType, StaticNode, TryTypeError, TypedValue, ValueAsScalar, ValueType,
 };
 
-/// Numbers, and the narrowest signed and unsigned type that each fits: 0 for 8 bits, 1 for 16 and so
-/// on up to 4 for 128, and 5 for none.
-const NUMBERS: [(StaticNode, usize, usize); 32] = [
-    (StaticNode::I64(i8::MIN as i64), 0, 5),
-    (StaticNode::I64(i8::MAX as i64), 0, 0),
-    (StaticNode::I64(i16::MIN as i64), 1, 5),
-    (StaticNode::I64(i16::MAX as i64), 1, 1),
-    (StaticNode::I64(i32::MIN as i64), 2, 5),
-    (StaticNode::I64(i32::MAX as i64), 2, 2),
-    (StaticNode::I64(i64::MIN), 3, 5),
-    (StaticNode::I64(i64::MAX), 3, 3),
-    (StaticNode::I128(i128::MIN), 4, 5),
-    (StaticNode::I128(i128::MAX), 4, 4),
-    (StaticNode::U64(u8::MIN as u64), 0, 0),
-    (StaticNode::U64(u8::MAX as u64), 1, 0),
-    (StaticNode::U64(u16::MIN as u64), 0, 0),
-    (StaticNode::U64(u16::MAX as u64), 2, 1),
-    (StaticNode::U64(u32::MIN as u64), 0, 0),
-    (StaticNode::U64(u32::MAX as u64), 3, 2),
-    (StaticNode::U64(u64::MIN), 0, 0),
-    (StaticNode::U64(u64::MAX), 4, 3),
-    (StaticNode::U128(u128::MIN), 0, 0),
-    (StaticNode::U128(u128::MAX), 5, 4),
-    (StaticNode::U64(usize::MIN as u64), 0, 0),
-    (StaticNode::U64(usize::MAX as u64), 4, 3),
-    (StaticNode::I64(256), 1, 1),
-    (StaticNode::I64(-129), 1, 5),
-    (StaticNode::I128(18446744073709551616), 4, 4),
+/// Numbers, each as a literal of 128 bits, signed and unsigned; None past these.
+const NUMBERS: [(StaticNode, Option<i128>, Option<u128>); 18] = [
+    (StaticNode::I64(-128), Some(-128), None),
+    (StaticNode::I64(-129), Some(-129), None),
+    (StaticNode::I64(127), Some(127), Some(127)),
+    (StaticNode::I64(256), Some(256), Some(256)),
+    (StaticNode::I64(-32768), Some(-32768), None),
+    (StaticNode::I64(-2147483649), Some(-2147483649), None),
+    (StaticNode::I64(i64::MIN), Some(-9223372036854775808), None),
     (
-        StaticNode::U128(170141183460469231731687303715884105728),
-        5,
-        4,
+        StaticNode::I64(i64::MAX),
+        Some(9223372036854775807),
+        Some(9223372036854775807),
     ),
-    (StaticNode::U128(255), 1, 0),
-    (StaticNode::I128(-1), 0, 5),
-    (StaticNode::U128(5), 0, 0),
-    (StaticNode::I64(65536), 2, 2),
-    (StaticNode::U64(9223372036854775808), 4, 3),
-    (StaticNode::I128(-9223372036854775809), 4, 5),
+    (StaticNode::U64(5), Some(5), Some(5)),
+    (StaticNode::U64(255), Some(255), Some(255)),
+    (StaticNode::U64(65535), Some(65535), Some(65535)),
+    (
+        StaticNode::U64(4294967295),
+        Some(4294967295),
+        Some(4294967295),
+    ),
+    (
+        StaticNode::U64(u64::MAX),
+        Some(18446744073709551615),
+        Some(18446744073709551615),
+    ),
+    (StaticNode::I128(-1), Some(-1), None),
+    (
+        StaticNode::I128(i128::MIN),
+        Some(-170141183460469231731687303715884105728),
+        None,
+    ),
+    (
+        StaticNode::I128(i128::MAX),
+        Some(170141183460469231731687303715884105727),
+        Some(170141183460469231731687303715884105727),
+    ),
+    (StaticNode::U128(300), Some(300), Some(300)),
+    (
+        StaticNode::U128(u128::MAX),
+        None,
+        Some(340282366920938463463374607431768211455),
+    ),
 ];
 
-/// Whether something was read, and it is the value.
-fn reads<T>(node: StaticNode, read: Option<T>) -> bool
-where
-    T: Drop,
-    StaticNode: SameAs<T>,
-{
-    match read {
-        Some(number) => node.same_as(&number),
-        None => false,
-    }
+/// Whether a number fits a type, and is read so in both ways, exactly where that number is wanted.
+fn agrees<T: PartialEq + Drop>(
+    fits: bool,
+    read: Option<T>,
+    tried: Result<T, TryTypeError>,
+    wanted: Option<T>,
+) -> bool {
+    fits == wanted.is_some() && tried.ok() == wanted && read == wanted
 }
 
-/// Which signed types the value fits, and which of them read it.
-fn signed(node: StaticNode) -> [[bool; 5]; 2] {
+/// Whether each signed type reads the number where it lies in the type's range.
+fn signed(v: StaticNode, n: Option<i128>) -> [bool; 5] {
     [
-        [
-            node.is_i8(),
-            node.is_i16(),
-            node.is_i32(),
-            node.is_i64(),
-            node.is_i128(),
-        ],
-        [
-            reads(node, node.as_i8()),
-            reads(node, node.as_i16()),
-            reads(node, node.as_i32()),
-            reads(node, node.as_i64()),
-            reads(node, node.as_i128()),
-        ],
+        agrees(
+            v.is_i8(),
+            v.as_i8(),
+            v.try_as_i8(),
+            n.and_then(|n| i8::try_from(n).ok()),
+        ),
+        agrees(
+            v.is_i16(),
+            v.as_i16(),
+            v.try_as_i16(),
+            n.and_then(|n| i16::try_from(n).ok()),
+        ),
+        agrees(
+            v.is_i32(),
+            v.as_i32(),
+            v.try_as_i32(),
+            n.and_then(|n| i32::try_from(n).ok()),
+        ),
+        agrees(
+            v.is_i64(),
+            v.as_i64(),
+            v.try_as_i64(),
+            n.and_then(|n| i64::try_from(n).ok()),
+        ),
+        agrees(v.is_i128(), v.as_i128(), v.try_as_i128(), n),
     ]
 }
 
-/// Which unsigned types the value fits, and which of them read it.
-fn unsigned(node: StaticNode) -> [[bool; 5]; 2] {
+/// Whether each unsigned type does.
+fn unsigned(v: StaticNode, n: Option<u128>) -> [bool; 6] {
     [
-        [
-            node.is_u8(),
-            node.is_u16(),
-            node.is_u32(),
-            node.is_u64(),
-            node.is_u128(),
-        ],
-        [
-            reads(node, node.as_u8()),
-            reads(node, node.as_u16()),
-            reads(node, node.as_u32()),
-            reads(node, node.as_u64()),
-            reads(node, node.as_u128()),
-        ],
+        agrees(
+            v.is_u8(),
+            v.as_u8(),
+            v.try_as_u8(),
+            n.and_then(|n| u8::try_from(n).ok()),
+        ),
+        agrees(
+            v.is_u16(),
+            v.as_u16(),
+            v.try_as_u16(),
+            n.and_then(|n| u16::try_from(n).ok()),
+        ),
+        agrees(
+            v.is_u32(),
+            v.as_u32(),
+            v.try_as_u32(),
+            n.and_then(|n| u32::try_from(n).ok()),
+        ),
+        agrees(
+            v.is_u64(),
+            v.as_u64(),
+            v.try_as_u64(),
+            n.and_then(|n| u64::try_from(n).ok()),
+        ),
+        agrees(v.is_u128(), v.as_u128(), v.try_as_u128(), n),
+        agrees(
+            v.is_usize(),
+            v.as_usize(),
+            v.try_as_usize(),
+            n.and_then(|n| usize::try_from(n).ok()),
+        ),
     ]
-}
-
-/// The types that a value fits.
-fn from(narrowest: usize) -> [bool; 5] {
-    [
-        narrowest == 0,
-        narrowest <= 1,
-        narrowest <= 2,
-        narrowest <= 3,
-        narrowest <= 4,
-    ]
-}
-
-/// Whether the number is read by the types that it fits, and by no others.
-fn is_read(node: StaticNode, narrowest_signed: usize, narrowest_unsigned: usize) -> bool {
-    let size = [node.is_usize(), reads(node, node.as_usize())];
-    signed(node) == [from(narrowest_signed); 2]
-        && unsigned(node) == [from(narrowest_unsigned); 2]
-        && size == [narrowest_unsigned <= 3; 2]
 }
 
 #[test]
 fn numbers_are_read_by_their_ranges(rt: HostRuntime) {
-    for &(node, narrowest_signed, narrowest_unsigned) in &NUMBERS {
-        assert!(rt;
-            is_read(node, narrowest_signed, narrowest_unsigned),
-            "{node}"
-        );
+    for &(v, less, more) in &NUMBERS {
+        assert!(rt; signed(v, less) == [true; 5], "{v}");
+        assert!(rt; unsigned(v, more) == [true; 6], "{v}");
     }
 }
 
@@ -183,43 +193,9 @@ fn faults_name_both_kinds(rt: HostRuntime) {
     assert_eq!(rt; told, [None; 2]);
 }
 
-/// Whether each signed type reads 5.
-fn signed_fives(node: StaticNode) -> [bool; 10] {
-    [
-        node.as_i8() == Some(5),
-        node.try_as_i8() == Ok(5),
-        node.as_i16() == Some(5),
-        node.try_as_i16() == Ok(5),
-        node.as_i32() == Some(5),
-        node.try_as_i32() == Ok(5),
-        node.as_i64() == Some(5),
-        node.try_as_i64() == Ok(5),
-        node.as_i128() == Some(5),
-        node.try_as_i128() == Ok(5),
-    ]
-}
-
-/// Whether each unsigned type reads 5.
-fn unsigned_fives(node: StaticNode) -> [bool; 12] {
-    [
-        node.as_u8() == Some(5),
-        node.try_as_u8() == Ok(5),
-        node.as_u16() == Some(5),
-        node.try_as_u16() == Ok(5),
-        node.as_u32() == Some(5),
-        node.try_as_u32() == Ok(5),
-        node.as_u64() == Some(5),
-        node.try_as_u64() == Ok(5),
-        node.as_u128() == Some(5),
-        node.try_as_u128() == Ok(5),
-        node.as_usize() == Some(5),
-        node.try_as_usize() == Ok(5),
-    ]
-}
-
 #[test]
-fn reads_answer_the_value(rt: HostRuntime) {
-    let five = StaticNode::U128(5);
+fn other_scalars_are_read(rt: HostRuntime) {
+    let five = StaticNode::U64(5);
     let told = [
         StaticNode::Null.as_null() == Some(()),
         StaticNode::Null.try_as_null() == Ok(()),
@@ -229,8 +205,7 @@ fn reads_answer_the_value(rt: HostRuntime) {
         five.as_bool() == None,
         five.as_str().is_none(),
     ];
-    let numbers = (signed_fives(five), unsigned_fives(five));
-    assert_eq!(rt; (told, numbers), ([true; 7], ([true; 10], [true; 12])));
+    assert_eq!(rt; told, [true; 7]);
 }
 
 /// Whether the value is null, a truth value, or what no scalar is.

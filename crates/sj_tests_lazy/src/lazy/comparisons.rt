@@ -48,21 +48,6 @@ fn compared(alloc: Global, first: &Value, second: &Value) -> Result<[[bool; 4]; 
     ])
 }
 
-#[test]
-fn forms_are_compared(rt: HostRuntime) -> Result<(), Fail> {
-    let alloc = rt.alloc();
-    for (left, right, same) in ROWS {
-        let mut left = left.as_bytes().to_vec(alloc)?;
-        let mut right = right.as_bytes().to_vec(alloc)?;
-        let left = to_tape(alloc, left.as_mut_slice())?;
-        let right = to_tape(alloc, right.as_mut_slice())?;
-        let first: Value<'_, '_, '_> = Value::from_tape(left.as_value());
-        let second: Value<'_, '_, '_> = Value::from_tape(right.as_value());
-        assert_eq!(rt; compared(alloc, &first, &second)?, [[same; 4]; 2]);
-    }
-    Ok(())
-}
-
 /// Whether it is the same as an owned document, before and after its upgrade.
 fn is_owned(
     alloc: Global,
@@ -75,7 +60,7 @@ fn is_owned(
 }
 
 #[test]
-fn owned_documents_are_compared(rt: HostRuntime) -> Result<(), Fail> {
+fn forms_are_compared(rt: HostRuntime) -> Result<(), Fail> {
     let alloc = rt.alloc();
     for (left, right, same) in ROWS {
         let mut left = left.as_bytes().to_vec(alloc)?;
@@ -83,24 +68,10 @@ fn owned_documents_are_compared(rt: HostRuntime) -> Result<(), Fail> {
         let left = to_tape(alloc, left.as_mut_slice())?;
         let right = to_tape(alloc, right.as_mut_slice())?;
         let owned = owned_from_tape(alloc, right.as_value_repeats(Repeats::First))?;
-        let mut value: Value<'_, '_, '_> = Value::from_tape(left.as_value());
-        assert_eq!(rt; is_owned(alloc, &mut value, &owned)?, [same; 2]);
-    }
-    Ok(())
-}
-
-fn is_its_copy(value: &Value) -> Result<bool, Fail> {
-    Ok(*value == value.clone()?)
-}
-
-#[test]
-fn copies_are_equal(rt: HostRuntime) -> Result<(), Fail> {
-    let alloc = rt.alloc();
-    for (text, _, _) in ROWS {
-        let mut bytes = text.as_bytes().to_vec(alloc)?;
-        let tape = to_tape(alloc, bytes.as_mut_slice())?;
-        let value: Value<'_, '_, '_> = Value::from_tape(tape.as_value());
-        assert!(rt; is_its_copy(&value)?, "{text}");
+        let mut first: Value<'_, '_, '_> = Value::from_tape(left.as_value());
+        let second: Value<'_, '_, '_> = Value::from_tape(right.as_value());
+        assert_eq!(rt; compared(alloc, &first, &second)?, [[same; 4]; 2]);
+        assert_eq!(rt; is_owned(alloc, &mut first, &owned)?, [same; 2]);
     }
     Ok(())
 }

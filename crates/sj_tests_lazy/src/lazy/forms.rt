@@ -4,7 +4,7 @@ use super::{keys_of, prints};
 use sj_document::Document;
 use sj_lazy::{Shared, Value};
 use sj_tape::to_tape;
-use sj_text_core::{StaticNode, TryMake, ValueAsScalar, Writable};
+use sj_text_core::{StaticNode, ValueAsScalar, Writable};
 use std::alloc::Global;
 use std::borrow::CowStr;
 use std::test::Fail;
@@ -140,15 +140,6 @@ fn texts_are_taken_out_of_each_form(rt: HostRuntime) -> Result<(), Fail> {
 }
 
 #[test]
-fn texts_are_taken_out_of_what_is_made(rt: HostRuntime) -> Result<(), Fail> {
-    let alloc = rt.alloc();
-    let words = vec![in alloc; String::from_str(alloc, "b")?]?;
-    let words: Value<'_, '_, '_> = Value::try_make(alloc, words)?;
-    assert!(rt; is_text(&words, 0, Some("b"))?);
-    Ok(())
-}
-
-#[test]
 fn the_first_write_upgrades(rt: HostRuntime) -> Result<(), Fail> {
     let alloc = rt.alloc();
     let mut text = *br#"{"key": "value", "snot": 42}"#;
@@ -165,19 +156,6 @@ fn the_first_write_upgrades(rt: HostRuntime) -> Result<(), Fail> {
         value.get_i8("snot") == Some(42),
     ];
     assert_eq!(rt; told, [true; 6]);
-    Ok(())
-}
-
-#[test]
-fn members_are_removed(rt: HostRuntime) -> Result<(), Fail> {
-    let alloc = rt.alloc();
-    let mut text = *br#"{"key":"value","snot":42,"new":42}"#;
-    let tape = to_tape(alloc, &mut text)?;
-    let mut value: Value<'_, '_, '_> = Value::from_tape(tape.as_value());
-    value.as_mut(alloc)?;
-    let gone = value.remove(alloc, "snot")?.ok_or("a member")?;
-    assert_eq!(rt; gone.as_u64(), Some(42));
-    assert!(rt; prints(alloc, &value, r#"{"key":"value","new":42}"#)?);
     Ok(())
 }
 

@@ -1,7 +1,7 @@
 //! Writes, refused and not.
 
 use super::{members, prints};
-use sj_document::{BorrowedValue, Document};
+use sj_document::{BorrowedValue, Document, Replace};
 use sj_lazy::Value;
 use sj_tape::to_tape;
 use sj_text_core::{AccessError, Refused, StaticNode, ValueAsScalar, Writable};
@@ -147,5 +147,36 @@ fn parts_are_written_in_place(rt: HostRuntime) -> Result<(), Fail> {
     assert!(rt; written(alloc, &mut value)?);
     assert!(rt; prints(alloc, &value, r#"{"a":[1,3],"b":4,"c":5}"#)?);
     assert_eq!(rt; part_is_written(alloc, &value)?, [true; 3]);
+    Ok(())
+}
+
+/// The change that puts 9 in the place of what is there.
+fn nine<'i>() -> Replace<Document<CowStr<'i>>> {
+    Replace { value: number(9) }
+}
+
+#[test]
+fn changes_are_made_of_what_is_kept(rt: HostRuntime) -> Result<(), Fail> {
+    let alloc = rt.alloc();
+    let mut text = *b"{\"a\":1,\"a\":2,\"b\":[3]}";
+    let tape = to_tape(alloc, &mut text)?;
+    let mut value: Value<'_, '_, '_> = Value::from_tape(tape.as_value());
+    let told = [
+        matches!(value.change_member(alloc, "c", nine()), Ok(Err(_))),
+        prints(alloc, &value, "{\"a\":1,\"b\":[3]}")?,
+        matches!(value.change_member(alloc, "a", nine()), Ok(Ok(_))),
+        matches!(value.change_item(alloc, 0, nine()), Ok(Err(_))),
+        prints(alloc, &value, "{\"a\":9,\"b\":[3]}")?,
+    ];
+    assert_eq!(rt; told, [true; 5]);
+    let mut items = *b"[1,2]";
+    let tape = to_tape(alloc, &mut items)?;
+    let mut value: Value<'_, '_, '_> = Value::from_tape(tape.as_value());
+    let told = [
+        matches!(value.change_item(alloc, 2, nine()), Ok(Err(_))),
+        matches!(value.change_item(alloc, 1, nine()), Ok(Ok(_))),
+        prints(alloc, &value, "[1,9]")?,
+    ];
+    assert_eq!(rt; told, [true; 3]);
     Ok(())
 }

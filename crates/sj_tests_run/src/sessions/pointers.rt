@@ -16,45 +16,6 @@ use std::test::Fail;
 const DOCUMENT: &str =
     r#"{"foo":["bar","baz"],"":0,"a/b":1,"c%d":2,"e^f":3,"g|h":4,"i\\j":5,"k\"l":6," ":7,"m~n":8}"#;
 
-/// Pointers between quotes, and what is printed of what they find.
-const FOUND: [(&str, &str); 13] = [
-    (r#""""#, DOCUMENT),
-    (r#""/foo""#, r#"["bar","baz"]"#),
-    (r#""/foo/0""#, r#""bar""#),
-    (r#""/foo/1""#, r#""baz""#),
-    (r#""/""#, "0"),
-    (r#""/a~1b""#, "1"),
-    (r#""/c%d""#, "2"),
-    (r#""/e^f""#, "3"),
-    (r#""/g|h""#, "4"),
-    (r#""/i\\j""#, "5"),
-    (r#""/k\"l""#, "6"),
-    (r#""/ ""#, "7"),
-    (r#""\/m\u007e0n""#, "8"),
-];
-
-const MISSING: [&str; 8] = [
-    "/foo/2",
-    "/foo/00",
-    "/foo/-",
-    "/foo/18446744073709551616",
-    "/foo/0/x",
-    "/foo/",
-    "/m~01n",
-    "/bar",
-];
-
-const REFUSED: [&str; 6] = ["foo", "a~2", "~1", "/a~2", "/a~", "/foo/~~0"];
-
-/// A session on that document with one line, of that command and what stands behind its path.
-fn input(alloc: Global, name: &str, path: &str, behind: &str) -> Result<String, Fail> {
-    Ok(format!(in alloc; "{DOCUMENT}\n---\n[\"{name}\",{path}{behind}]")?)
-}
-
-fn reply(alloc: Global, text: &str) -> Result<String, Fail> {
-    Ok(format!(in alloc; "> {text}\n")?)
-}
-
 #[test]
 fn lines_have_pointers(rt: HostRuntime) -> Result<(), Fail> {
     let lines = r#"["encode","/foo/0"]
@@ -68,51 +29,6 @@ fn lines_have_pointers(rt: HostRuntime) -> Result<(), Fail> {
     let want = "> \"bar\"\nok\n8\nnot an object\nmissing\nbad command\n3\n3\n";
     let given = format!(in rt.alloc(); "{DOCUMENT}\n---\n{lines}")?;
     check(&rt, rt.alloc(), given.as_str(), want)
-}
-
-#[test]
-fn pointers_find_in_lines(rt: HostRuntime) -> Result<(), Fail> {
-    let alloc = rt.alloc();
-    for (pointer, print) in FOUND {
-        let want = reply(alloc, print)?;
-        for (name, behind) in [("encode", ""), ("put", ",null")] {
-            let given = input(alloc, name, pointer, behind)?;
-            check(&rt, alloc, given.as_str(), want.as_str())?;
-        }
-    }
-    Ok(())
-}
-
-/// Nothing is found, and nothing is written.
-#[test]
-fn pointers_miss_in_lines(rt: HostRuntime) -> Result<(), Fail> {
-    let alloc = rt.alloc();
-    let left = format!(in alloc; "> missing\n{DOCUMENT}\n")?;
-    for pointer in MISSING {
-        let path = format!(in alloc; "\"{pointer}\"")?;
-        for (name, behind, want) in [
-            ("encode", "", "> missing\n"),
-            ("put", ",null]\n[\"encode\",\"\"", left.as_str()),
-        ] {
-            let given = input(alloc, name, path.as_str(), behind)?;
-            check(&rt, alloc, given.as_str(), want)?;
-        }
-    }
-    Ok(())
-}
-
-/// A text that is no pointer makes no command.
-#[test]
-fn other_texts_are_bad(rt: HostRuntime) -> Result<(), Fail> {
-    let alloc = rt.alloc();
-    for text in REFUSED {
-        let path = format!(in alloc; "\"{text}\"")?;
-        for (name, behind) in [("encode", ""), ("put", ",null"), ("pop", "")] {
-            let given = input(alloc, name, path.as_str(), behind)?;
-            check(&rt, alloc, given.as_str(), "> bad command\n")?;
-        }
-    }
-    Ok(())
 }
 
 const LINES: &str = r#"---

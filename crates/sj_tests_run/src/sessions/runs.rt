@@ -5,7 +5,7 @@ use sj_lazy::Value;
 use sj_object::deserialize;
 use sj_run::{BorrowedDoc, Command, Document, LazyDoc, OwnedDoc, Reply, Step, Way, Width, run};
 use sj_tape::to_tape;
-use sj_text_core::{Repeats, ValueType};
+use sj_text_core::ValueType;
 use std::alloc::Global;
 use std::borrow::CowStr;
 use std::process::Abort;
@@ -156,41 +156,6 @@ fn lazy_documents_answer(rt: HostRuntime) -> Result<(), Fail> {
     assert_eq!(rt; [is_tape, is_missed, document.value.is_value()], [true; 3]);
     check_reads(&rt, alloc, &mut document)?;
     check_writes(&rt, alloc, &mut document)
-}
-
-/// A command at a document with repeats whose last member counts, and its reply.
-fn by_choice(alloc: Global, number: usize) -> Result<(Command, Reply), Fail> {
-    Ok(match number {
-        0 => {
-            let mut path = Vec::new(alloc);
-            path.push(Step::Key(text(alloc, "a")?))?;
-            (Command::Encode(path), Reply::Printed(text(alloc, "3")?))
-        }
-        1 => (Command::Len(Vec::new(alloc)), Reply::Count(3)),
-        2 => (Command::Pop(Vec::new(alloc)), Reply::NotAnArray),
-        _ => {
-            let kept = text(alloc, "{\"a\":3,\"b\":2}")?;
-            (Command::Encode(Vec::new(alloc)), Reply::Printed(kept))
-        }
-    })
-}
-
-/// Where the last member of a key counts, reads find it, and a write keeps it.
-#[test]
-fn lazy_documents_answer_by_their_choice(rt: HostRuntime) -> Result<(), Fail> {
-    let alloc = rt.alloc();
-    let mut bytes = *b"{\"a\":1,\"b\":2,\"a\":3}";
-    let tape = to_tape(alloc, &mut bytes)?;
-    let value: Value<'_, '_, '_> = Value::from_tape(tape.as_value_repeats(Repeats::Last));
-    let mut document = LazyDoc { value };
-    for number in 0..4 {
-        let (command, want) = by_choice(alloc, number)?;
-        assert!(rt;
-            is_answered(alloc, &mut document, command, want),
-            "{number}"
-        );
-    }
-    Ok(())
 }
 
 /// A push, a bad command and a look at the length.

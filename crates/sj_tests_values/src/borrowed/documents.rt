@@ -107,57 +107,14 @@ fn texts_are_lent_until_they_are_made_static(rt: HostRuntime) -> Result<(), Fail
     Ok(())
 }
 
-/// 33 members, the last a repeat of the first.
-fn many(alloc: Global) -> Result<String, Fail> {
-    let mut text = String::from_str(alloc, "{")?;
-    for number in 0..32 {
-        text.push_str(format!(in alloc; "\"k{number:02}\":{number},")?.as_str())?;
-    }
-    text.push_str("\"k00\":99}")?;
-    Ok(text)
-}
-
-/// 32 are kept, in a plain list.
 #[test]
-fn the_first_of_a_key_is_kept(rt: HostRuntime) -> Result<(), Fail> {
-    let mut bytes = many(rt.alloc())?.into_bytes();
-    let value = parsed(&mut bytes)?;
-    let members = value.as_object().ok_or("no object")?;
-    let told = (value.get_u8("k00"), members.len(), members.buckets());
-    assert_eq!(rt; told, (Some(0), 32, None));
-    Ok(())
-}
-
-#[test]
-fn a_reading_with_buffers(rt: HostRuntime) -> Result<(), Fail> {
-    let mut buffers = Buffers::new(rt.alloc(), 13)?;
+fn the_other_readings(rt: HostRuntime) -> Result<(), Fail> {
+    let alloc = rt.alloc();
+    let mut buffers = Buffers::new(alloc, 13)?;
     let mut bytes = *b"{\"a\":1,\"a\":2}";
-    let value = to_borrowed_value_with_buffers(rt.alloc(), &mut bytes, &mut buffers)?;
-    assert_eq!(rt; value.encode(rt.alloc())?.as_str(), "{\"a\":1}");
-    Ok(())
-}
-
-#[test]
-fn a_reading_by_its_other_name(rt: HostRuntime) -> Result<(), Fail> {
+    let value = to_borrowed_value_with_buffers(alloc, &mut bytes, &mut buffers)?;
+    assert_eq!(rt; value.encode(alloc)?.as_str(), "{\"a\":1}");
     let mut bytes = *b"{\"a\":1,\"a\":2}";
-    let value = to_borrowed_value(rt.alloc(), &mut bytes)?;
-    assert_eq!(rt; value.encode(rt.alloc())?.as_str(), "{\"a\":1}");
-    Ok(())
-}
-
-/// Whether a reading by that choice is printed so.
-fn is_kept(alloc: Global, repeats: Repeats, print: &str) -> Result<bool, Fail> {
-    let mut bytes = *b"{\"a\":1,\"b\":2,\"a\":3}";
-    let value = to_value_repeats(alloc, &mut bytes, repeats)?;
-    Ok(value.encode(alloc)?.as_str() == print)
-}
-
-#[test]
-fn repeats(rt: HostRuntime) -> Result<(), Fail> {
-    let told = [
-        is_kept(rt.alloc(), Repeats::First, "{\"a\":1,\"b\":2}")?,
-        is_kept(rt.alloc(), Repeats::Last, "{\"a\":3,\"b\":2}")?,
-    ];
-    assert_eq!(rt; told, [true; 2]);
+    assert_eq!(rt; to_borrowed_value(alloc, &mut bytes)?, value);
     Ok(())
 }

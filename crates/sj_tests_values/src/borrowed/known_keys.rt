@@ -149,7 +149,7 @@ fn faults_have_texts(rt: HostRuntime) -> Result<(), Fail> {
     for (fault, text) in [
         (
             Error::NotAnObject(ValueType::Null),
-            "not an object but Null",
+            "expected object, found null",
         ),
         (Error::OutOfMemory, "out of memory"),
     ] {

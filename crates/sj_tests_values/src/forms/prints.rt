@@ -13,7 +13,7 @@ const TEXTS: [(&str, &str); 5] = [
     ("foo", "\"foo\""),
     ("\"", "\"\\\"\""),
     ("\"\"", "\"\\\"\\\"\""),
-    ("a \"long\" test", "\"a \\\"long\\\" test\""),
+    (r#"a \"long\" test"#, r#""a \\\"long\\\" test""#),
     (
         "a text of more than thirty-two bytes \u{1}\n",
         "\"a text of more than thirty-two bytes \\u0001\\n\"",
@@ -112,7 +112,6 @@ fn escapes_are_printed(rt: HostRuntime) -> Result<(), Fail> {
     let owned = owned::parsed(alloc, ESCAPES)?;
     assert_eq!(rt; escapes(alloc, &owned)?, [true; 2]);
     assert_eq!(rt; escapes(alloc, &borrowed::parsed(&mut bytes)?)?, [true; 2]);
-    assert!(rt; sj_owned::laws::reads_back(alloc, &owned)?);
     Ok(())
 }
 

@@ -87,24 +87,6 @@ fn deeper_than_the_reader(rt: HostRuntime) -> Result<(), Fail> {
     Ok(())
 }
 
-/// Whether a reading by that choice is printed so.
-fn is_kept(alloc: Global, repeats: Repeats, print: &str) -> Result<bool, Fail> {
-    let mut bytes = *b"{\"a\":1,\"b\":2,\"a\":3}";
-    let value = to_value_repeats(alloc, &mut bytes, repeats)?;
-    Ok(value.encode(alloc)?.as_str() == print)
-}
-
-/// The last of each key by choice, else the first.
-#[test]
-fn repeats(rt: HostRuntime) -> Result<(), Fail> {
-    let told = [
-        is_kept(rt.alloc(), Repeats::First, "{\"a\":1,\"b\":2}")?,
-        is_kept(rt.alloc(), Repeats::Last, "{\"a\":3,\"b\":2}")?,
-    ];
-    assert_eq!(rt; told, [true; 2]);
-    Ok(())
-}
-
 #[test]
 fn the_other_readings(rt: HostRuntime) -> Result<(), Fail> {
     let alloc = rt.alloc();

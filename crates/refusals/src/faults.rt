@@ -1,0 +1,160 @@
+//! Faults, and the one error that stands for each.
+
+use crate::fault::Fault;
+use crate::say::{say, say_call};
+use sj_borrowed::known_key;
+use sj_run::{RunFault, SessionFault, Why};
+use sj_stream::Unread;
+use sj_text_core::{
+    AccessError, BadTape, ErrorKind, ExtendedValueType, JsonError, PointerError, Refused,
+    TryTypeError, ValueType, WriteError,
+};
+use std::alloc::{AllocError, AllocFailed, Global};
+
+/// What `?` makes of a push that is refused.
+fn push<E: From<AllocFailed<u8>>>(alloc: Global) -> Result<(), E> {
+    let mut bytes = Vec::new(alloc);
+    bytes.push(0)?;
+    Ok(())
+}
+
+/// What `?` makes of a refusal that hands a value back.
+fn refused<E: Drop, F: From<Refused<E, u8>>>(why: E) -> Result<(), F> {
+    Err(Refused { why, value: 0 })?;
+    Ok(())
+}
+
+/// Makes the call of that name.
+pub fn run_call(rt: &(impl Print + AllocGlobal), call: &str) -> Result<(), Fault> {
+    match call {
+        "json" => {
+            say_call(rt)?;
+            let is_memory = push(rt.alloc()) == Err(JsonError::OutOfMemory);
+            say(
+                rt,
+                if is_memory {
+                    "OutOfMemory\n"
+                } else {
+                    "pushed\n"
+                },
+            )
+        }
+        "pointer" => {
+            say_call(rt)?;
+            let is_memory = push(rt.alloc()) == Err(PointerError::OutOfMemory);
+            say(
+                rt,
+                if is_memory {
+                    "OutOfMemory\n"
+                } else {
+                    "pushed\n"
+                },
+            )
+        }
+        "meet" => meet(rt),
+        "known" => meet_known(rt),
+        "run" => meet_runs(rt),
+        "told" => told(rt),
+        _ => Err(Fault::Usage),
+    }
+}
+
+/// Makes the one error of each fault.
+fn meet(rt: &impl Print) -> Result<(), Fault> {
+    let why = Refused {
+        why: AccessError::NotAnArray,
+        value: 1,
+    }
+    .because(ErrorKind::Float);
+    let kind = TryTypeError {
+        expected: ValueType::Bool,
+        got: ValueType::Null,
+    };
+    let line = Unread {
+        line: 7,
+        why: ErrorKind::TooDeep,
+    };
+    say_call(rt)?;
+    let is_right = JsonError::from(ErrorKind::Syntax) == JsonError::Read(ErrorKind::Syntax)
+        && JsonError::from(WriteError::TooLong) == JsonError::Write(WriteError::TooLong)
+        && JsonError::from(AccessError::NotAnArray) == JsonError::Access(AccessError::NotAnArray)
+        && JsonError::from(PointerError::NoSlash) == JsonError::Pointer(PointerError::NoSlash)
+        && JsonError::from(PointerError::from(AllocError)) == JsonError::OutOfMemory
+        && JsonError::from(kind) == JsonError::Kind(kind)
+        && JsonError::from(BadTape) == JsonError::Tape(BadTape)
+        && JsonError::from(AllocError) == JsonError::OutOfMemory
+        && JsonError::from(line) == JsonError::Read(ErrorKind::TooDeep)
+        && JsonError::from(why) == JsonError::Read(ErrorKind::Float)
+        && refused(AccessError::NotAnObject) == Err(JsonError::Access(AccessError::NotAnObject))
+        && refused(BadTape) == Err(JsonError::Tape(BadTape))
+        && refused(AllocError) == Err(JsonError::OutOfMemory)
+        && refused(AllocError) == Err(AccessError::OutOfMemory)
+        && refused(AccessError::NotAnObject) == Err(AccessError::NotAnObject)
+        && refused(AllocError) == Err(AllocError);
+    say_right(rt, is_right)
+}
+
+/// Makes a known key's fault of each that it may meet, and the one error of it.
+fn meet_known(rt: &(impl Print + AllocGlobal)) -> Result<(), Fault> {
+    let no_object = known_key::Error::NotAnObject(ValueType::Null);
+    let kind = TryTypeError {
+        expected: ValueType::Object,
+        got: ValueType::Null,
+    };
+    let given = AllocFailed { value: 0_u8 };
+    say_call(rt)?;
+    let is_right = known_key::Error::from(AllocError) == known_key::Error::OutOfMemory
+        && known_key::Error::from(given) == known_key::Error::OutOfMemory
+        && refused(AllocError) == Err(known_key::Error::OutOfMemory)
+        && refused(no_object) == Err(no_object)
+        && refused(no_object) == Err(JsonError::Kind(kind))
+        && JsonError::from(no_object) == JsonError::Kind(kind)
+        && JsonError::from(known_key::Error::OutOfMemory) == JsonError::OutOfMemory;
+    say_right(rt, is_right)
+}
+
+/// Makes the one error of the faults of runs and of sessions.
+fn meet_runs(rt: &(impl Print + AllocGlobal)) -> Result<(), Fault> {
+    let ended = RunFault {
+        done: Vec::new(rt.alloc()),
+        why: Why::TooLong,
+    };
+    say_call(rt)?;
+    let is_right = JsonError::from(Why::OutOfMemory) == JsonError::OutOfMemory
+        && JsonError::from(ended) == JsonError::Write(WriteError::TooLong)
+        && JsonError::from(SessionFault::Usage) == JsonError::NotServed
+        && JsonError::from(SessionFault::TooLong) == JsonError::Write(WriteError::TooLong)
+        && JsonError::from(SessionFault::OutOfMemory) == JsonError::OutOfMemory
+        && JsonError::from(SessionFault::Refused(ErrorKind::Float))
+            == JsonError::Read(ErrorKind::Float);
+    say_right(rt, is_right)
+}
+
+fn say_right(rt: &impl Print, is_right: bool) -> Result<(), Fault> {
+    say(
+        rt,
+        if is_right {
+            "found\n"
+        } else {
+            "ANOTHER ERROR\n"
+        },
+    )
+}
+
+/// Tells a refusal and kinds in words.
+fn told(rt: &(impl Print + AllocGlobal)) -> Result<(), Fault> {
+    let why = Refused {
+        why: AccessError::NotAnArray,
+        value: 1,
+    };
+    let expected = ValueType::Extended(ExtendedValueType::U16);
+    let kind = TryTypeError {
+        expected,
+        got: ValueType::U64,
+    };
+    let mut out = String::with_capacity(rt.alloc(), 200)?;
+    say_call(rt)?;
+    let written = write!(out, "{why}, {kind}\n");
+    written?;
+    say(rt, out.as_str())
+}

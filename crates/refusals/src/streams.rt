@@ -1,0 +1,151 @@
+//! Streams of documents, and the memory of a tape that serves the next.
+
+use crate::fault::Fault;
+use crate::say::{say, say_call};
+use crate::texts::text_of;
+use sj_lines::Lines;
+use sj_stream::{Repeats, Stream, unread_lines};
+use sj_tape::{ErrorKind, Spare, Tape, to_tape_with_spare};
+use sj_text_core::Refused;
+
+const LINES: &[u8] = b"{\"a\":[1,2]}\n\n[3,{\"b\":4}]\n";
+
+/// Makes the call of that name.
+pub fn run_call(rt: &(impl Print + AllocGlobal), call: &str) -> Result<(), Fault> {
+    match call {
+        "lines" => lines(rt),
+        "cold" => cold(rt),
+        "warm" => warm(rt),
+        "unread_lines" => unread(rt),
+        "spare" => spare(rt),
+        _ => Err(Fault::Usage),
+    }
+}
+
+/// Goes over the lines of an input.
+fn lines(rt: &(impl Print + AllocGlobal)) -> Result<(), Fault> {
+    let mut bytes = LINES.to_vec(rt.alloc())?;
+    say_call(rt)?;
+    let mut lines = Lines::new(bytes.as_mut_slice());
+    let numbers = [lines.next(), lines.next(), lines.next()].map(|line| match line {
+        Some(line) => line.number,
+        None => 0,
+    });
+    say(
+        rt,
+        if numbers == [1, 3, 0] {
+            "found\n"
+        } else {
+            "OTHER LINES\n"
+        },
+    )
+}
+
+/// Tells what a step of a stream answers.
+fn tell_step(rt: &(impl Print + AllocGlobal), stream: &mut Stream<'_>) -> Result<(), Fault> {
+    match stream.advance() {
+        Some(Ok(1)) => say(rt, "line 1 read"),
+        Some(Ok(3)) => say(rt, "line 3 read"),
+        Some(Err(unread)) if unread.why == ErrorKind::OutOfMemory => say(rt, "OutOfMemory"),
+        Some(_) => say(rt, "ANOTHER STEP"),
+        None => say(rt, "no line"),
+    }
+}
+
+/// Takes a stream's first step, and then the second.
+fn cold(rt: &(impl Print + AllocGlobal)) -> Result<(), Fault> {
+    let mut bytes = LINES.to_vec(rt.alloc())?;
+    let mut stream = Stream::new(rt.alloc(), bytes.as_mut_slice());
+    say_call(rt)?;
+    tell_step(rt, &mut stream)?;
+    say(rt, ", again ")?;
+    tell_step(rt, &mut stream)?;
+    say(rt, "\n")
+}
+
+/// Takes the second step of a stream, and looks at its document.
+fn warm(rt: &(impl Print + AllocGlobal)) -> Result<(), Fault> {
+    let mut bytes = LINES.to_vec(rt.alloc())?;
+    let mut stream = Stream::new(rt.alloc(), bytes.as_mut_slice());
+    let first = matches!(stream.advance(), Some(Ok(1)));
+    say_call(rt)?;
+    let second = matches!(stream.advance(), Some(Ok(3)));
+    let found = match stream.value(Repeats::First) {
+        Some(document) => document.get_idx(1).and_then(|item| item.get_u8("b")),
+        None => None,
+    };
+    let is_end = stream.advance().is_none();
+    let is_right = first && second && found == Some(4) && is_end;
+    say(rt, if is_right { "found\n" } else { "NOT FOUND\n" })
+}
+
+/// Tells which lines are not read, twice.
+fn unread(rt: &(impl Print + AllocGlobal)) -> Result<(), Fault> {
+    let mut bytes = b"[1\n[2]".to_vec(rt.alloc())?;
+    let mut copy = bytes.clone()?;
+    say_call(rt)?;
+    tell_unread(rt, bytes.as_mut_slice())?;
+    say(rt, "again ")?;
+    tell_unread(rt, copy.as_mut_slice())
+}
+
+fn tell_unread(rt: &(impl Print + AllocGlobal), bytes: &mut [u8]) -> Result<(), Fault> {
+    match unread_lines(rt.alloc(), bytes) {
+        Ok(unread) if unread.iter().any(|line| line.why == ErrorKind::OutOfMemory) => {
+            say(rt, "out of memory\n")
+        }
+        Ok(unread) => match unread.first() {
+            Some(line) if line.line == 1 && unread.len() == 1 => say(rt, "line 1\n"),
+            _ => say(rt, "OTHER LINES\n"),
+        },
+        Err(_) => say(rt, "out of memory\n"),
+    }
+}
+
+/// Reads a text into new memory, and then another into the memory that is left.
+fn spare(rt: &(impl Print + AllocGlobal)) -> Result<(), Fault> {
+    let alloc = rt.alloc();
+    let mut bytes = text_of(alloc, "example")?;
+    let mut copy = text_of(alloc, "example")?;
+    let spare = Spare::new(alloc);
+    say_call(rt)?;
+    let read = to_tape_with_spare(bytes.as_mut_slice(), spare);
+    let spare = tell_tape(rt, read)?;
+    say(rt, "again ")?;
+    let read = to_tape_with_spare(copy.as_mut_slice(), spare);
+    tell_tape(rt, read)?;
+    Ok(())
+}
+
+/// Tells how many nodes the tape has, and gives its memory up.
+fn tell_tape<'i>(
+    rt: &(impl Print + AllocGlobal),
+    read: Result<Tape<'i>, Refused<ErrorKind, Spare<'i>>>,
+) -> Result<Spare<'i>, Fault> {
+    match read {
+        Ok(tape) => {
+            let is_whole = tape.as_value().nodes().len() == 6;
+            say(
+                rt,
+                if is_whole {
+                    "6 nodes\n"
+                } else {
+                    "OTHER NODES\n"
+                },
+            )?;
+            Ok(tape.into_spare(rt.alloc()))
+        }
+        Err(refused) => {
+            let is_memory = refused.why == ErrorKind::OutOfMemory;
+            say(
+                rt,
+                if is_memory {
+                    "OutOfMemory\n"
+                } else {
+                    "ANOTHER FAULT\n"
+                },
+            )?;
+            Ok(refused.value)
+        }
+    }
+}
