@@ -1,9 +1,9 @@
-.PHONY: demo test programs check-program check-refusals check-broken
+.PHONY: demo test programs docs check-docs check-edits check-use check-program check-depth check-refusals check-broken
 
-# Proves and builds the program and what it stands on, and runs it on the first example.
+# Runs README's first program, in about a minute. It proves nothing.
 demo:
-	@echo 'Proving and building sjval and the crates below it: minutes the first time, seconds after.'
-	@cd crates/sjval && rt run -- owned < stdin
+	@echo 'Running the first program. Nothing is proved here: make test does that.'
+	@cd crates/sj_first && rt try
 
 # Proves every crate from nothing, tries the edits that have to be refused, and runs the tests.
 # It leaves the two programs that the checks below run.
@@ -15,9 +15,35 @@ programs:
 	cd crates/sjval && rt run -- owned < stdin > /dev/null
 	cd crates/refusals && rt run -- insert insert 32 > /dev/null
 
+# Writes what the sources make of the pages: docs/calling, and README's numbers.
+docs:
+	tools/calling.py
+	tools/trusted.py --write README.md
+
+# Looks whether the pages are true: snippets, clauses, contracts, numbers. Needs python3.
+check-docs:
+	tools/snippets.py
+	tools/links.py
+	tools/clauses.py
+	tools/calling.py --check
+	tools/trusted.py --check README.md
+
+# Looks whether each edit that has to be refused still applies. Needs python3.
+check-edits:
+	tools/edits.py
+
+# Takes the crates into a scratch repository, and runs README's program there. It proves nothing.
+check-use:
+	tools/taken.sh
+
 # Runs the built program as a user would. Needs python3, and `make test` or `make programs` before it.
 check-program:
 	tools/program.sh crates/sjval/out/sjval
+	tools/replies.py crates/sjval/out/sjval
+
+# Gives the built program edits that make documents 50,000 levels deep, on a small stack. Needs python3.
+check-depth:
+	tools/deep.py crates/sjval/out/sjval
 
 # Refuses each request for memory of each call in turn. Needs gcc and python3, and the programs built.
 check-refusals:

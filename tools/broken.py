@@ -3,16 +3,20 @@
 
 Usage: tools/broken.py PROGRAM [--seconds N] [--cases N] [--seed N] [WORDS ..], each of WORDS the words of one form and way, as
 'owned known' or 'lazy last'; none: all that the program knows. It stops after N seconds or N cases, whichever comes first; a
-case is a document that is refused, or a command line, in one form and way. The same seed gives the same cases. The last line is 'N passed, M failed'.
+case is a document that is refused, or a command line, in one form and way; of a session that fails all cases count as failed. A
+program that cannot be run, and a run of this tool's own that ends early, are failures. The same seed gives the same cases. The last
+line is 'N passed, M failed'.
 """
 
 import argparse
 import itertools
 import multiprocessing
+import queue
 import random
 import subprocess
 import sys
 import time
+import traceback
 
 import model
 import reading
@@ -129,9 +133,7 @@ class Writer:
         if self.one_in(300):
             return self.deep()
         given = self.spelled(self.tree(4)).encode()
-        given = self.broken(given) if self.one_in(2) else given
-        # the lines behind the mark are lines of their own
-        return given if given.strip() and b'---' not in given else b'[]'
+        return self.broken(given) if self.one_in(2) else given
 
     def path(self, tree):
         """A path into the tree, or beside it."""
@@ -191,10 +193,10 @@ def wanted(given, words):
 
 
 def tried(program, ways, seed):
-    """Runs one input in each way; the number of cases, and of each failure the words and what came."""
+    """Runs one input in each way; how many cases passed and failed, and of each failure the words and what came."""
     sys.setrecursionlimit(20000)
     given = Writer(seed).input()
-    cases, failures = 0, []
+    passed, failed, failures = 0, 0, []
     for words in ways:
         want, counted = wanted(given, words.split())
         try:
@@ -202,18 +204,50 @@ def tried(program, ways, seed):
             got = ran.returncode, ran.stdout, ran.stderr
         except subprocess.TimeoutExpired:
             got = 'no end within a minute', b'', b''
-        cases += counted
-        if got != want:
+        if got == want:
+            passed += counted
+        else:
+            failed += max(counted, 1)
             failures.append((seed, words, given, want, got))
-    return cases, failures
+    return passed, failed, failures
 
 
 def worker(program, ways, until, seeds, results):
-    for seed in seeds:
-        if time.monotonic() > until:
-            break
-        results.put(tried(program, ways, seed))
-    results.put(None)
+    """Puts what came of each seed, and at the end None, or why it ended early."""
+    ended = None
+    try:
+        for seed in seeds:
+            if time.monotonic() > until:
+                break
+            results.put(tried(program, ways, seed))
+    except BaseException:
+        ended = traceback.format_exc()
+    results.put(ended)
+
+
+def gathered(workers, results, most):
+    """The cases that passed and that failed, until the workers end or there are enough; a worker that ends early is a failure."""
+    passed = failed = 0
+    ended = 0
+    while ended < len(workers) and passed + failed < most:
+        try:
+            result = results.get(timeout=5)
+        except queue.Empty:
+            # a worker that was killed puts nothing
+            if not any(it.is_alive() for it in workers) and results.empty():
+                print(f'failed: {len(workers) - ended} workers ended without a word')
+                return passed, failed + len(workers) - ended
+            continue
+        if result is None or isinstance(result, str):
+            ended += 1
+            failed += result is not None
+            print(end=f'failed: a worker ended early\n{result}' if result else '')
+            continue
+        good, bad, failures = result
+        passed, failed = passed + good, failed + bad
+        for seed, words, given, want, got in failures[:1]:
+            print(f'failed: sjval {words}, seed {seed!r}\n  input {given[:2000]!r}\n  want {want!r}\n  got {got!r}'[:6000])
+    return passed, failed
 
 
 def main():
@@ -224,23 +258,14 @@ def main():
     parser.add_argument('--cases', type=int, default=1_000_000)
     parser.add_argument('--seed', type=int, default=1)
     options = parser.parse_args()
-    workers = multiprocessing.cpu_count()
+    count = multiprocessing.cpu_count()
     until = time.monotonic() + options.seconds
     results = multiprocessing.Queue()
-    for at in range(workers):
-        seeds = (f'{options.seed} {number}' for number in itertools.count(at, workers))
-        multiprocessing.Process(target=worker, args=(options.program, options.ways, until, seeds, results), daemon=True).start()
-    passed, failed, working = 0, 0, workers
-    while working and passed + failed < options.cases:
-        result = results.get()
-        if result is None:
-            working -= 1
-            continue
-        cases, failures = result
-        failed += len(failures)
-        passed += cases - len(failures)
-        for seed, words, given, want, got in failures[:1]:
-            print(f'failed: sjval {words}, seed {seed!r}\n  input {given[:2000]!r}\n  want {want!r}\n  got {got!r}'[:6000])
+    seeds = [(f'{options.seed} {number}' for number in itertools.count(at, count)) for at in range(count)]
+    workers = [multiprocessing.Process(target=worker, args=(options.program, options.ways, until, it, results), daemon=True) for it in seeds]
+    for it in workers:
+        it.start()
+    passed, failed = gathered(workers, results, options.cases)
     print(f'{passed} passed, {failed} failed')
     return 1 if failed or not passed else 0
 

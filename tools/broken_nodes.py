@@ -2,7 +2,8 @@
 """Gives lists of nodes to the program of crates/refusals, and compares with what a preorder is by its definition alone.
 
 Usage: tools/broken_nodes.py PROGRAM [--seconds N] [--cases N] [--seed N]. Half of the lists are preorders of trees, the others are
-such lists with a number, a node or an end changed. The same seed gives the same cases. The last line is 'N passed, M failed'.
+such lists with a number, a node or an end changed. A run that cannot be made, or ends with another status than 0, fails with all its
+lists. The same seed gives the same cases. The last line is 'N passed, M failed'.
 """
 
 import argparse
@@ -91,6 +92,17 @@ def broken(source, nodes):
     return nodes
 
 
+def run(program, words):
+    """What the program tells of the lists, a line for each, and how it ended."""
+    try:
+        ran = subprocess.run([program, 'nodes', *words], capture_output=True, timeout=60)
+    except (OSError, subprocess.TimeoutExpired) as why:
+        return [], f'no run: {why}'
+    told = ran.stdout.decode(errors='replace').split('\n')[:-1]
+    ended = f'status {ran.returncode}, {len(told)} lines, {ran.stderr[:200]!r}'
+    return (told if ran.returncode == 0 and not ran.stderr else []), ended
+
+
 def main():
     parser = argparse.ArgumentParser()
     parser.add_argument('program')
@@ -107,10 +119,9 @@ def main():
             nodes = preorder(tree(source, 4))
             lists.append(broken(source, nodes) if source.randrange(2) else nodes)
         words = [json.dumps(nodes, ensure_ascii=False) for nodes in lists]
-        ran = subprocess.run([options.program, 'nodes', *words], capture_output=True, timeout=60)
-        told = ran.stdout.decode().split('\n')[:-1] if ran.returncode == 0 else []
+        told, ended = run(options.program, words)
         for at, nodes in enumerate(lists):
-            got = told[at] if at < len(told) else f'status {ran.returncode}'
+            got = told[at] if len(told) == len(lists) else ended
             if got == wanted(nodes):
                 passed += 1
             else:

@@ -6,6 +6,7 @@ each public function is run by stands in tools/calls.txt. Tells each function th
 each line that names none or a run that was not made so, and each run that no line names; the last
 line has the number of functions.
 
+Each library of crates.txt that has a public function is named by a heading, or by the line `left out`.
 Public is a `pub fn` of a type that its crate offers, a method of a public trait that has a body, and
 a free function that is offered. What a derive writes, and laws, which are functions without
 parameters whose body is empty, are not looked at. A function can want memory where its answer is a
@@ -17,7 +18,7 @@ from pathlib import Path
 
 TOOLS = Path(__file__).resolve().parent
 CRATES = TOOLS.parent / "crates"
-FAULTS = "AllocError|WriteError|ErrorKind|AccessError|Why|RunFault|SessionFault|PointerError|Error"
+FAULTS = "AllocError|Unread|WriteError|ErrorKind|AccessError|Why|RunFault|SessionFault|PointerError|Error"
 # calls that are written by operators
 OPERATORS = {"eq", "index", "index_mut", "fmt", "drop"}
 FUNCTION = re.compile(
@@ -114,11 +115,20 @@ def functions_of(crate):
     return found
 
 
+def libraries():
+    """The crates of crates.txt that are libraries, and of those the ones that the list leaves out."""
+    lines = (CRATES.parent / "crates.txt").read_text().split("\n")
+    names = [line.partition(":")[0].split()[0] for line in lines if line.strip() and not line.startswith("#")]
+    names = [name for name in names if (CRATES / name / "src/lib.rt").is_file()]
+    words = re.findall(r"^left out: (.*)$", (TOOLS / "calls.txt").read_text(), re.M)
+    return names, [name for name in " ".join(words).split() if name in names]
+
+
 def listed():
     """The lines of the list: a crate, whose calls, their names, and how each is run."""
     lines, headings = [], []
     for line in (TOOLS / "calls.txt").read_text().split("\n"):
-        if not line.strip() or line.startswith("#"):
+        if not line.strip() or line.startswith(("#", "left out: ")):
             continue
         if not line.startswith(" "):
             head, _, names = line.partition(": ")
@@ -132,8 +142,9 @@ def listed():
 
 
 def faults(requests):
-    """What is wrong, line by line, and how many functions there are."""
-    crates = sorted({line[0] for line in listed()})
+    """What is wrong, line by line, how many functions there are, and how many are called inside of other calls alone."""
+    names, left_out = libraries()
+    crates = sorted({line[0] for line in listed()} | set(names) - set(left_out))
     sources = {(c, *key): can for c in crates for key, can in functions_of(c).items()}
     program = "\n".join(f.read_text() for f in (CRATES / "refusals/src").glob("*.rt"))
     hows, named, wrong = {}, set(), []
@@ -160,7 +171,7 @@ def faults(requests):
         elif not can and ways & {"asks", "never"}:
             wrong.append(f"can not want memory: {' '.join(key)}")
     wrong += [f"a run of no call: {run}" for run in requests if run not in named]
-    return wrong, len(sources)
+    return wrong, len(sources), sum(hows.get(key) == {"within"} for key in sources)
 
 
 def main():
@@ -168,9 +179,10 @@ def main():
     for line in Path(sys.argv[1]).read_text().splitlines():
         count, _, words = line.partition("\t")
         requests[words] = int(count) if count.isdigit() else None
-    wrong, count = faults(requests)
+    wrong, count, within = faults(requests)
     for line in wrong:
         print(line)
+    print(f"left out: the crates {' '.join(libraries()[1])}; {within} functions are only called inside of other calls")
     print(f"{count} public functions, {len(wrong)} faults")
     return 1 if wrong else 0
 

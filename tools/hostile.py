@@ -3,7 +3,7 @@
 and its peak memory.
 
 Usage: tools/hostile.py PROGRAM [WORD], with WORD the inputs alone whose names have it. None of these numbers is promised; each run has
-to end with status 0 or 3.
+to end with status 0 or 3, on a stack of 512 KB. The last line is 'N passed, M failed'.
 """
 
 import json
@@ -12,11 +12,14 @@ import subprocess
 import sys
 import tempfile
 
+import deep
+
 MEGABYTE = 10**6
 
 # A process of its own, since what a process has at its start counts among its peak.
 MEASURE = """
-import os, subprocess, sys
+import os, resource, subprocess, sys
+resource.setrlimit(resource.RLIMIT_STACK, (512 * 1024, 512 * 1024))
 ran = subprocess.Popen(sys.argv[1:], stdout=subprocess.DEVNULL, stderr=subprocess.DEVNULL)
 _, status, used = os.wait4(ran.pid, 0)
 print(os.waitstatus_to_exitcode(status), used.ru_utime + used.ru_stime, used.ru_maxrss)
@@ -64,7 +67,7 @@ def a_session(users, commands):
 
 
 def inputs():
-    """Each a name and an input."""
+    """Each a name and an input, or what makes it."""
     encode = '\n---\n["len",[]]\n'
     yield 'a session of 200,000 commands', a_session(4000, 200_000)
     yield 'a session of 50,000 commands', a_session(1000, 50_000)
@@ -76,14 +79,18 @@ def inputs():
     yield 'a line of 10 MB', '[]\n---\n["push",[],"' + 'a' * (10 * MEGABYTE) + '"]\n["len",[]]\n'
     yield 'a bad line of 10 MB', '[]\n---\n' + '[' * (10 * MEGABYTE) + '\n["len",[]]\n'
     yield 'a line of 10 MB, a path of 2,500,000 steps', '[]\n---\n["len",[' + '"a",' * (10 * MEGABYTE // 4) + '"a"]]\n'
+    yield '1,000,000 levels made by edits', lambda: deep.session(1_000_000, False)[0]
 
 
 def main():
     program, *words = sys.argv[1:]
+    statuses = []
     with tempfile.NamedTemporaryFile('w+', encoding='utf-8') as given:
         for name, text in inputs():
             if not all(it in name for it in words):
                 continue
+            if callable(text):
+                text = text()
             given.seek(0)
             given.truncate()
             given.write(text)
@@ -92,8 +99,13 @@ def main():
                 with open(given.name, 'rb') as source:
                     ran = subprocess.run([sys.executable, '-c', MEASURE, program, form], stdin=source, stdout=subprocess.PIPE, check=True)
                 status, seconds, peak = ran.stdout.split()
+                statuses.append(int(status))
                 print(f'{name}, {form}: status {int(status)}, {len(text) / MEGABYTE:.1f} MB, {float(seconds):.2f} s, '
                       f'peak {int(peak) * 1024 / MEGABYTE:.0f} MB', flush=True)
+    passed = sum(status in (0, 3) for status in statuses)
+    print(f'{passed} passed, {len(statuses) - passed} failed')
+    return 0 if statuses and passed == len(statuses) else 1
 
 
-main()
+if __name__ == '__main__':
+    sys.exit(main())

@@ -1,8 +1,15 @@
 #!/usr/bin/env bash
 # Runs the program sjval as a user would, and looks at its statuses and at what it writes.
-# Usage: tools/program.sh PROGRAM. The last line is 'N passed, M failed'.
+# Usage: tools/program.sh PROGRAM. Needs python3. The last line is 'N passed, M failed'.
 set -u
 program=$(realpath "$1")
+for need in "$program" "$(command -v python3)"; do
+  if [ ! -f "$need" ] || [ ! -x "$need" ]; then
+    echo "failed: there is no program ${1:-} or no python3"
+    echo '0 passed, 1 failed'
+    exit 1
+  fi
+done
 tools=$(realpath "$(dirname "$0")")
 work=$(mktemp -d)
 trap 'rm -rf "$work"' EXIT
@@ -111,16 +118,14 @@ head -c 400000000 /dev/zero | tr '\0' ' ' | (ulimit -v 300000; exec "$program" o
 status=$?
 expect 'no memory for the input' 4 '' 'out of memory\n'
 
-if command -v python3 > out 2>&1; then
-  python3 "$tools/commands.py" > out
-  status=$?
-  : > err
-  if [ "$status" = 0 ] && cmp -s out "$tools/commands.txt"; then
-    passed=$((passed + 1))
-  else
-    failed=$((failed + 1))
-    echo 'failed: tools/commands.txt is what tools/commands.py writes'
-  fi
+python3 "$tools/commands.py" > out
+status=$?
+: > err
+if [ "$status" = 0 ] && cmp -s out "$tools/commands.txt"; then
+  passed=$((passed + 1))
+else
+  failed=$((failed + 1))
+  echo 'failed: tools/commands.txt is what tools/commands.py writes'
 fi
 
 # 33 keys of six blocks, each Aa or BB, all of one hash: key i has the value i
@@ -155,5 +160,6 @@ session 'first values, lazy' lazy "$repeats" 0 '1\n4\n3\n["a","b","a"]\nnot an a
 session 'last values, lazy' 'lazy last' "$repeats" 0 '[6]\n5\n3\n["a","b","a"]\nnot an array\n{"a":[6],"b":{"c":5}}\nnone\n{"q":1}\n' ''
 table lazy
 
+echo "left out: the sessions of tools/commands.txt where the last member of a key counts (tools/broken.py has commands in all ways)"
 echo "$passed passed, $failed failed"
 [ "$failed" = 0 ]

@@ -38,6 +38,12 @@ count() {
   fi
 }
 
+# fewer ONE OTHER: whether both are numbers of requests, and the first is the smaller; a run that did
+# not count them has none
+fewer() {
+  [ "$1" != none ] && [ "$2" != none ] && [ "$1" -lt "$2" ]
+}
+
 # free WORDS TEXT: a call that meets no request
 free() {
   run 1 "$1"

@@ -1,0 +1,90 @@
+#!/usr/bin/env python3
+"""Looks whether each Rust snippet of the pages stands, word for word, in a source that the gate compiles.
+
+Usage: tools/snippets.py [PAGE..]; README.md and docs/*.md if none is given. A block that begins with ```rust has to be consecutive
+lines of one .rt file of a crate that is no crate of tests, at any indentation; blank lines part it into pieces that may stand apart
+in that file. Each line of an example in a library's comments has to stand in crates/sj_recipes, or in a test where that has it not:
+without what follows `//`, and maybe inside of a longer line. Tells each piece or line that is in none, and ends with 1 where it told
+one; the last line has the numbers.
+"""
+import re
+import sys
+import textwrap
+from pathlib import Path
+
+ROOT = Path(__file__).resolve().parent.parent
+
+
+def plain(text):
+    return textwrap.dedent(text).strip("\n")
+
+
+def stands(piece, sources):
+    """Whether the piece is lines of one source, at some indentation."""
+    first = piece.split("\n")[0]
+    for text in sources:
+        for found in re.finditer(rf"^( *){re.escape(first)}$", text, re.M):
+            moved = textwrap.indent(piece, found[1])
+            behind = text[found.start() :]
+            if behind.startswith(moved) and behind[len(moved) :][:1] in ("", "\n"):
+                return True
+    return False
+
+
+def bare(text):
+    """The code alone, without spaces and commas in front of an end."""
+    lines = [line for line in text.split("\n") if not line.lstrip().startswith("//")]
+    return re.sub(r",(?=[)\]}])", "", re.sub(r"\s+", "", "\n".join(lines)))
+
+
+def examples(path):
+    """The lines of the examples in the comments of a source, each with its number and its code."""
+    text = path.read_text()
+    for block in re.finditer(r"^( *//[/!]) ```\n((?:\1.*\n)*?)\1 ```$", text, re.M):
+        first = text[: block.start(2)].count("\n") + 1
+        for number, line in enumerate(block[2].rstrip("\n").split("\n"), first):
+            code = bare(re.sub(r"(^|\s+)// .*$", "", re.sub(r"^ *//[/!] ?", "", line))).rstrip(";,")
+            if code.strip("{}"):
+                yield number, code
+
+
+def untried():
+    """Each line of an example in a library's comments that no source has, and how many lines there are."""
+    tried = [bare(p.read_text()) for p in sorted((ROOT / "crates").glob("sj_*/src/**/*.rt"))]
+    count, wrong = 0, []
+    for path in sorted((ROOT / "crates").glob("sj_*/src/**/*.rt")):
+        for number, code in examples(path):
+            count += 1
+            if not any(code in text for text in tried):
+                wrong.append(f"{path.relative_to(ROOT)}:{number}: in no source: {code}")
+    return count, wrong
+
+
+def main():
+    pages = [Path(p) for p in sys.argv[1:]] or [ROOT / "README.md", *sorted((ROOT / "docs").rglob("*.md"))]
+    sources = [p.read_text() for p in sorted((ROOT / "crates").glob("*/src/**/*.rt")) if "sj_tests" not in str(p)]
+    count = wrong = 0
+    shown = 0
+    if not sys.argv[1:]:
+        shown, lines = untried()
+        wrong += len(lines)
+        for line in lines:
+            print(line)
+    for page in pages:
+        text = page.read_text()
+        for block in re.finditer(r"^```rust\n(.*?)^```$", text, re.S | re.M):
+            line = text[: block.start()].count("\n") + 1
+            pieces = [plain(block[1])]
+            if not stands(pieces[0], sources):
+                pieces = [plain(p) for p in re.split(r"\n\n(?=\S)", plain(block[1]))]
+            for piece in pieces:
+                count += 1
+                if not stands(piece, sources):
+                    print(f"{page}:{line}: in no source: {piece.splitlines()[0]}")
+                    wrong += 1
+    print(f"{len(pages)} pages, {count} snippets, {shown} lines of examples, {wrong} in no source")
+    return 1 if wrong else 0
+
+
+if __name__ == "__main__":
+    sys.exit(main())
