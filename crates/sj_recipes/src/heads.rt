@@ -93,7 +93,10 @@ pub fn borrowed_documents(rt: &(impl Print + AllocGlobal)) -> anyhow::Result<()>
     let mut bytes = b"{\"some\":[\"key\",\"value\",2],\"some\":3}".to_vec(alloc)?;
     let mut value = sj_borrowed::to_value(alloc, bytes.as_mut_slice())?;
     value.insert(CowStr::Borrowed("n"), Value::from("lent"))?;
-    println!(rt; "{} {:?}", value.contains_key("some"), value.get_str("n"))?;
+    println!(rt; "{}", value.contains_key("some"))?;
+    if let Some(lent) = value.get_str("n") {
+        println!(rt; "{lent}")?;
+    }
     let copy = value.clone_static(alloc)?;
     match value.pop() {
         Ok(_) => println!(rt; "an item")?,

@@ -56,7 +56,8 @@ pub fn words(alloc: Global, value: Value) -> Result<Vec<String>, JsonError> {
                 }
             }
         }
-        Taken::Static(_) | Taken::Object(_) => {}
+        Taken::Static(_node) => {}
+        Taken::Object(_members) => {}
     }
     Ok(words)
 }
