@@ -108,13 +108,18 @@ fn texts_are_lent_until_they_are_made_static(rt: HostRuntime) -> Result<(), Fail
 }
 
 #[test]
-fn the_other_readings(rt: HostRuntime) -> Result<(), Fail> {
-    let alloc = rt.alloc();
-    let mut buffers = Buffers::new(alloc, 13)?;
+fn a_reading_with_buffers(rt: HostRuntime) -> Result<(), Fail> {
+    let mut buffers = Buffers::new(rt.alloc(), 13)?;
     let mut bytes = *b"{\"a\":1,\"a\":2}";
-    let value = to_borrowed_value_with_buffers(alloc, &mut bytes, &mut buffers)?;
-    assert_eq!(rt; value.encode(alloc)?.as_str(), "{\"a\":1}");
+    let value = to_borrowed_value_with_buffers(rt.alloc(), &mut bytes, &mut buffers)?;
+    assert_eq!(rt; value.encode(rt.alloc())?.as_str(), "{\"a\":1}");
+    Ok(())
+}
+
+#[test]
+fn a_reading_by_its_other_name(rt: HostRuntime) -> Result<(), Fail> {
     let mut bytes = *b"{\"a\":1,\"a\":2}";
-    assert_eq!(rt; to_borrowed_value(alloc, &mut bytes)?, value);
+    let value = to_borrowed_value(rt.alloc(), &mut bytes)?;
+    assert_eq!(rt; value.encode(rt.alloc())?.as_str(), "{\"a\":1}");
     Ok(())
 }
