@@ -77,7 +77,7 @@ free 'fault told' $'call: not an array, expected u16, found u64\n'
 free 'stream lines' $'call: found\n'
 free 'stream warm' $'call: found\n'
 each 'stream cold' $'call: OutOfMemory, again line 3 read\n' $'call: line 1 read, again line 3 read\n'
-each 'stream unread_lines' $'call: out of memory\nagain line 1\n' $'call: line 1\nagain line 1\n'
+goes_on 'stream unread_lines' $'call: out of memory\nagain line 1\n' $'call: line 1\nagain line 1\n'
 each 'stream spare' $'call: OutOfMemory\nagain 6 nodes\n' $'call: 6 nodes\nagain 6 nodes\n'
 
 for members in 0 32 64; do
@@ -366,7 +366,7 @@ for words in 'owned text' 'owned known' 'borrowed text' 'borrowed known' 'lazy t
   eval "insert_${words/ /_}=$requests"
 done
 for words in 'owned text' 'owned known' 'borrowed text' 'borrowed known' 'lazy text'; do
-  each "run $words" $'call: refused, replies as told, document as told, answered\n' $'call: answered\n'
+  looked_at "run $words" $'call: refused, replies as told, document as told, answered\n' $'call: answered\n'
 done
 
 # answers INPUT FORM REPLIES [CALL]: a session by text, or that call

@@ -77,3 +77,20 @@ goes_on() {
   made "$1"
   count $good "$1"
 }
+
+# looked_at WORDS REFUSED DONE: as each, of a run that asks for memory once more to look at what the
+# call left, before it tells: refused there, it ends with status 4. requests are then the call's own.
+looked_at() {
+  local n=1
+  good=no
+  while run $n "$1"; [ "$requests" = $n ] && told "$2"; do
+    n=$((n + 1))
+  done
+  if [ "$status" = 4 ] && [ "$requests" = $n ] && [ $n -gt 1 ]; then
+    run 0 "$1"
+    told "$3" && [ "$requests" -ge $n ] && good=yes
+  fi
+  requests=$((n - 1))
+  made "$1"
+  count $good "$1"
+}
