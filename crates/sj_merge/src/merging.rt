@@ -1,0 +1,107 @@
+//! Merge patches.
+
+ghost use Rattle.std.specs.Prelude.{◌≡◌, Some, OnOk, OnErr};
+ghost use Rattle.sj_text_core.specs.Tree.{obj};
+ghost use Rattle.sj_object.specs.Members.{entry_members};
+ghost use Rattle.sj_document.specs.Document.{tree};
+ghost use Rattle.sj_merge.specs.Merge.{merged, merged_members, merged_pair, target_members};
+
+use sj_document::{CopyText, Document, Object};
+use sj_object::{HashMap, KeyText, ObjectHasher};
+use sj_text_core::{TypedValue, ValueAsScalar};
+use std::alloc::{AllocError, Global};
+
+/// Merges the patch into the target, in its place.
+#[cycle(merge)]
+fn merge_value<T: KeyText + Drop>(
+    alloc: Global,
+    target: &mut Document<T>,
+    patch: Document<T>,
+) -> Result<(), AllocError>
+    ensures { OnOk result (tree T.text_of target.new ≡ merged (Some (tree T.text_of target.old)) (tree T.text_of patch)) }
+{
+    if !patch.is_object() {
+        *target = patch;
+        return Ok(());
+    }
+    match patch.into_object() {
+        Some(members) => merge_object(alloc, target, members),
+        None => Ok(()),
+    }
+}
+
+/// Merges the members into an object; a target that is none becomes one.
+#[cycle(merge)]
+fn merge_object<T: KeyText + Drop>(
+    alloc: Global,
+    target: &mut Document<T>,
+    members: Object<T>,
+) -> Result<(), AllocError>
+    ensures { OnOk result (tree T.text_of target.new ≡ obj (merged_members (target_members (Some (tree T.text_of target.old))) (entry_members (tree T.text_of) members.entries))) }
+{
+    if !target.is_object() {
+        let mut made = HashMap::with_capacity_and_hasher(alloc, 0, ObjectHasher::default())?;
+        merge_members(alloc, &mut made, members)?;
+        *target = Document::Object(Box::new(alloc, made)?);
+        return Ok(());
+    }
+    match target {
+        Document::Object(into) => merge_members(alloc, into, members),
+        _ => Ok(()),
+    }
+}
+
+/// Merges each member in turn.
+#[cycle(merge)]
+fn merge_members<T: KeyText + Drop>(
+    alloc: Global,
+    into: &mut Object<T>,
+    members: Object<T>,
+) -> Result<(), AllocError>
+    ensures { OnOk result (entry_members (tree T.text_of) into.new.entries ≡ merged_members (entry_members (tree T.text_of) into.old.entries) (entry_members (tree T.text_of) members.entries)) }
+{
+    for (key, value) in members {
+        merge_member(alloc, into, key, value)?;
+    }
+    Ok(())
+}
+
+/// Merges a member: a null takes the target's member out.
+#[cycle(merge)]
+fn merge_member<T: KeyText + Drop>(
+    alloc: Global,
+    into: &mut Object<T>,
+    key: T,
+    value: Document<T>,
+) -> Result<(), AllocError>
+    ensures { OnOk result (entry_members (tree T.text_of) into.new.entries ≡ merged_pair (T.text_of key) (tree T.text_of value) (entry_members (tree T.text_of) into.old.entries)) }
+{
+    if value.is_null() {
+        into.remove(key.text());
+        return Ok(());
+    }
+    if let Some(child) = into.get_mut(key.text()) {
+        return merge_value(alloc, child, value);
+    }
+    let mut made = Document::null();
+    merge_value(alloc, &mut made, value)?;
+    match into.insert(key, made) {
+        Ok(_) => Ok(()),
+        Err(_) => Err(AllocError),
+    }
+}
+
+/// Merges the patch into the target (RFC 7396). Refused for want of memory, the target is as it was.
+pub fn merge<T: CopyText + Drop>(
+    alloc: Global,
+    target: &mut Document<T>,
+    patch: Document<T>,
+) -> Result<(), AllocError>
+    ensures merged { OnOk result (tree T.text_of target.new ≡ merged (Some (tree T.text_of target.old)) (tree T.text_of patch)) }
+    ensures refused { OnErr result (target.new ≡ target.old) }
+{
+    let mut made = target.clone()?;
+    merge_value(alloc, &mut made, patch)?;
+    *target = made;
+    Ok(())
+}

@@ -1,0 +1,2 @@
+pub mod Pieces
+pub use Rattle.sj_lines.specs.Lines
