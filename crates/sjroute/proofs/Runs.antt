@@ -1,0 +1,68 @@
+-- Lines routed one after another.
+use Rattle.std.proofs.Common.{◌≡◌, ◌≢◌, ℕ, Bool, List, [], ◌∷◌, Option, Some, None, Result, Ok, Err, IsUtf8, refl, sym, ap, ◌∙◌, subst, inl, inr}
+use Rattle.std.specs.Prelude.{◌⊎◌, ◌↔◌, IsTrue}
+use Rattle.sj_text_core.specs.Tree.{Tree, IsWithin}
+use Rattle.sj_text_core.specs.Grammar.{IsReadable, Spells}
+use Rattle.sj_text_core.specs.declared.error.ErrorKind.{ErrorKind}
+use Rattle.sj_text_core.specs.declared.error.ErrorKind.TheVariants.{InvalidUtf8, Syntax, LoneSurrogate, Float, NumberTooLarge, TooDeep, OutOfMemory}
+use Rattle.sj_text_core.proofs.Proper.{spells_utf8}
+use Rattle.sj_stream.specs.Stream.{IsRead, Steps}
+use Rattle.sj_stream.specs.declared.stream.Unread.{Unread}
+use Rattle.sjroute.specs.Routed.{AllTaken, IsBroken, IsMessage, IsUnread, MeetsAny, Routed, TakesMessage, line_to, text_to}
+use Rattle.sjroute.specs.declared.routing.Route.{Route}
+
+-- what was routed of all texts, so that what is ahead routed too makes all
+abbrev pub GoesOn : List (ℕ × List ℕ) → List Route → List (ℕ × List ℕ) → List Route → Type 0
+GoesOn all first ahead now = (last : List Route) → Routed ahead now last → Routed all first last
+
+pub goes-first : (all : List (ℕ × List ℕ)) (rs : List Route) → GoesOn all rs all rs
+goes-first all rs = λ last h. h
+
+pub goes-on : (all : List (ℕ × List ℕ)) (first : List Route) (p : ℕ × List ℕ) (old new : List (ℕ × List ℕ)) (rs ms : List Route) → GoesOn all first old rs
+    → old ≡ p ∷ new → IsMessage p.1 rs ms ⊎ IsBroken p.1 rs ms → GoesOn all first new ms
+goes-on all first p old new rs ms g e one = λ last h. g last (subst (λ (ps : List (ℕ × List ℕ)). Routed ps rs last) (sym e) (ms, one, h))
+
+pub goes-last : (all : List (ℕ × List ℕ)) (first now : List Route) (ahead : List (ℕ × List ℕ)) → GoesOn all first ahead now → ahead ≡ [] → Routed all first now
+goes-last all first now ahead g e = g now (subst (λ (ps : List (ℕ × List ℕ)). Routed ps now now) (sym e) refl)
+
+-- the first of one list is the first of the other
+head_of : (ℕ × List ℕ) → List (ℕ × List ℕ) → ℕ × List ℕ
+head_of d [] = d
+head_of d (p ∷ ps) = p
+
+tail_of : List (ℕ × List ℕ) → List (ℕ × List ℕ)
+tail_of [] = []
+tail_of (p ∷ ps) = ps
+
+-- the stream and the lines go on together
+pub same-line : (w v h k : List (ℕ × List ℕ)) (p : ℕ × List ℕ) (a : Result ℕ Unread) (t : Option Tree) → w ≡ h → h ≡ p ∷ k → Steps w a t v
+    → (v ≡ k) × IsRead p.1 a t
+unfolding tail_of head_of
+same-line w v h k p a t e f s =
+    let lines = sym s.1 ∙ e ∙ f in (
+      ap tail_of lines,
+      subst (λ (b : List ℕ). IsRead b a t) (ap (λ (ps : List (ℕ × List ℕ)). (head_of p ps).1) lines) s.2,
+    )
+
+some-is : (t u : Tree) → Some t ≡ Some u → t ≡ u
+some-is t u e = ap (λ (o : Option Tree). elim o [ Some v ↦ v | None ↦ t ]) e
+
+-- a line that was read is a message
+pub is-message : (s : List ℕ) (n : ℕ) (o : Option Tree) (t : Tree) (rs ms : List Route) (met : Bool) → IsRead s (Ok n) o → Some t ≡ o → (IsTrue met ↔ MeetsAny t rs)
+    → AllTaken (TakesMessage met t) (line_to s t) rs ms → IsMessage s rs ms
+is-message s n o t rs ms met r e any taken =
+    let same = some-is t r.0 (e ∙ r.1) in
+    (t, subst (λ (u : Tree). Spells s u) (sym same) r.2, subst (λ (u : Tree). IsWithin u) (sym same) r.3, (met, any, taken))
+
+unreadable : (k : ErrorKind) (b : List ℕ) → (k ≡ InvalidUtf8 ↔ (IsUtf8 b → ⊥)) → (k ≢ InvalidUtf8 → k ≢ OutOfMemory → IsReadable b → ⊥) → k ≢ OutOfMemory → IsReadable b → ⊥
+unreadable InvalidUtf8 b u h n r = u.0 refl (spells_utf8 b r.0 r.1)
+unreadable Syntax b u h n r = h (λ e. cc) n r
+unreadable LoneSurrogate b u h n r = h (λ e. cc) n r
+unreadable Float b u h n r = h (λ e. cc) n r
+unreadable NumberTooLarge b u h n r = h (λ e. cc) n r
+unreadable TooDeep b u h n r = h (λ e. cc) n r
+unreadable OutOfMemory b u h n r = absurd (n refl)
+
+-- a line that was refused, but for want of memory, is broken
+pub is-broken : (s : List ℕ) (u : Unread) (o : Option Tree) (rs ms : List Route) → IsRead s (Err u) o → u.why ≢ OutOfMemory → AllTaken IsUnread (text_to s) rs ms → IsBroken s rs ms
+is-broken s u o rs ms r n taken = (λ readable. unreadable u.why s r.1 r.2 n readable, taken)

@@ -1,0 +1,163 @@
+#!/usr/bin/env bash
+# Runs the program sjroute as a user would, and looks at its statuses, its outputs and what it tells.
+# Usage: tools/sjroute.sh PROGRAM. Needs python3. The last line is 'N passed, M failed'.
+set -u
+program=$(realpath "$1")
+if [ ! -x "$program" ] || [ ! -x "$(command -v python3)" ]; then
+  echo "failed: there is no program ${1:-} or no python3"
+  echo '0 passed, 1 failed'
+  exit 1
+fi
+work=$(mktemp -d)
+trap 'rm -rf "$work"' EXIT
+cd "$work" || exit 1
+passed=0
+failed=0
+
+# expect NAME STATUS STDOUT STDERR, after a run has left its own in out, err and status; the texts may have escapes
+expect() {
+  printf '%b' "$3" > want.out
+  printf '%b' "$4" > want.err
+  if [ "$status" = "$2" ] && cmp -s out want.out && cmp -s err want.err; then
+    passed=$((passed + 1))
+  else
+    failed=$((failed + 1))
+    printf 'failed: %s (status %s)\n' "$1" "$status"
+    head -c 300 out
+    head -c 300 err
+  fi
+}
+
+# holds NAME FILE TEXT: the output that a run wrote
+holds() {
+  printf '%b' "$3" > want.file
+  if cmp -s "$2" want.file; then
+    passed=$((passed + 1))
+  else
+    failed=$((failed + 1))
+    printf 'failed: %s\n' "$1"
+    head -c 300 "$2"
+  fi
+}
+
+# route NAME RULES INPUT STATUS STDOUT STDERR
+route() {
+  printf '%b' "$2" > rules.json
+  printf '%b' "$3" | "$program" rules.json > out 2> err
+  status=$?
+  expect "$1" "$4" "$5" "$6"
+}
+
+# words NAME STATUS STDERR WORDS..
+words() {
+  local name=$1 want=$2 told=$3
+  shift 3
+  "$program" "$@" < /dev/null > out 2> err
+  status=$?
+  expect "$name" "$want" '' "$told"
+}
+
+# wrong NAME RULES FAULT: rules that are refused before any input is read
+wrong() {
+  printf '%b' "$2" > rules.json
+  "$program" rules.json < / > out 2> err
+  status=$?
+  expect "$1" 3 '' "sjroute: rules.json: $3\n"
+}
+
+usage='sjroute: usage: sjroute RULES (or --help)\n'
+words 'no words' 2 "$usage"
+words 'two words' 2 "$usage" a b
+words 'an option that is none' 2 "$usage" --quick
+words 'a word that is not UTF-8' 2 "$usage" $'\xff'
+words 'no file of rules' 3 'sjroute: absent.json: cannot be read\n' absent.json
+"$program" --help < / > out 2> err
+status=$?
+if [ "$status" = 0 ] && grep -q '^usage: sjroute RULES$' out && [ ! -s err ]; then
+  passed=$((passed + 1))
+else
+  failed=$((failed + 1))
+  echo 'failed: --help'
+fi
+"$program" --help > /dev/full 2> err
+status=$?
+: > out
+expect 'help that cannot be written' 5 '' 'sjroute: -: cannot be written\n'
+
+wrong 'rules that are no JSON' '[{"output":"o",\n "key": nul}]' 'line 2, column 12: syntax error'
+wrong 'rules with a fraction' '[{"output":"o","key":"a","value":1.5}]' 'line 1, column 35: number with a fraction or an exponent'
+wrong 'rules that end too soon' '[{"output":"o"}' 'line 1, column 16: syntax error'
+wrong 'rules that are no array' '{"output":"o"}' 'expected an array of routes'
+wrong 'a route that is no object' '[{"output":"o"},7]' 'at /1: expected an object'
+wrong 'a member of no meaning' '[{"output":"o","vlaue":1}]' 'at /0: expected no member but output, pointer, key, value, kind, merge and takes'
+output='expected a string as "output", which no other route has'
+wrong 'no output' '[{"key":"a"}]' "at /0: $output"
+wrong 'an output that is no string' '[{"output":1}]' "at /0: $output"
+wrong 'one output twice' '[{"output":"o"},{"output":"p"},{"output":"o"}]' "at /2: $output"
+place='expected a JSON pointer as "pointer", or a string as "key", and not both'
+wrong 'no pointer' '[{"output":"o","pointer":"a"}]' "at /0: $place"
+wrong 'a tilde alone' '[{"output":"o","pointer":"/a~"}]' "at /0: $place"
+wrong 'a key that is no string' '[{"output":"o","key":7}]' "at /0: $place"
+wrong 'a pointer and a key' '[{"output":"o","key":"a","pointer":""}]' "at /0: $place"
+kind='expected "null", "bool", "number", "string", "array" or "object" as "kind", and no "value" beside it'
+wrong 'a kind that is none' '[{"output":"o","kind":"text"}]' "at /0: $kind"
+wrong 'a kind and a value' '[{"output":"o","kind":"null","value":null}]' "at /0: $kind"
+takes='expected "unmet" or "unread" as "takes", and no rule beside it'
+wrong 'takes of no meaning' '[{"output":"o","takes":"all"}]' "at /0: $takes"
+wrong 'takes beside a rule' '[{"output":"o","takes":"unmet","key":"a"}]' "at /0: $takes"
+wrong 'lines that are not read, merged' '[{"output":"o","takes":"unread","merge":{}}]' "at /0: $takes"
+
+all='[{"output":"-"}]'
+route 'no routes, no input' '[]' '' 0 '' '0 lines, 0 not read, 0 met no rule\n'
+route 'no routes' '[]' '1\n' 0 '' '1 lines, 0 not read, 1 met no rule\n'
+route 'no last line feed' "$all" '{"a": 1}\n[2]' 0 '{"a": 1}\n[2]\n' '2 lines, 0 not read, 0 met no rule\n2 to -\n'
+route 'CR LF' "$all" '{"a": 1}\r\n\r\n[2]\r\n' 0 '{"a": 1}\n[2]\n' '2 lines, 0 not read, 0 met no rule\n2 to -\n'
+route 'escapes as they came' "$all" '"\\u0041\\\\n\\\\/"\n' 0 '"\\u0041\\\\n\\\\/"\n' '1 lines, 0 not read, 0 met no rule\n1 to -\n'
+route 'a broken line and the next' "$all" '[1]\n\n{"a": 1,}\n[3]\n' 1 '[1]\n[3]\n' 'line 3, column 9: syntax error\n3 lines, 1 not read, 0 met no rule\n2 to -\n'
+route 'a line of spaces' "$all" ' \n' 1 '' 'line 1, column 2: syntax error\n1 lines, 1 not read, 0 met no rule\n0 to -\n'
+route 'a fraction' "$all" '[1.5]\n' 1 '' 'line 1, column 3: number with a fraction or an exponent\n1 lines, 1 not read, 0 met no rule\n0 to -\n'
+route 'no UTF-8' "$all" '"a\xff"\n' 1 '' 'line 1, column 3: invalid UTF-8\n1 lines, 1 not read, 0 met no rule\n0 to -\n'
+route 'broken lines as they came' '[{"output":"bad","takes":"unread"}]' '"\\u0041\\ud800"\n{\r\n1\n' 1 '' 'line 1, column 14: lone surrogate\nline 2, column 2: syntax error\n3 lines, 2 not read, 1 met no rule\n2 to bad\n'
+holds 'broken lines as they came' bad '"\\u0041\\ud800"\n{\n'
+route 'two rules that are met' '[{"output":"a","key":"a"},{"output":"b","pointer":"/a","value":1},{"output":"rest","takes":"unmet"}]' '{"a":1}\n{"a":2}\n{"b":1}\n' 0 '' '3 lines, 0 not read, 1 met no rule\n2 to a\n1 to b\n1 to rest\n'
+holds 'the first of two rules' a '{"a":1}\n{"a":2}\n'
+holds 'the second of two rules' b '{"a":1}\n'
+holds 'what met no rule' rest '{"b":1}\n'
+route 'the first of repeated keys' '[{"output":"-","key":"a","value":1}]' '{"a":1,"a":2}\n{"a":2,"a":1}\n' 0 '{"a":1,"a":2}\n' '2 lines, 0 not read, 1 met no rule\n1 to -\n'
+route 'a merge patch' '[{"output":"-","merge":{"a":null,"b":{"c":[]}}}]' '{ "a": 1, "b": 2, "b": 3 }\n[1]\n' 0 '{"b":{"c":[]}}\n{"b":{"c":[]}}\n' '2 lines, 0 not read, 0 met no rule\n2 to -\n'
+route 'a number is the same in any carrier' '[{"output":"-","value":-0}]' '0\n-0\n1\n' 0 '0\n-0\n' '3 lines, 0 not read, 1 met no rule\n2 to -\n'
+route 'an old output is made anew' '[{"output":"a"}]' '1\n' 0 '' '1 lines, 0 not read, 0 met no rule\n1 to a\n'
+holds 'an old output is made anew' a '1\n'
+
+echo '[{"output":"absent/o"}]' > rules.json
+"$program" rules.json < / > out 2> err
+status=$?
+expect 'an output that cannot be opened' 5 '' 'sjroute: absent/o: cannot be written\n'
+route 'an output that cannot be written' '[{"output":"/dev/full"}]' '1\n' 5 '' '1 lines, 0 not read, 0 met no rule\n1 to /dev/full\nsjroute: /dev/full: cannot be written\n'
+echo "$all" > rules.json
+echo 1 | "$program" rules.json 2> err > /dev/full
+status=$?
+: > out
+expect 'a standard output that fails' 5 '' '1 lines, 0 not read, 0 met no rule\n1 to -\nsjroute: -: cannot be written\n'
+"$program" rules.json < / > out 2> err
+status=$?
+expect 'an input that fails' 5 '' '0 lines, 0 not read, 0 met no rule\n0 to -\nsjroute: standard input: cannot be read\n'
+
+# memory: 30 MB of short lines in 24 MB, and a line of 8 MB in 96 MB, which does not fit 24 MB
+long() { head -c "$1" /dev/zero | tr "\0" x | sed 's/.*/["&"]/'; echo; }
+limited() { (ulimit -v "$1" && exec "$program" rules.json); }
+yes '{"id":1,"text":"the quick brown fox","list":[1,2,3]}' | head -n 600000 | limited 24000 2> err | md5sum > out
+status=$?
+yes '{"id":1,"text":"the quick brown fox","list":[1,2,3]}' | head -n 600000 | md5sum > want.sum
+expect 'many lines in little memory' 0 "$(cat want.sum)\n" '600000 lines, 0 not read, 0 met no rule\n600000 to -\n'
+{ echo 1; long 8000000; echo 2; } > long.in
+limited 96000 < long.in 2> err | md5sum > out
+status=$?
+expect 'a long line' 0 "$(md5sum < long.in)\n" '3 lines, 0 not read, 0 met no rule\n3 to -\n'
+limited 24000 < long.in > out 2> told
+status=$?
+tail -n 1 told > err
+expect 'a long line in too little memory' 4 '1\n' 'sjroute: out of memory\n'
+
+echo "$passed passed, $failed failed"
+[ "$failed" = 0 ]
