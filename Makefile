@@ -6,14 +6,15 @@ demo:
 	@cd crates/sj_first && rt try
 
 # Proves every crate from nothing, tries the edits that have to be refused, and runs the tests.
-# It leaves the two programs that the checks below run.
+# It leaves the programs that the checks below run.
 test:
 	rt ci
 
-# Proves and builds the two programs, where they are not built of these sources.
+# Proves and builds the programs, where they are not built of these sources.
 programs:
 	cd crates/sjval && rt run -- owned < stdin > /dev/null
 	cd crates/refusals && rt run -- insert insert 32 > /dev/null
+	cd crates/sjroute && rt run -- --help > /dev/null
 
 # Writes what the sources make of the pages: docs/calling, and README's numbers.
 docs:
@@ -36,10 +37,12 @@ check-edits:
 check-use:
 	tools/taken.sh
 
-# Runs the built program as a user would. Needs python3, and `make test` or `make programs` before it.
+# Runs the built programs as a user would. Needs python3, and `make test` or `make programs` before it.
 check-program:
 	tools/program.sh crates/sjval/out/sjval
 	tools/replies.py crates/sjval/out/sjval
+	tools/sjroute.sh crates/sjroute/out/sjroute
+	tools/console.py docs/SJROUTE.md crates/sjroute/out/sjroute
 
 # Gives the built program edits that make documents 50,000 levels deep, on a small stack. Needs python3.
 check-depth:
@@ -49,7 +52,9 @@ check-depth:
 check-refusals:
 	tools/refusals.sh crates/refusals/out/refusals
 
-# Gives the built programs broken documents, lines and nodes. Needs python3, and the programs built.
+# Gives the built programs broken documents, lines, nodes and rules. Needs python3, and the programs built.
 check-broken:
 	tools/broken.py crates/sjval/out/sjval --seconds 10
 	tools/broken_nodes.py crates/refusals/out/refusals --seconds 5
+	tools/faults.py crates/sjroute/out/sjroute --seconds 5
+	tools/routed.py crates/sjroute/out/sjroute --seconds 5
