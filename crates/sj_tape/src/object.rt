@@ -182,6 +182,32 @@ impl<'t, 'i> Iterator for Iter<'t, 'i> {
     }
 }
 
+impl<'t, 'i> Iter<'t, 'i> {
+    ghost use Rattle.std.specs.Prelude.{◌≡◌, ◌∷◌, IfNone, IfSome};
+    ghost use Rattle.sj_tape.specs.Members.{parts_ahead};
+    ghost use Rattle.sj_tape.specs.Value.{part};
+
+    /// The next member, where its value has so many nodes; else it stays.
+    // Whoever asks with one width again and again waits for no node to know the next one's place.
+    #[inline(always)]
+    pub(crate) fn next_wide(&mut self, width: usize) -> Option<(&'i str, Value<'t, 'i>)>
+        ensures none { IfNone result (parts_ahead self.new ≡ parts_ahead self.old) }
+        ensures some { IfSome result (λ p. parts_ahead self.old ≡ (p.0.now, part p.1) ∷ parts_ahead self.new) }
+    {
+        if self.nodes.is_empty() {
+            return None;
+        }
+        let Some(name) = self.nodes.text_at(0) else {
+            unreachable!()
+        };
+        if self.nodes.width_at(1) != width {
+            return None;
+        }
+        let value = Value::take_wide(&mut self.nodes, 1, width, self.repeats);
+        Some((name, value))
+    }
+}
+
 /// The keys of an object in order.
 #[derive(Debug, Drop)]
 pub struct Keys<'t, 'i> {

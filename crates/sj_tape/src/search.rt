@@ -1,6 +1,6 @@
 //! Lookups by key.
 
-ghost use Rattle.std.specs.Prelude.{◌≡◌, ◌+◌, ◌<◌, bytes_eq, length, option_map, IfSome};
+ghost use Rattle.std.specs.Prelude.{◌≡◌, ◌+◌, ◌<◌, ◌≤◌, bytes_eq, length, option_map, Some, IfNone, IfSome};
 ghost use Rattle.sj_text_core.specs.Repeats.{find_member_by, visited_by};
 ghost use Rattle.sj_tape.specs.Lookup.{first_value, last_value, compared};
 ghost use Rattle.sj_tape.specs.Members.{members, object_choice, parts_ahead};
@@ -21,7 +21,31 @@ fn is_key<L: Ledger>(name: &str, key: &[u8], steps: &mut Steps<L>) -> bool
     are_same_bytes(key, name.as_bytes())
 }
 
-/// The value of the first member ahead with the key.
+/// The value of the first member with the key, among those ahead up to one whose value has another
+/// width. Those that are compared are passed.
+fn first_wide<'t, 'i, L: Ledger>(
+    ahead: &mut Iter<'t, 'i>,
+    width: usize,
+    key: &[u8],
+    steps: &mut Steps<L>,
+) -> Option<Value<'t, 'i>>
+    ensures found { IfSome result (λ v. Some (part v) ≡ first_value key.now (parts_ahead ahead.old)) }
+    ensures passed { IfNone result (first_value key.now (parts_ahead ahead.new) ≡ first_value key.now (parts_ahead ahead.old)) }
+    ensures found_exact { IfSome result (λ _. steps.new ≡ steps.old + compared key.now (parts_ahead ahead.old)) }
+    ensures passed_exact { IfNone result (steps.new + compared key.now (parts_ahead ahead.new) ≡ steps.old + compared key.now (parts_ahead ahead.old)) }
+    ensures fewer { length (parts_ahead ahead.new) ≤ length (parts_ahead ahead.old) }
+{
+    while let Some((name, value)) = ahead.next_wide(width) {
+        if is_key(name, key, steps) {
+            return Some(value);
+        }
+    }
+    None
+}
+
+/// The value of the first member ahead with the key. Where two values behind one another have one
+/// width, those as wide behind them are searched in one run, in which the place of the next waits for
+/// no node.
 fn first_counted<'t, 'i, L: Ledger>(
     ahead: Iter<'t, 'i>,
     key: &[u8],
@@ -30,10 +54,19 @@ fn first_counted<'t, 'i, L: Ledger>(
     ensures value { option_map part result ≡ first_value key.now (parts_ahead ahead.entry) }
     ensures exact { steps.new ≡ steps.old + compared key.now (parts_ahead ahead.entry) }
 {
-    for (name, value) in ahead {
+    let mut ahead = ahead;
+    let mut before = 0;
+    while let Some((name, value)) = ahead.next() {
         if is_key(name, key, steps) {
             return Some(value);
         }
+        let width = value.width();
+        if width == before {
+            if let Some(found) = first_wide(&mut ahead, width, key, steps) {
+                return Some(found);
+            }
+        }
+        before = width;
     }
     None
 }

@@ -27,8 +27,8 @@ pub struct Value<'t, 'i> {
 }
 
 impl<'t, 'i> Value<'t, 'i> {
-    ghost use Rattle.std.specs.Prelude.{◌≡◌, ◌++◌, drop};
-    ghost use Rattle.sj_text_core.specs.Nodes.{tree_of};
+    ghost use Rattle.std.specs.Prelude.{◌≡◌, ◌++◌, drop, get_or};
+    ghost use Rattle.sj_text_core.specs.Nodes.{tree_of, nothing, width as node_width};
     ghost use Rattle.sj_text_core.specs.Tree.{null};
     ghost use Rattle.sj_tape.specs.Fronts.{BeginsTree};
     ghost use Rattle.sj_tape.specs.Value.{tree, choice, part};
@@ -61,13 +61,37 @@ impl<'t, 'i> Value<'t, 'i> {
         ensures choice { choice result ≡ repeats }
         ensures all { drop place (nodes_in nodes.old) ≡ nodes_in result.nodes ++ nodes_in nodes.new }
     {
-        let end = place + nodes.width_at(place);
+        let width = nodes.width_at(place);
+        Value::take_wide(nodes, place, width, repeats)
+    }
+
+    /// Takes the tree at that place, which has `width` nodes, and what stands before it, off the
+    /// front of the nodes.
+    #[inline(always)]
+    pub(crate) fn take_wide(
+        nodes: &mut Nodes<'t, 'i>,
+        place: usize,
+        width: usize,
+        repeats: Repeats,
+    ) -> Self
+        requires begins { BeginsTree (drop place (nodes_in nodes.old)) }
+        requires wide { width ≡ node_width (get_or (nodes_in nodes.old) place nothing) }
+        ensures choice { choice result ≡ repeats }
+        ensures all { drop place (nodes_in nodes.old) ≡ nodes_in result.nodes ++ nodes_in nodes.new }
+    {
+        let end = place + width;
         let tree = nodes.between(place, end);
         nodes.skip(end);
         Value {
             nodes: tree,
             repeats,
         }
+    }
+
+    /// How many nodes the part has.
+    #[inline(always)]
+    pub(crate) fn width(&self) -> usize {
+        self.nodes.len()
     }
 
     /// Which member of several with one key counts.
