@@ -17,6 +17,10 @@ pub record IsLinked (n : ℕ) (hs links heads : List ℕ) (k : ℕ) : Type 0 whe
   pub starts : (b : ℕ) → b < n → slice_index heads b ≡ last_below n b hs k
   pub nexts : (i : ℕ) → i < k → slice_index links i ≡ last_below n (slice_index hs i % n) hs i
 
--- a place once the member at position i is taken out, whose link is next
-abbrev pub renumbered : ℕ → ℕ → ℕ → ℕ
-renumbered i next p = if nat_le p i then p else (if p == i + 1 then next else p - 1)
+-- where a chain goes that went to place p, once it passes over the member at position i, whose link is next
+abbrev pub passed : ℕ → ℕ → ℕ → ℕ
+passed i next p = if p == i + 1 then next else p
+
+-- a place once the member at position i is taken out, which no chain goes to
+abbrev pub lowered : ℕ → ℕ → ℕ
+lowered i p = if nat_le p i then p else p - 1

@@ -3,8 +3,8 @@
 //! A place is a member's position counted from 1, and 0 is the end of a chain. A chain begins at
 //! its highest place, and each link goes to a lower one.
 
-ghost use Rattle.std.specs.Prelude.{◌≡◌, ◌+◌, ◌<◌, ◌≤◌, ◌%◌, ◌^◌, length, map};
-ghost use Rattle.sj_object.specs.Chains.{IsLinked, renumbered};
+ghost use Rattle.std.specs.Prelude.{◌≡◌, ◌+◌, ◌<◌, ◌≤◌, ◌%◌, ◌^◌, ℕ, length, map, slice_index};
+ghost use Rattle.sj_object.specs.Chains.{IsLinked, lowered, passed};
 
 /// The bucket of a hash, of 2 to the power of `bits`.
 #[inline]
@@ -29,26 +29,59 @@ pub fn link(bits: u32, hashes: &[u64], from: usize, links: &mut [usize], heads: 
     }
 }
 
-/// A place once the member at `position` is taken out, whose link is `next`. It has no branch, so
-/// several places are renumbered at once.
-#[inline]
-fn renumber(place: usize, position: usize, next: usize) -> usize
-    ensures { result ≡ renumbered position next place }
+/// Lets the chain of the member at `position` pass it over: what goes to it goes on to its link.
+pub fn pass_over(
+    bits: u32,
+    hashes: &[u64],
+    position: usize,
+    links: &mut [usize],
+    heads: &mut [usize],
+)
+    requires bits { bits < 64 }
+    requires within { position < length hashes.now }
+    requires linked { IsLinked (2 ^ bits) hashes.now links.old heads.old (length hashes.now) }
+    ensures links { (i : ℕ) → i < length hashes.now → slice_index links.new i ≡ passed position (slice_index links.old position) (slice_index links.old i) }
+    ensures heads { (b : ℕ) → b < 2 ^ bits → slice_index heads.new b ≡ passed position (slice_index links.old position) (slice_index heads.old b) }
 {
-    let is_behind = place > position;
-    let lower = place - usize::from(is_behind);
-    if is_behind & (lower == position) {
-        next
-    } else {
-        lower
+    let next = links[position];
+    let bucket = bucket_of(hashes[position], bits);
+    let mut place = heads[bucket];
+    if place == position + 1 {
+        heads[bucket] = next;
+        return;
+    }
+    while links[place - 1] != position + 1 {
+        place = links[place - 1];
+    }
+    links[place - 1] = next;
+}
+
+/// A place once the member at `position` is taken out, which no chain goes to. It has no branch, so
+/// several places are lowered at once.
+#[inline]
+fn lower(place: usize, position: usize) -> usize
+    ensures { result ≡ lowered position place }
+{
+    place - usize::from(place > position)
+}
+
+/// Lowers all places.
+pub fn lower_all(places: &mut [usize], position: usize)
+    ensures { places.new ≡ map (lowered position) places.old }
+{
+    for place in places.iter_mut() {
+        *place = lower(*place, position);
     }
 }
 
-/// Renumbers all places.
-pub fn renumber_all(places: &mut [usize], position: usize, next: usize)
-    ensures { places.new ≡ map (renumbered position next) places.old }
+/// Moves the places behind `position` one down, over the one there, and lowers them on the way. The
+/// last one is left behind, to be cut off.
+pub fn close_up(places: &mut [usize], position: usize)
+    requires { position < length places.old }
+    ensures before { (i : ℕ) → i < position → slice_index places.new i ≡ slice_index places.old i }
+    ensures behind { (i : ℕ) → position ≤ i → i + 1 < length places.old → slice_index places.new i ≡ lowered position (slice_index places.old (i + 1)) }
 {
-    for place in places.iter_mut() {
-        *place = renumber(*place, position, next);
+    for i in position + 1..places.len() {
+        places[i - 1] = lower(places[i], position);
     }
 }

@@ -5,7 +5,7 @@ ghost use Rattle.std.specs.List.{remove};
 ghost use Rattle.std.specs.Vec.{vec_len, vec_capacity};
 ghost use Rattle.sj_object.specs.Index.{buckets_of, buckets_for, IsTable, IsIndexOf};
 
-use super::chain::{bucket_of, link, renumber_all};
+use super::chain::{bucket_of, close_up, link, lower_all, pass_over};
 use crate::hasher::KeyHasher;
 use crate::key::KeyText;
 use std::alloc::{AllocError, Global};
@@ -112,10 +112,20 @@ impl Table {
         ensures buckets { length self.new.heads.items ≡ length self.old.heads.items }
         ensures table { IsTable self.new }
     {
+        let last = self.hashes.len() - 1;
+        // Its chain passes the member over first, so that no place is tested for it below.
+        pass_over(
+            self.bits,
+            &self.hashes,
+            position,
+            &mut self.links,
+            &mut self.heads,
+        );
         self.hashes.remove(position);
-        let next = self.links.remove(position);
-        renumber_all(&mut self.links, position, next);
-        renumber_all(&mut self.heads, position, next);
+        // Links go to lower places, so only those behind the position change.
+        close_up(&mut self.links, position);
+        self.links.truncate(last);
+        lower_all(&mut self.heads, position);
     }
 
     /// Takes the last hash out. Its member heads a chain, so no other link changes.

@@ -1,19 +1,19 @@
 use Rattle.std.proofs.Common.{◌<◌, ◌≤◌, ◌++◌, length, map, get_or, slice_set, arith, ap, ◌∙◌, append-nil}
 use Rattle.std.proofs.lemmas.List.{get_or_default, take_all, drop_all}
 use Rattle.std.proofs.lemmas.List.Edits.{map_over_more}
-use Rattle.sj_object.specs.Chains.{renumbered}
-use Rattle.sj_object.proofs.map.chain.renumber_all.Goals as goal
+use Rattle.sj_object.specs.Chains.{lowered}
+use Rattle.sj_object.proofs.map.chain.lower_all.Goals as goal
 
 pub loop-place-preserved : goal.loop-place-preserved
 loop-place-preserved c =
     let ys = c.loop-place.places in
     let i = c.loop-place.place-index in
     let within : i < length ys = omega arith in
-    ap (λ v. slice_set ys i v) c.renumber.ensures ∙ map_over_more (renumbered c.args.position c.args.next) c.args.places.now ys i (get_or ys i 0) (omega arith) c.loop-place.invariant (get_or_default ys i 0 (get_or ys i 0) within)
+    ap (λ v. slice_set ys i v) c.lower.ensures ∙ map_over_more (lowered c.args.position) c.args.places.now ys i (get_or ys i 0) (omega arith) c.loop-place.invariant (get_or_default ys i 0 (get_or ys i 0) within)
 
 pub returns : goal.returns
 returns c =
-    let f = renumbered c.args.position c.args.next in
+    let f = lowered c.args.position in
     let xs = c.args.places.now in
     let i = c.loop-place.place-index in
     let past : length xs ≤ i = omega arith in
