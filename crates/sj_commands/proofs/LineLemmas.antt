@@ -1,8 +1,7 @@
 -- The document is the beginning of the input, and the lines in front of a place.
-use Rattle.std.proofs.Common.{◌≡◌, ℕ, zero, suc, ◌+◌, ◌-◌, ◌<◌, ◌≤◌, Bool, true, false, List, [], ◌∷◌, ◌++◌, length, take, drop, take-take, get_or, refl, subst, sym, ap, ◌∙◌, append_assoc, if◌then◌else◌, ◌==◌, arith}
+use Rattle.std.proofs.Common.{◌≡◌, ℕ, ◌+◌, ◌-◌, ◌≤◌, Bool, true, false, List, [], ◌∷◌, ◌++◌, length, take, drop, take-take, refl, subst, sym, ap, ◌∙◌, append_assoc, if◌then◌else◌, arith}
 use Rattle.std.specs.List.{concat, slice_range}
-use Rattle.std.proofs.lemmas.Bool.{eq-eqb, eqb-true}
-use Rattle.std.proofs.lemmas.List.{take_more, take_all, drop_all, drop-drop, length-drop, append-nil, drop-take, take-append-drop}
+use Rattle.std.proofs.lemmas.List.{take_all, drop_all, drop-drop, length-drop, append-nil, drop-take, take-append-drop}
 use Rattle.sj_commands.specs.Lines.{full_lines, is_mark, before_mark, after_mark, document}
 use Rattle.sj_lines.proofs.LineLemmas.{concat-full_lines}
 

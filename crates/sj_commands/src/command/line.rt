@@ -1,21 +1,22 @@
-//! Which command a line is. The line is read as a document, whose parts the command takes over.
+//! Which command a line is. The line is read to a tape, of whose parts the command has copies: a
+//! document is built only of a value that it takes.
 
 ghost use Rattle.std.specs.Prelude.{◌≡◌, IfOk, option_map, unwrap_or, map, string_bytes};
-ghost use Rattle.std.specs.Vec.Iter.{into_iter_items};
 ghost use Rattle.sj_text_core.specs.Tree.{list, items_from};
-ghost use Rattle.sj_document.specs.Document.{tree};
+ghost use Rattle.sj_tape.specs.Value.{part};
+ghost use Rattle.sj_tape.specs.Items.{parts_ahead};
 ghost use Rattle.sj_pointer.specs.Pointed.{path_of};
 ghost use Rattle.sj_commands.specs.Commands.{PlainCommand, bad};
 ghost use Rattle.sj_commands.specs.CommandLines.{IsCommandOf, command_in as command_in_tree, command_with, command_with_path, command_with_text, command_with_value, command_with_member, path_in as path_in_tree, pointer_in as pointer_in_text, step_in as step_in_tree, steps_in as steps_in_items, width_named as width_of_name};
 ghost use Rattle.sj_commands.specs.Meant.{command_meant, step_meant, path_meant, width_meant};
+ghost use Rattle.sj_commands.specs.Parts.{kept, parts_in};
 
 use super::{Command, Step, Width};
-use sj_document::{OwnedValue, Taken};
-use sj_object::deserialize;
+use sj_document::owned_from_tape;
 use sj_pointer::{PointerError, pointer};
+use sj_tape::{Array, Value, array, to_tape};
 use sj_text_core::{ErrorKind, ValueAsScalar};
 use std::alloc::{AllocError, Global};
-use std::vec::IntoIter;
 
 fn width_named(name: &str) -> Option<Width>
     ensures { option_map width_meant result ≡ width_of_name name.now }
@@ -37,25 +38,24 @@ fn width_named(name: &str) -> Option<Width>
 }
 
 /// A text is a key, a whole number below 2^64 a place.
-fn step_in(value: OwnedValue) -> Option<Step>
-    ensures { option_map step_meant result ≡ step_in_tree (tree string_bytes value) }
+fn step_in(alloc: Global, value: Value<'_, '_>) -> Result<Option<Step>, AllocError>
+    ensures { IfOk result (λ step. option_map step_meant step ≡ step_in_tree (kept (part value.entry))) }
 {
-    match value.take_apart() {
-        Taken::String(key) => Some(Step::Key(key)),
-        Taken::Static(scalar) => match scalar.as_usize() {
-            Some(place) => Some(Step::Idx(place)),
-            None => None,
-        },
-        _ => None,
+    if let Some(key) = value.into_string() {
+        return Ok(Some(Step::Key(String::from_str(alloc, key)?)));
+    }
+    match value.as_usize() {
+        Some(place) => Ok(Some(Step::Idx(place))),
+        None => Ok(None),
     }
 }
 
-fn steps_in(alloc: Global, items: Vec<OwnedValue>) -> Result<Option<Vec<Step>>, AllocError>
-    ensures { IfOk result (λ p. option_map (λ steps. path_meant steps.items) p ≡ steps_in_items (items_from (map (tree string_bytes) items.items))) }
+fn steps_in(alloc: Global, items: Array<'_, '_>) -> Result<Option<Vec<Step>>, AllocError>
+    ensures { IfOk result (λ p. option_map (λ steps. path_meant steps.items) p ≡ steps_in_items (items_from (map kept (parts_in items.entry)))) }
 {
     let mut steps = Vec::with_capacity(alloc, items.len())?;
-    for item in items {
-        match step_in(item) {
+    for item in items.iter() {
+        match step_in(alloc, item)? {
             Some(step) => steps.push(step)?,
             None => return Ok(None),
         }
@@ -85,13 +85,15 @@ fn pointer_in(alloc: Global, text: &str) -> Result<Option<Vec<Step>>, AllocError
     }
 }
 
-fn path_in(alloc: Global, value: OwnedValue) -> Result<Option<Vec<Step>>, AllocError>
-    ensures { IfOk result (λ p. option_map (λ steps. path_meant steps.items) p ≡ path_in_tree (tree string_bytes value)) }
+fn path_in(alloc: Global, value: Value<'_, '_>) -> Result<Option<Vec<Step>>, AllocError>
+    ensures { IfOk result (λ p. option_map (λ steps. path_meant steps.items) p ≡ path_in_tree (kept (part value.entry))) }
 {
-    match value.take_apart() {
-        Taken::Array(items) => steps_in(alloc, Box::into_inner(items)),
-        Taken::String(text) => pointer_in(alloc, text.as_str()),
-        _ => Ok(None),
+    if let Some(text) = value.into_string() {
+        return pointer_in(alloc, text);
+    }
+    match value.as_array() {
+        Some(items) => steps_in(alloc, items),
+        None => Ok(None),
     }
 }
 
@@ -110,89 +112,104 @@ fn with_path(name: &str, path: Vec<Step>) -> Command
     }
 }
 
-fn with_text(name: &str, path: Vec<Step>, text: String) -> Command
-    ensures { command_meant result ≡ unwrap_or (command_with_text name.now (path_meant path.items) (string_bytes text)) bad }
+fn with_text(alloc: Global, name: &str, path: Vec<Step>, text: &str) -> Result<Command, AllocError>
+    ensures { IfOk result (λ command. command_meant command ≡ unwrap_or (command_with_text name.now (path_meant path.items) text.now) bad) }
 {
     match name {
-        "fits" => match width_named(text.as_str()) {
-            Some(width) => Command::Fits(path, width),
-            None => Command::Bad,
+        "fits" => match width_named(text) {
+            Some(width) => Ok(Command::Fits(path, width)),
+            None => Ok(Command::Bad),
         },
-        "has" => Command::Has(path, text),
-        "remove" => Command::Remove(path, text),
-        _ => Command::Bad,
+        "has" => Ok(Command::Has(path, String::from_str(alloc, text)?)),
+        "remove" => Ok(Command::Remove(path, String::from_str(alloc, text)?)),
+        _ => Ok(Command::Bad),
     }
 }
 
-fn with_value(name: &str, path: Vec<Step>, value: OwnedValue) -> Command
-    ensures { command_meant result ≡ unwrap_or (command_with_value name.now (path_meant path.items) (tree string_bytes value)) bad }
+fn with_value(
+    alloc: Global,
+    name: &str,
+    path: Vec<Step>,
+    value: Value<'_, '_>,
+) -> Result<Command, AllocError>
+    ensures { IfOk result (λ command. command_meant command ≡ unwrap_or (command_with_value name.now (path_meant path.items) (kept (part value.entry))) bad) }
 {
     match name {
-        "push" => Command::Push(path, value),
-        "put" => Command::Put(path, value),
-        _ => match value.take_apart() {
-            Taken::String(text) => with_text(name, path, text),
-            _ => Command::Bad,
+        "push" => Ok(Command::Push(path, owned_from_tape(alloc, value)?)),
+        "put" => Ok(Command::Put(path, owned_from_tape(alloc, value)?)),
+        _ => match value.into_string() {
+            Some(text) => with_text(alloc, name, path, text),
+            None => Ok(Command::Bad),
         },
     }
 }
 
-fn with_member(name: &str, path: Vec<Step>, key: OwnedValue, value: OwnedValue) -> Command
-    ensures { command_meant result ≡ unwrap_or (command_with_member name.now (path_meant path.items) (tree string_bytes key) (tree string_bytes value)) bad }
+fn with_member(
+    alloc: Global,
+    name: &str,
+    path: Vec<Step>,
+    key: Value<'_, '_>,
+    value: Value<'_, '_>,
+) -> Result<Command, AllocError>
+    ensures { IfOk result (λ command. command_meant command ≡ unwrap_or (command_with_member name.now (path_meant path.items) (kept (part key.entry)) (kept (part value.entry))) bad) }
 {
-    match key.take_apart() {
-        Taken::String(key) => {
-            if name == "insert" {
-                Command::Insert(path, key, value)
-            } else {
-                Command::Bad
-            }
-        }
-        _ => Command::Bad,
+    let Some(key) = key.into_string() else {
+        return Ok(Command::Bad);
+    };
+    if name == "insert" {
+        let key = String::from_str(alloc, key)?;
+        Ok(Command::Insert(path, key, owned_from_tape(alloc, value)?))
+    } else {
+        Ok(Command::Bad)
     }
 }
 
 /// What a name, a path and the items behind them are.
-fn with_items(name: &str, path: Vec<Step>, mut items: IntoIter<OwnedValue>) -> Command
-    ensures { command_meant result ≡ unwrap_or (command_with name.now (path_meant path.items) (items_from (map (tree string_bytes) (into_iter_items items)))) bad }
+fn with_items(
+    alloc: Global,
+    name: &str,
+    path: Vec<Step>,
+    mut items: array::Iter<'_, '_>,
+) -> Result<Command, AllocError>
+    ensures { IfOk result (λ command. command_meant command ≡ unwrap_or (command_with name.now (path_meant path.items) (items_from (map kept (parts_ahead items.entry)))) bad) }
 {
     let Some(first) = items.next() else {
-        return with_path(name, path);
+        return Ok(with_path(name, path));
     };
     let Some(second) = items.next() else {
-        return with_value(name, path, first);
+        return with_value(alloc, name, path, first);
     };
     match items.next() {
-        Some(_) => Command::Bad,
-        None => with_member(name, path, first, second),
+        Some(_) => Ok(Command::Bad),
+        None => with_member(alloc, name, path, first, second),
     }
 }
 
-fn in_items(alloc: Global, items: Vec<OwnedValue>) -> Result<Command, AllocError>
-    ensures { IfOk result (λ command. command_meant command ≡ command_in_tree (list (items_from (map (tree string_bytes) items.items)))) }
+fn in_items(alloc: Global, items: Array<'_, '_>) -> Result<Command, AllocError>
+    ensures { IfOk result (λ command. command_meant command ≡ command_in_tree (list (items_from (map kept (parts_in items.entry))))) }
 {
-    let mut items = items.into_iter();
+    let mut items = items.iter();
     let Some(first) = items.next() else {
         return Ok(Command::Bad);
     };
-    let Taken::String(name) = first.take_apart() else {
+    let Some(name) = first.into_string() else {
         return Ok(Command::Bad);
     };
     let Some(steps) = items.next() else {
         return Ok(Command::Bad);
     };
     match path_in(alloc, steps)? {
-        Some(path) => Ok(with_items(name.as_str(), path, items)),
+        Some(path) => with_items(alloc, name, path, items),
         None => Ok(Command::Bad),
     }
 }
 
-fn command_in(alloc: Global, value: OwnedValue) -> Result<Command, AllocError>
-    ensures { IfOk result (λ command. command_meant command ≡ command_in_tree (tree string_bytes value)) }
+fn command_in(alloc: Global, value: Value<'_, '_>) -> Result<Command, AllocError>
+    ensures { IfOk result (λ command. command_meant command ≡ command_in_tree (kept (part value.entry))) }
 {
-    match value.take_apart() {
-        Taken::Array(items) => in_items(alloc, Box::into_inner(items)),
-        _ => Ok(Command::Bad),
+    match value.as_array() {
+        Some(items) => in_items(alloc, items),
+        None => Ok(Command::Bad),
     }
 }
 
@@ -203,8 +220,8 @@ pub fn command_of(alloc: Global, line: &mut [u8]) -> Result<Command, AllocError>
     ensures is { IfOk result (λ command. IsCommandOf line.old (command_meant command)) }
     ensures only { IfOk result (λ command. (c : PlainCommand) → IsCommandOf line.old c → c ≡ command_meant command) }
 {
-    match deserialize::<OwnedValue, String>(alloc, line) {
-        Ok(value) => command_in(alloc, value),
+    match to_tape(alloc, line) {
+        Ok(tape) => command_in(alloc, tape.as_value()),
         Err(kind) => {
             if kind == ErrorKind::OutOfMemory {
                 return Err(AllocError);

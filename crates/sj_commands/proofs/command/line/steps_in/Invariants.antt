@@ -1,11 +1,11 @@
-use Rattle.std.proofs.Common.{◌≡◌, ◌++◌, option_map, map, string_bytes}
-use Rattle.std.specs.Vec.Iter.{into_iter_items}
+use Rattle.std.proofs.Common.{◌≡◌, ◌++◌, option_map, map}
 use Rattle.sj_text_core.specs.Tree.{items_from}
-use Rattle.sj_document.specs.Document.{tree}
+use Rattle.sj_tape.specs.Items.{parts_ahead}
 use Rattle.sj_commands.specs.CommandLines.{steps_in}
 use Rattle.sj_commands.specs.Meant.{path_meant}
+use Rattle.sj_commands.specs.Parts.{kept, parts_in}
 use Rattle.sj_commands.proofs.command.line.steps_in.Given as goal
 
 abbrev pub invariant-loop-item : goal.invariant-loop-item
 invariant-loop-item l =
-    option_map (λ p. path_meant l.steps.items ++ p) (steps_in (items_from (map (tree string_bytes) (into_iter_items l.item-iterator)))) ≡ steps_in (items_from (map (tree string_bytes) l.fn.items.items))
+    option_map (λ p. path_meant l.steps.items ++ p) (steps_in (items_from (map kept (parts_ahead l.item-iterator)))) ≡ steps_in (items_from (map kept (parts_in l.fn.items)))
