@@ -4,4 +4,4 @@
 
 mod merging;
 
-pub use merging::merge;
+pub use merging::{into_merged, merge};

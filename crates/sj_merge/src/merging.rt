@@ -1,6 +1,6 @@
 //! Merge patches.
 
-ghost use Rattle.std.specs.Prelude.{◌≡◌, Some, OnOk, OnErr};
+ghost use Rattle.std.specs.Prelude.{◌≡◌, Some, IfOk, OnOk, OnErr};
 ghost use Rattle.sj_text_core.specs.Tree.{obj};
 ghost use Rattle.sj_object.specs.Members.{entry_members};
 ghost use Rattle.sj_document.specs.Document.{tree};
@@ -104,4 +104,17 @@ pub fn merge<T: CopyText + Drop>(
     merge_value(alloc, &mut made, patch)?;
     *target = made;
     Ok(())
+}
+
+/// The target as the patch makes it (RFC 7396). Refused for want of memory, both are given up, so
+/// that no copy of the target is made.
+pub fn into_merged<T: KeyText + Drop>(
+    alloc: Global,
+    mut target: Document<T>,
+    patch: Document<T>,
+) -> Result<Document<T>, AllocError>
+    ensures { IfOk result (λ made. tree T.text_of made ≡ merged (Some (tree T.text_of target)) (tree T.text_of patch)) }
+{
+    merge_value(alloc, &mut target, patch)?;
+    Ok(target)
 }

@@ -10,7 +10,7 @@ ghost use Rattle.sj_merge.specs.Merge.{merged};
 ghost use Rattle.sjroute.specs.Routed.{AllTaken, Grown, IsUnmet, IsUnread, MeetsAny, MeetsRule, TakesMessage, line_of, line_to, text_to};
 
 use crate::rule::Rule;
-use sj_merge::merge;
+use sj_merge::into_merged;
 use sj_owned::{JsonError, Value as Owned, Writable, owned_from_tape};
 use sj_tape::Value;
 use std::alloc::Global;
@@ -80,8 +80,8 @@ fn put_merged(
     ensures ok { OnOk result (waiting.new.items ≡ waiting.old.items ++ (compact (merged (Some (keep (tree message.entry))) (document_tree string_bytes patch.now)) ++ 10 ∷ [])) }
     ensures refused { OnErr result ((more : List ℕ) × (waiting.new.items ≡ waiting.old.items ++ more)) }
 {
-    let mut document = owned_from_tape(alloc, message)?;
-    merge(alloc, &mut document, patch.clone()?)?;
+    let document = owned_from_tape(alloc, message)?;
+    let document = into_merged(alloc, document, patch.clone()?)?;
     document.write(waiting)?;
     waiting.push(b'\n')?;
     Ok(())
