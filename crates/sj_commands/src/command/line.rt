@@ -14,9 +14,12 @@ ghost use Rattle.sj_commands.specs.Parts.{kept, parts_in};
 use super::{Command, Step, Width};
 use sj_document::owned_from_tape;
 use sj_pointer::{PointerError, pointer};
-use sj_tape::{Array, Value, array, to_tape};
+use sj_tape::{Array, Buffers, Value, array, to_tape_with_buffers};
 use sj_text_core::{ErrorKind, ValueAsScalar};
 use std::alloc::{AllocError, Global};
+
+/// For the nodes of how many bytes of a line there is room at once.
+const ROOM: usize = 256;
 
 fn width_named(name: &str) -> Option<Width>
     ensures { option_map width_meant result ≡ width_of_name name.now }
@@ -220,7 +223,9 @@ pub fn command_of(alloc: Global, line: &mut [u8]) -> Result<Command, AllocError>
     ensures is { IfOk result (λ command. IsCommandOf line.old (command_meant command)) }
     ensures only { IfOk result (λ command. (c : PlainCommand) → IsCommandOf line.old c → c ≡ command_meant command) }
 {
-    match to_tape(alloc, line) {
+    // Most commands have no more nodes than a fourth of their bytes, and then ask for them once.
+    let mut buffers = Buffers::new(alloc, 2 * line.len().min(ROOM))?;
+    match to_tape_with_buffers(alloc, line, &mut buffers) {
         Ok(tape) => command_in(alloc, tape.as_value()),
         Err(kind) => {
             if kind == ErrorKind::OutOfMemory {
