@@ -37,8 +37,8 @@ pub fn are_same_texts(a: &str, b: &str) -> bool
     are_same_bytes(a.as_bytes(), b.as_bytes())
 }
 
-/// Whether the bytes are the same. Their lengths are compared first, then their last bytes, and up
-/// to 16 bytes cost no call.
+/// Whether the bytes are the same. Their lengths are compared first, then their last bytes and their
+/// first: a call compares more than 16 bytes that agree in these.
 #[inline]
 pub fn are_same_bytes(a: &[u8], b: &[u8]) -> bool
     ensures { result ≡ bytes_eq a.now b.now }
@@ -56,7 +56,7 @@ pub fn are_same_bytes(a: &[u8], b: &[u8]) -> bool
     if len <= 16 {
         return word_at(a, 0) == word_at(b, 0);
     }
-    a == b
+    word_at(a, 0) == word_at(b, 0) && a == b
 }
 
 /// The same of bytes of one length below 8.
