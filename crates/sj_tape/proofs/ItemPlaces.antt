@@ -1,11 +1,11 @@
 -- Where the items of an array begin among its nodes.
 use Rattle.std.specs.Prelude.{slice_get}
-use Rattle.std.proofs.Common.{◌≡◌, ℕ, Some, None, ◌++◌, zero, suc, ◌+◌, ◌<◌, ◌≤◌, List, [], ◌∷◌, map, length, take, drop, get_or, refl, sym, ap, ◌∙◌, subst, arith}
+use Rattle.std.proofs.Common.{◌≡◌, ℕ, Some, None, ◌++◌, zero, suc, ◌+◌, ◌-◌, ◌<◌, ◌≤◌, List, [], ◌∷◌, map, length, take, drop, get_or, refl, sym, ap, ◌∙◌, subst, arith}
 use Rattle.std.proofs.lemmas.List.{length-drop, length-map, get_or-drop, get_or-map, take-append-drop, drop-drop}
 use Rattle.std.proofs.lemmas.Option.{slice_get_past}
 use Rattle.sj_text_core.specs.Tree.{Tree, Items, items_len, listed}
 use Rattle.sj_text_core.specs.Find.{nth_item}
-use Rattle.sj_text_core.specs.Nodes.{Mark, nothing, width, tree_of, IsPreorder}
+use Rattle.sj_text_core.specs.Nodes.{Mark, nothing, truth, number, string, array, object, width, tree_of, IsPreorder}
 use Rattle.sj_tape.specs.Fronts.{BeginsTree}
 use Rattle.sj_tape.specs.Parts.{items_in, AreItemNodes, ItemsFrom}
 use Rattle.sj_tape.proofs.Compared.{length-listed}
@@ -45,6 +45,26 @@ next_place ns i place n h more some =
         items = ap (λ ms. listed (items_in ms)) (sym behind) ∙ ap (λ is. drop 1 (listed is)) (sym step.items) ∙ ap (λ (ts : List Tree). drop 1 ts) h.items ∙ drop-drop 1 i (listed (items_in ns));
       };
     }
+
+some_width : (m : Mark) → 1 ≤ width m
+some_width nothing = omega arith
+some_width (truth b) = omega arith
+some_width (number n c) = omega arith
+some_width (string s) = omega arith
+some_width (array len count) = omega arith
+some_width (object len count) = omega arith
+
+-- with as many nodes as items, each item is one node
+pub single_place : (ns : List Mark) → AreItemNodes ns → length ns ≡ items_len (items_in ns) → (i : ℕ) → i ≤ length ns → ItemsFrom ns i i
+single_place ns a one zero h = first_place ns a
+single_place ns a one (suc i) h =
+    let next = next_place ns i i (length ns) (single_place ns a one i (omega (arith, h))) (omega (arith, h)) (omega (arith, one)) in
+    let l = drop (i + width (get_or ns i nothing)) ns in
+    let left : items_len (items_in l) ≡ length ns - (i + 1) =
+    omega (arith, one, ap (λ (ts : List Tree). length ts) next.next.items, length-drop (i + 1) (listed (items_in ns)), length-listed (items_in ns), length-listed (items_in l)) in
+    let enough : items_len (items_in l) ≤ length l = omega (arith, items_len-le (items_in l), ap (λ (ms : List Mark). length ms) next.next.are) in
+    let single : i + width (get_or ns i nothing) ≡ suc i = omega (arith, left, enough, next.fits, length-drop (i + width (get_or ns i nothing)) ns, some_width (get_or ns i nothing)) in
+    subst (λ p. ItemsFrom ns (suc i) p) single (subst (λ k. ItemsFrom ns k (i + width (get_or ns i nothing))) (omega arith) next.next)
 
 -- the same of nodes in any form, where the first one is x
 pub record NextNode {X : Type 0} (f : X → Mark) (xs : List X) (i place : ℕ) (x : X) : Type 0 where

@@ -25,9 +25,10 @@ impl<'t, 'i> Array<'t, 'i> {
     ghost use Rattle.std.specs.Prelude.{◌≡◌, ◌↔◌, IsTrue, option_map};
     ghost use Rattle.sj_text_core.specs.Find.{nth_item};
     ghost use Rattle.sj_text_core.specs.Tree.{no_items, listed};
-    ghost use Rattle.std.specs.Prelude.{map, IfSome};
+    ghost use Rattle.std.specs.Prelude.{◌<◌, map, IfSome};
     ghost use Rattle.sj_tape.specs.Value.{tree, choice};
     ghost use Rattle.sj_tape.specs.Items.{items, items_ahead, parts_ahead, array_choice};
+    ghost use Rattle.sj_tape.specs.Parts.{ItemsFrom};
 
     /// The array with so many items, whose nodes are these.
     #[inline(always)]
@@ -78,8 +79,21 @@ impl<'t, 'i> Array<'t, 'i> {
         if index >= self.len {
             return None;
         }
-        let mut behind = self.nodes.from(self.nodes.item_place(index));
+        let mut behind = self.nodes.from(self.place_of(index));
         Some(Value::take(&mut behind, 0, self.repeats))
+    }
+
+    /// The place of the item at that position among the nodes.
+    #[inline(always)]
+    fn place_of(&self, index: usize) -> usize
+        requires { index < items_len (items self.now) }
+        ensures { ItemsFrom (nodes_in self.now.nodes) index result }
+    {
+        // With as many nodes as items, each item is one node: none has to be passed.
+        if self.nodes.len() == self.len {
+            return index;
+        }
+        self.nodes.item_place(index)
     }
 }
 
