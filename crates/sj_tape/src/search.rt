@@ -1,6 +1,7 @@
 //! Lookups by key.
 
 ghost use Rattle.std.specs.Prelude.{◌≡◌, ◌+◌, ◌<◌, ◌≤◌, bytes_eq, length, option_map, Some, IfNone, IfSome};
+ghost use Rattle.std.specs.Option.{option_or};
 ghost use Rattle.sj_text_core.specs.Repeats.{find_member_by, visited_by};
 ghost use Rattle.sj_tape.specs.Lookup.{first_value, last_value, compared};
 ghost use Rattle.sj_tape.specs.Members.{members, object_choice, parts_ahead};
@@ -71,7 +72,29 @@ fn first_counted<'t, 'i, L: Ledger>(
     None
 }
 
-/// The value of the last member ahead with the key.
+/// The value of the last member with the key, among those ahead up to one whose value has another
+/// width; where none of these has it, the one that was found before. They are passed.
+fn last_wide<'t, 'i, L: Ledger>(
+    ahead: &mut Iter<'t, 'i>,
+    width: usize,
+    key: &[u8],
+    before: Option<Value<'t, 'i>>,
+    steps: &mut Steps<L>,
+) -> Option<Value<'t, 'i>>
+    ensures value { option_or (last_value key.now (parts_ahead ahead.new)) (option_map part result) ≡ option_or (last_value key.now (parts_ahead ahead.old)) (option_map part before.entry) }
+    ensures exact { steps.new + length (parts_ahead ahead.new) ≡ steps.old + length (parts_ahead ahead.old) }
+    ensures fewer { length (parts_ahead ahead.new) ≤ length (parts_ahead ahead.old) }
+{
+    let mut last = before;
+    while let Some((name, value)) = ahead.next_wide(width) {
+        if is_key(name, key, steps) {
+            last = Some(value);
+        }
+    }
+    last
+}
+
+/// The value of the last member ahead with the key, which is looked for in runs as the first one is.
 fn last_counted<'t, 'i, L: Ledger>(
     ahead: Iter<'t, 'i>,
     key: &[u8],
@@ -80,11 +103,18 @@ fn last_counted<'t, 'i, L: Ledger>(
     ensures value { option_map part result ≡ last_value key.now (parts_ahead ahead.entry) }
     ensures exact { steps.new ≡ steps.old + length (parts_ahead ahead.entry) }
 {
+    let mut ahead = ahead;
     let mut found = None;
-    for (name, value) in ahead {
+    let mut before = 0;
+    while let Some((name, value)) = ahead.next() {
+        let width = value.width();
         if is_key(name, key, steps) {
             found = Some(value);
         }
+        if width == before {
+            found = last_wide(&mut ahead, width, key, found, steps);
+        }
+        before = width;
     }
     found
 }

@@ -7,6 +7,9 @@ use Rattle.sj_tape.proofs.search.last_counted.Given as goal
 
 abbrev pub invariant-loop-name : goal.invariant-loop-name
 invariant-loop-name g l = record {
-  found : option_or (last_value l.key (parts_ahead l.name-iterator)) (option_map part l.found) ≡ last_value l.key (parts_ahead l.fn.ahead);
-  exact : l.steps + length (parts_ahead l.name-iterator) ≡ l.fn.steps + length (parts_ahead l.fn.ahead);
+  found : option_or (last_value l.key (parts_ahead l.ahead)) (option_map part l.found) ≡ last_value l.key (parts_ahead l.initial.ahead);
+  exact : l.steps + length (parts_ahead l.ahead) ≡ l.initial.steps + length (parts_ahead l.initial.ahead);
 }
+
+abbrev pub decreases-loop-name : goal.decreases-loop-name
+decreases-loop-name g l = length (parts_ahead l.ahead)
