@@ -1,15 +1,19 @@
 -- Where the items of an array begin among its nodes.
 use Rattle.std.specs.Prelude.{slice_get}
-use Rattle.std.proofs.Common.{◌≡◌, ℕ, Some, None, ◌++◌, zero, suc, ◌+◌, ◌-◌, ◌<◌, ◌≤◌, List, [], ◌∷◌, map, length, take, drop, get_or, refl, sym, ap, ◌∙◌, subst, arith}
-use Rattle.std.proofs.lemmas.List.{length-drop, length-map, get_or-drop, get_or-map, take-append-drop, drop-drop}
+use Rattle.std.proofs.Common.{◌≡◌, ℕ, Some, None, ◌++◌, zero, suc, ◌+◌, ◌-◌, ◌*◌, ◌<◌, ◌≤◌, List, [], ◌∷◌, map, length, take, drop, get_or, inl, inr, refl, sym, ap, ◌∙◌, subst, arith, length-append}
+use Rattle.std.proofs.lemmas.List.{length-drop, length-map, get_or_append_left, get_or-drop, get_or-map, take-append-drop, drop-drop}
 use Rattle.std.proofs.lemmas.Option.{slice_get_past}
-use Rattle.sj_text_core.specs.Tree.{Tree, Items, items_len, listed}
+use Rattle.std.proofs.Math.Seq.{get_or-append_seam}
+use Rattle.std.proofs.lemmas.Bool.{cases_lt}
+use Rattle.sj_text_core.specs.Tree.{Tree, Items, items_len, items_from, listed}
 use Rattle.sj_text_core.specs.Find.{nth_item}
-use Rattle.sj_text_core.specs.Nodes.{Mark, nothing, truth, number, string, array, object, width, tree_of, IsPreorder}
+use Rattle.sj_text_core.proofs.Shapes.{items_from-listed}
+use Rattle.sj_text_core.specs.Nodes.{Mark, nothing, width, flat_items, tree_of, IsPreorder}
 use Rattle.sj_tape.specs.Fronts.{BeginsTree}
 use Rattle.sj_tape.specs.Parts.{items_in, AreItemNodes, ItemsFrom}
+use Rattle.sj_tape.specs.Places.{ArePlaces, item_at}
 use Rattle.sj_tape.proofs.Compared.{length-listed}
-use Rattle.sj_tape.proofs.Splits.{first_width, BeginsTree-items, items_len-le, next_item, slice_get-listed}
+use Rattle.sj_tape.proofs.Splits.{some_width, first_width, BeginsTree-items, items_len-le, next_item, slice_get-listed}
 
 pub first_place : (ns : List Mark) → AreItemNodes ns → ItemsFrom ns 0 0
 first_place ns a = record { inside = omega arith; are = a; items = refl }
@@ -46,14 +50,6 @@ next_place ns i place n h more some =
       };
     }
 
-some_width : (m : Mark) → 1 ≤ width m
-some_width nothing = omega arith
-some_width (truth b) = omega arith
-some_width (number n c) = omega arith
-some_width (string s) = omega arith
-some_width (array len count) = omega arith
-some_width (object len count) = omega arith
-
 -- with as many nodes as items, each item is one node
 pub single_place : (ns : List Mark) → AreItemNodes ns → length ns ≡ items_len (items_in ns) → (i : ℕ) → i ≤ length ns → ItemsFrom ns i i
 single_place ns a one zero h = first_place ns a
@@ -66,8 +62,33 @@ single_place ns a one (suc i) h =
     let single : i + width (get_or ns i nothing) ≡ suc i = omega (arith, left, enough, next.fits, length-drop (i + width (get_or ns i nothing)) ns, some_width (get_or ns i nothing)) in
     subst (λ p. ItemsFrom ns (suc i) p) single (subst (λ k. ItemsFrom ns k (i + width (get_or ns i nothing))) (omega arith) next.next)
 
+-- an item begins where the widths in front of it end
+pub item_from : (ns : List Mark) → AreItemNodes ns → (i : ℕ) → i ≤ items_len (items_in ns) → ItemsFrom ns i (item_at ns i)
+unfolding item_at
+item_from ns a zero l = first_place ns a
+item_from ns a (suc i) l =
+    let next = next_place ns i (item_at ns i) (items_len (items_in ns)) (item_from ns a i (omega (arith, l))) (omega (arith, l)) (omega arith) in
+    subst (λ k. ItemsFrom ns k (item_at ns i + width (get_or ns (item_at ns i) nothing))) (omega arith) next.next
+
+-- an item begins at one place alone
+pub one_place : (ns : List Mark) (i p q : ℕ) → ItemsFrom ns i p → ItemsFrom ns i q → p ≡ q
+one_place ns i p q h k =
+    let same : items_in (drop p ns) ≡ items_in (drop q ns) = sym (items_from-listed (items_in (drop p ns))) ∙ ap items_from (h.items ∙ sym k.items) ∙ items_from-listed (items_in (drop q ns)) in
+    let long = ap (λ (ms : List Mark). length ms) (h.are ∙ ap flat_items same ∙ sym k.are) in
+    omega (arith, long, length-drop p ns, length-drop q ns, h.inside, k.inside)
+
+-- one place more is kept
+pub kept_with : (ns : List Mark) (places more : List ℕ) (place : ℕ) → more ≡ places ++ place ∷ [] → place ≡ item_at ns (length places * 64) → ArePlaces ns places → ArePlaces ns more
+kept_with ns places more place e here there j l = elim (cases_lt j (length places)) [
+  | inl low ↦ ap (λ ps. get_or ps j 0) e ∙ get_or_append_left places (place ∷ []) 0 j low ∙ there j low
+  | inr high ↦
+      let last : j ≡ length places = omega (arith, l, high, ap (λ (ps : List ℕ). length ps) e, length-append places (place ∷ [])) in
+      ap (λ ps. get_or ps j 0) e ∙ ap (λ k. get_or (places ++ place ∷ []) k 0) last ∙ get_or-append_seam places place [] 0 ∙ here ∙ ap (λ k. item_at ns (k * 64)) (sym last)
+]
+
 -- the same of nodes in any form, where the first one is x
 pub record NextNode {X : Type 0} (f : X → Mark) (xs : List X) (i place : ℕ) (x : X) : Type 0 where
+  pub there : width (get_or (map f xs) place nothing) ≡ width (f x)
   pub fits : place + width (f x) ≤ length xs
   pub next : ItemsFrom (map f xs) (i + 1) (place + width (f x))
 
@@ -77,6 +98,7 @@ next_node f xs i place n x e h more some =
     let long = length-map xs f in
     let node : width (get_or (map f xs) place nothing) ≡ width (f x) = ap width (get_or-map f xs place x nothing (omega (arith, next.inside, long)) ∙ ap f (sym e)) in
     record {
+      there = node;
       fits = omega (arith, next.fits, node, long);
       next = subst (λ w. ItemsFrom (map f xs) (i + 1) (place + w)) node next.next;
     }

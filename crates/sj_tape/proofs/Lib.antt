@@ -10,6 +10,7 @@ pub mod Fronts
 pub mod Gives
 pub mod Lookups
 pub mod Read
+pub mod Nested
 pub mod NodeMarks
 pub mod Overwrites
 pub mod PackedCounts

@@ -45,6 +45,14 @@ some_first xs b e f = grind (arith, nat_tests)
 pub IsPreorder-flat : (t : Tree) (ns : List Mark) → ns ≡ flat t → IsPreorder ns
 IsPreorder-flat t ns e = e ∙ (ap (λ u. flat u) (sym (tree_of-flat t)) ∙ ap (λ l. flat (tree_of l)) (sym e))
 
+pub some_width : (m : Mark) → 1 ≤ width m
+some_width nothing = omega arith
+some_width (truth b) = omega arith
+some_width (number n c) = omega arith
+some_width (string s) = omega arith
+some_width (array len count) = omega arith
+some_width (object len count) = omega arith
+
 -- what the first node tells where a tree begins
 pub record FirstWidth (ns : List Mark) : Type 0 where
   pub some : 0 < length ns

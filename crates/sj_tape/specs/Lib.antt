@@ -6,6 +6,7 @@ pub mod Room
 pub mod Run
 pub mod Lanes
 pub mod Parts
+pub mod Places
 pub mod Fronts
 pub mod Value
 pub mod Items

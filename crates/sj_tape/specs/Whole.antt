@@ -6,7 +6,7 @@ use Rattle.sj_tape.specs.declared.list.List.{List as Whole}
 use Rattle.sj_tape.specs.declared.list.List.TheVariants.{Packed, Plain}
 
 abbrev pub list_nodes : Whole → List Mark
-list_nodes (Packed ns) = packed_marks ns.items
+list_nodes (Packed ns) = packed_marks ns.nodes.items
 list_nodes (Plain ns) = marks ns.items
 
 -- without a tape, the one node of a null

@@ -35,17 +35,23 @@ pub(crate) trait Kept<'i>: Copy {
         ensures { result ≡ object_len (mark_of self.now) };
 }
 
-/// The place of the item at that position. Items of one width are passed in one run, in which the
-/// place of the next waits for no node.
+/// The place of the item at that position, from the one at an earlier position on. Items of one width
+/// are passed in one run, in which the place of the next waits for no node.
 #[inline(always)]
-pub(crate) fn item_place<'i, N: Kept<'i>>(nodes: &[N], position: usize) -> usize
-    requires are { AreItemNodes (map N.mark_of nodes.now) }
+pub(crate) fn item_place<'i, N: Kept<'i>>(
+    nodes: &[N],
+    passed: usize,
+    place: usize,
+    position: usize,
+) -> usize
+    requires from { ItemsFrom (map N.mark_of nodes.now) passed place }
+    requires before { passed ≤ position }
     requires some { position ≤ items_len (items_in (map N.mark_of nodes.now)) }
     requires fits { length nodes.now < 2 ^ 64 }
     ensures { ItemsFrom (map N.mark_of nodes.now) position result }
 {
-    let mut place = 0;
-    let mut passed = 0;
+    let mut place = place;
+    let mut passed = passed;
     while passed < position {
         let behind = pass_run(nodes, passed, place, position);
         passed = behind.0;
@@ -57,7 +63,7 @@ pub(crate) fn item_place<'i, N: Kept<'i>>(nodes: &[N], position: usize) -> usize
 /// Passes the item at that place, and those behind it that are as wide, up to that position: how
 /// many items are passed then, and where the next one begins.
 #[inline(always)]
-fn pass_run<'i, N: Kept<'i>>(
+pub(crate) fn pass_run<'i, N: Kept<'i>>(
     nodes: &[N],
     passed: usize,
     place: usize,

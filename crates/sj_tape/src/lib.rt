@@ -19,6 +19,7 @@
 #![tactic(auto)]
 
 pub mod array;
+mod item_places;
 mod kept;
 pub mod laws;
 mod list;

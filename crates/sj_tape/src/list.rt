@@ -1,14 +1,87 @@
 //! The nodes of a whole tape.
 
+ghost use Rattle.std.specs.Prelude.{◌≡◌, ◌≤◌, drop, take};
+ghost use Rattle.sj_text_core.specs.Nodes.{IsPreorder};
+ghost use Rattle.sj_text_core.specs.Tree.{items_len};
+ghost use Rattle.sj_tape.specs.Marks.{packed_marks};
+ghost use Rattle.sj_tape.specs.Parts.{AreItemNodes, ItemsFrom, items_in};
+ghost use Rattle.sj_tape.specs.Places.{AllPlaced};
+
+use crate::item_places::{ArrayPlaces, arrays_in, place_before};
 use crate::node::Node;
 use crate::packed::Packed;
+use std::alloc::Global;
 use std::fmt;
+
+/// Packed nodes, and places of items of the arrays among them.
+pub(crate) struct PackedList<'i> {
+    nodes: Vec<Packed<'i>>,
+    arrays: Vec<ArrayPlaces>,
+    ghost placed: { AllPlaced (packed_marks nodes.items) arrays.items },
+}
+
+impl<'i> PackedList<'i> {
+    /// The nodes, of whose arrays no places are kept.
+    pub(crate) fn new(alloc: Global, nodes: Vec<Packed<'i>>) -> PackedList<'i>
+        ensures { result.nodes ≡ nodes.entry }
+    {
+        PackedList {
+            nodes,
+            arrays: Vec::new(alloc),
+        }
+    }
+
+    /// The nodes of one tree, of whose large arrays places are kept. Where memory for these is refused,
+    /// fewer are kept, or none.
+    pub(crate) fn with_places(nodes: Vec<Packed<'i>>) -> PackedList<'i>
+        requires { IsPreorder (packed_marks nodes.items) }
+        ensures { result.nodes ≡ nodes.entry }
+    {
+        let arrays = arrays_in(*nodes.allocator(), &nodes);
+        PackedList { nodes, arrays }
+    }
+
+    /// The nodes.
+    #[inline(always)]
+    pub(crate) fn nodes(&self) -> &Vec<Packed<'i>>
+        ensures { result.now ≡ self.now.nodes }
+    {
+        &self.nodes
+    }
+
+    /// The position of an item, at most this one, and its place, where the nodes from `start` on and
+    /// before `end` are those of items.
+    pub(crate) fn place_before(&self, start: usize, end: usize, position: usize) -> (usize, usize)
+        requires are { AreItemNodes (drop start (take end (packed_marks self.now.nodes.items))) }
+        requires some { position ≤ items_len (items_in (drop start (take end (packed_marks self.now.nodes.items)))) }
+        ensures before { result.0 ≤ position }
+        ensures there { ItemsFrom (drop start (take end (packed_marks self.now.nodes.items))) result.0 result.1 }
+    {
+        place_before(&self.arrays, &self.nodes, start, end, position)
+    }
+
+    /// The nodes; the places are let go.
+    pub(crate) fn into_nodes(self) -> Vec<Packed<'i>> {
+        let PackedList { nodes, arrays: _ } = self;
+        nodes
+    }
+}
+
+/// One call lets both lists go, so that who lets a tape go sees one step.
+impl<'i> Drop for PackedList<'i> {
+    fn drop(self) {
+        let PackedList {
+            nodes: _,
+            arrays: _,
+        } = self;
+    }
+}
 
 /// How the nodes are kept: packed by the reader, or as a caller gave them, since a refusal hands
 /// them back and takes no memory.
 #[derive(Drop)]
 pub(crate) enum List<'i> {
-    Packed(Vec<Packed<'i>>),
+    Packed(PackedList<'i>),
     Plain(Vec<Node<'i>>),
 }
 
@@ -21,7 +94,7 @@ impl<'i> List<'i> {
         ensures { result ≡ length (list_nodes self.now) }
     {
         match self {
-            List::Packed(nodes) => nodes.len(),
+            List::Packed(list) => list.nodes.len(),
             List::Plain(nodes) => nodes.len(),
         }
     }
@@ -30,7 +103,7 @@ impl<'i> List<'i> {
 impl<'i> fmt::Debug for List<'i> {
     fn fmt<W: fmt::Write>(&self, f: &mut fmt::Formatter<W>) -> fmt::Result {
         match self {
-            List::Packed(nodes) => f.debug_list().entries(nodes.iter()).finish(),
+            List::Packed(list) => f.debug_list().entries(list.nodes.iter()).finish(),
             List::Plain(nodes) => f.debug_list().entries(nodes.iter()).finish(),
         }
     }

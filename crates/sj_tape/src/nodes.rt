@@ -60,7 +60,7 @@ impl<'t, 'i> Nodes<'t, 'i> {
         ensures { IfNone result (all_nodes self.now.lists.now ≡ nothing ∷ []) }
     {
         match self.lists.first()? {
-            List::Packed(nodes) => Some(*nodes.allocator()),
+            List::Packed(list) => Some(*list.nodes().allocator()),
             List::Plain(nodes) => Some(*nodes.allocator()),
         }
     }
@@ -71,7 +71,7 @@ impl<'t, 'i> Nodes<'t, 'i> {
         ensures { IfSome result (λ p. packed_marks p.now ≡ nodes_in self.now) }
     {
         match self.lists.first()? {
-            List::Packed(nodes) => Some(between(nodes.as_slice(), self.from, self.end)),
+            List::Packed(list) => Some(between(list.nodes().as_slice(), self.from, self.end)),
             List::Plain(_) => None,
         }
     }
@@ -99,7 +99,7 @@ impl<'t, 'i> Nodes<'t, 'i> {
         ensures { mark result ≡ get_or (nodes_in self.now) place nothing }
     {
         match self.lists.first() {
-            Some(List::Packed(nodes)) => kept_at(nodes.as_slice(), self.from + place).node(),
+            Some(List::Packed(list)) => kept_at(list.nodes().as_slice(), self.from + place).node(),
             Some(List::Plain(nodes)) => kept_at(nodes.as_slice(), self.from + place).node(),
             None => Node::Static(StaticNode::Null),
         }
@@ -112,7 +112,7 @@ impl<'t, 'i> Nodes<'t, 'i> {
         ensures { option_map (λ s. s.now) result ≡ text_in (get_or (nodes_in self.now) place nothing) }
     {
         match self.lists.first() {
-            Some(List::Packed(nodes)) => kept_at(nodes.as_slice(), self.from + place).text(),
+            Some(List::Packed(list)) => kept_at(list.nodes().as_slice(), self.from + place).text(),
             Some(List::Plain(nodes)) => kept_at(nodes.as_slice(), self.from + place).text(),
             None => None,
         }
@@ -125,7 +125,7 @@ impl<'t, 'i> Nodes<'t, 'i> {
         ensures { result ≡ array_len (get_or (nodes_in self.now) 0 nothing) }
     {
         match self.lists.first() {
-            Some(List::Packed(nodes)) => kept_at(nodes.as_slice(), self.from).array_len(),
+            Some(List::Packed(list)) => kept_at(list.nodes().as_slice(), self.from).array_len(),
             Some(List::Plain(nodes)) => kept_at(nodes.as_slice(), self.from).array_len(),
             None => None,
         }
@@ -138,7 +138,7 @@ impl<'t, 'i> Nodes<'t, 'i> {
         ensures { result ≡ object_len (get_or (nodes_in self.now) 0 nothing) }
     {
         match self.lists.first() {
-            Some(List::Packed(nodes)) => kept_at(nodes.as_slice(), self.from).object_len(),
+            Some(List::Packed(list)) => kept_at(list.nodes().as_slice(), self.from).object_len(),
             Some(List::Plain(nodes)) => kept_at(nodes.as_slice(), self.from).object_len(),
             None => None,
         }
@@ -164,7 +164,7 @@ impl<'t, 'i> Nodes<'t, 'i> {
         ensures { result ≡ width (get_or (nodes_in self.now) place nothing) }
     {
         match self.lists.first() {
-            Some(List::Packed(nodes)) => kept_at(nodes.as_slice(), self.from + place).width(),
+            Some(List::Packed(list)) => kept_at(list.nodes().as_slice(), self.from + place).width(),
             Some(List::Plain(nodes)) => Kept::width(kept_at(nodes.as_slice(), self.from + place)),
             None => 1,
         }
@@ -178,11 +178,18 @@ impl<'t, 'i> Nodes<'t, 'i> {
         ensures { ItemsFrom (nodes_in self.now) position result }
     {
         match self.lists.first() {
-            Some(List::Packed(nodes)) => {
-                item_place(between(nodes.as_slice(), self.from, self.end), position)
+            Some(List::Packed(list)) => {
+                let nodes = between(list.nodes().as_slice(), self.from, self.end);
+                let (passed, place) = list.place_before(self.from, self.end, position);
+                item_place(nodes, passed, place, position)
             }
             Some(List::Plain(nodes)) => {
-                item_place(between(nodes.as_slice(), self.from, self.end), position)
+                item_place(
+                    between(nodes.as_slice(), self.from, self.end),
+                    0,
+                    0,
+                    position,
+                )
             }
             None => position,
         }

@@ -1,6 +1,6 @@
 //! Tapes.
 
-use crate::list::List;
+use crate::list::{List, PackedList};
 use crate::node::Node;
 use crate::nodes::Nodes;
 use crate::packed::Packed;
@@ -59,20 +59,34 @@ impl<'i> Tape<'i> {
         }
     }
 
-    /// The tape of packed nodes that are a preorder.
+    /// The tape of packed nodes that are a preorder. It takes no memory.
     pub(crate) fn from_packed(nodes: Vec<Packed<'i>>) -> Tape<'i>
         requires { IsPreorder (packed_marks nodes.items) }
         ensures { result ≡ tree_of (packed_marks nodes.entry.items) }
     {
+        let alloc = *nodes.allocator();
         Tape {
-            nodes: List::Packed(nodes),
+            nodes: List::Packed(PackedList::new(alloc, nodes)),
+        }
+    }
+
+    /// The tape of packed nodes that are a preorder, with places of items of its large arrays, where
+    /// memory for them is given.
+    pub(crate) fn with_places(nodes: Vec<Packed<'i>>) -> Tape<'i>
+        requires { IsPreorder (packed_marks nodes.items) }
+        ensures { result ≡ tree_of (packed_marks nodes.entry.items) }
+    {
+        Tape {
+            nodes: List::Packed(PackedList::with_places(nodes)),
         }
     }
 
     /// Its memory, for the next one. That of nodes of a caller's own is let go.
     pub fn into_spare(self, alloc: Global) -> Spare<'i> {
         match self.nodes {
-            List::Packed(nodes) => Spare { nodes },
+            List::Packed(list) => Spare {
+                nodes: list.into_nodes(),
+            },
             List::Plain(_) => Spare::new(alloc),
         }
     }

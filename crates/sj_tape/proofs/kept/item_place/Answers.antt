@@ -1,10 +1,6 @@
 use Rattle.std.proofs.Common.{◌≡◌, map, arith, subst}
 use Rattle.sj_tape.specs.Parts.{ItemsFrom}
-use Rattle.sj_tape.proofs.ItemPlaces.{first_place}
 use Rattle.sj_tape.proofs.kept.item_place.Goals as goal
-
-pub loop-passed-init : goal.loop-passed-init
-loop-passed-init g c = record { from = first_place (map g.N.Kept.mark_of c.args.nodes.now) c.requires.are; within = omega arith }
 
 pub returns : goal.returns
 returns g c =

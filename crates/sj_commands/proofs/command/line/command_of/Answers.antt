@@ -10,9 +10,18 @@ use Rattle.sj_commands.specs.CommandLines.{IsCommandOf, command_in}
 use Rattle.sj_commands.specs.Meant.{command_meant}
 use Rattle.sj_commands.specs.Parts.{kept}
 use Rattle.sj_commands.specs.declared.command.Command.{Command}
-use Rattle.sj_commands.proofs.CommandLemmas.{reads_one, reads_bad, reads_bad_only}
+use Rattle.sj_commands.proofs.CommandLemmas.{reads_tree, reads_one, reads_bad, reads_bad_only}
 use Rattle.sj_text_core.proofs.Unread.{unreadable}
 use Rattle.sj_commands.proofs.command.line.command_of.Goals as goal
+
+pub returns-in-Ok-clause-is : goal.returns-in-Ok-clause-is
+returns-in-Ok-clause-is c =
+    let b = c.args.line.now in
+    let read = c.in-Ok.ensures in
+    let t = kept (part c.as_value.result) in
+    let same : t ≡ keep c.in-Ok.tape = λ i. keep_by (c.as_value.ensures.choice i) (c.as_value.ensures.tree i) in
+    IfOk-weaker c.command_in.result (λ (x : Command). command_meant x ≡ command_in t) (λ (x : Command). IsCommandOf b (command_meant x))
+    (λ x h. reads_tree b t c.in-Ok.tape (command_meant x) read.spelled read.within same h) c.command_in.ensures
 
 pub returns-in-Ok-clause-only : goal.returns-in-Ok-clause-only
 returns-in-Ok-clause-only c =

@@ -1,0 +1,40 @@
+-- Trees and arrays that stand among the nodes of a tree.
+use Rattle.std.proofs.Common.{◌≡◌, Some, ℕ, zero, suc, ◌+◌, ◌<◌, ◌≤◌, List, [], ◌∷◌, length, take, drop, get_or, sym, ap, ◌∙◌, subst, arith}
+use Rattle.std.proofs.lemmas.List.{get_or-drop, get_or-take, drop-drop}
+use Rattle.sj_text_core.specs.Tree.{items_len}
+use Rattle.sj_text_core.specs.Nodes.{Mark, nothing, width, IsPreorder}
+use Rattle.sj_tape.specs.Fronts.{BeginsTree, AllBegin}
+use Rattle.sj_tape.specs.Marks.{array_len}
+use Rattle.sj_tape.specs.Parts.{AreItemNodes, items_in}
+use Rattle.sj_tape.proofs.Containers.{array_of}
+use Rattle.sj_tape.proofs.Preorders.{AllBegin-preorder}
+use Rattle.sj_tape.proofs.Splits.{tree_at, some_width}
+
+begins_at : (ns : List Mark) → AllBegin ns → (at : ℕ) → at < length ns → BeginsTree (drop at ns)
+begins_at [] a at l = absurd (omega (arith, l))
+begins_at (m ∷ ns) a zero l = a.0
+begins_at (m ∷ ns) a (suc at) l = begins_at ns a.1 at (omega (arith, l))
+
+-- the tree that begins at a node
+pub record TreeIn (ns : List Mark) (at : ℕ) : Type 0 where
+  pub wide : 1 ≤ width (get_or ns at nothing)
+  pub fits : at + width (get_or ns at nothing) ≤ length ns
+  pub whole : IsPreorder (drop at (take (at + width (get_or ns at nothing)) ns))
+
+pub tree_in : (ns : List Mark) (at : ℕ) → IsPreorder ns → at < length ns → TreeIn ns at
+tree_in ns at p l = let tree = tree_at at ns (begins_at ns (AllBegin-preorder ns p) at l) in record { wide = some_width (get_or ns at nothing); fits = tree.fits; whole = tree.whole }
+
+-- what stands behind an array's node among others
+pub record ArrayAt (ns : List Mark) (at w len : ℕ) : Type 0 where
+  pub are : AreItemNodes (drop (at + 1) (take (at + w) ns))
+  pub counted : len ≡ items_len (items_in (drop (at + 1) (take (at + w) ns)))
+
+pub array_there : (ns : List Mark) (at w len : ℕ) → TreeIn ns at → w ≡ width (get_or ns at nothing) → Some len ≡ array_len (get_or ns at nothing) → ArrayAt ns at w len
+array_there ns at w len tree wide e =
+    let part = drop at (take (at + w) ns) in
+    let whole : IsPreorder part = subst (λ n. IsPreorder (drop at (take (at + n) ns))) (sym wide) tree.whole in
+    let first : get_or part 0 nothing ≡ get_or ns at nothing =
+    get_or-drop at (take (at + w) ns) 0 nothing ∙ ap (λ k. get_or (take (at + w) ns) k nothing) (omega arith) ∙ get_or-take (at + w) ns at nothing (omega (arith, wide, tree.wide)) in
+    let behind : drop (at + 1) (take (at + w) ns) ≡ drop 1 part = ap (λ k. drop k (take (at + w) ns)) (omega arith) ∙ sym (drop-drop 1 at (take (at + w) ns)) in
+    let of = array_of part (drop (at + 1) (take (at + w) ns)) len whole (e ∙ ap array_len (sym first)) behind in
+    record { are = of.are; counted = of.counted }
