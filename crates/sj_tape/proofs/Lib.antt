@@ -25,7 +25,10 @@ pub mod Sixteens
 pub mod Sound
 pub mod Splits
 pub mod ItemPlaces
+pub mod MemberPlaces
 pub mod Stretched
+pub mod Tagged
+pub mod Tags
 pub mod Texts
 pub mod Units
 pub mod Values

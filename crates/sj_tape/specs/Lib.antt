@@ -7,6 +7,7 @@ pub mod Run
 pub mod Lanes
 pub mod Parts
 pub mod Places
+pub mod Tags
 pub mod Fronts
 pub mod Value
 pub mod Items

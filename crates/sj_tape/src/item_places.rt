@@ -8,20 +8,9 @@ ghost use Rattle.sj_tape.specs.Parts.{AreItemNodes, ItemsFrom, items_in};
 ghost use Rattle.sj_tape.specs.Places.{AllPlaced, ArePlaces, IsPlaced};
 
 use crate::kept::{Kept, between, item_place, kept_at, pass_run};
+use crate::large_parts::{MANY, STEP};
 use crate::packed::Packed;
 use std::alloc::Global;
-
-/// How many items an array has at least of which places are kept.
-const MANY: usize = 256;
-
-/// Of how many items the place of one is kept.
-const STEP: usize = 64;
-
-/// Of how many arrays places are kept at most.
-const MOST: usize = 64;
-
-/// How many members an object has at most in which arrays are looked for.
-const FEW: usize = 64;
 
 /// The places of some items of an array, counted from the first item's.
 #[derive(Drop)]
@@ -112,7 +101,7 @@ fn places_of<'i, N: Kept<'i>>(alloc: Global, nodes: &[N], len: usize) -> Vec<usi
 
 /// The places of the array that begins with the node there, where it has many items that are not
 /// scalars alone.
-fn array_at(alloc: Global, nodes: &[Packed<'_>], at: usize) -> Option<ArrayPlaces>
+pub(crate) fn array_at(alloc: Global, nodes: &[Packed<'_>], at: usize) -> Option<ArrayPlaces>
     requires tree { IsPreorder (packed_marks nodes.now) }
     requires at { at < length (packed_marks nodes.now) }
     ensures { IfSome result (λ a. IsPlaced (packed_marks nodes.now) a) }
@@ -126,43 +115,4 @@ fn array_at(alloc: Global, nodes: &[Packed<'_>], at: usize) -> Option<ArrayPlace
     }
     let places = places_of(alloc, between(nodes, start, end), len);
     Some(ArrayPlaces { start, end, places })
-}
-
-/// The places of items of the arrays of many that stand in nothing but objects of few members. Where
-/// memory is refused, those of fewer arrays, or none.
-pub(crate) fn arrays_in(alloc: Global, nodes: &[Packed<'_>]) -> Vec<ArrayPlaces>
-    requires { IsPreorder (packed_marks nodes.now) }
-    ensures { AllPlaced (packed_marks nodes.now) result.items }
-{
-    let mut arrays = Vec::new(alloc);
-    let mut at = 0;
-    while at < nodes.len() && arrays.len() < MOST {
-        if let Some(array) = array_at(alloc, nodes, at) {
-            if arrays.push(array).is_err() {
-                return arrays;
-            }
-        }
-        at += step_at(nodes, at);
-    }
-    arrays
-}
-
-/// Whether the node is of an object of few members that may hold an array of many items.
-fn is_open(node: &Packed<'_>, width: usize) -> bool {
-    match node.object_len() {
-        Some(len) => len <= FEW && width > MANY,
-        None => false,
-    }
-}
-
-/// How many nodes to go on from one: into an object that is open, else past the tree.
-fn step_at(nodes: &[Packed<'_>], at: usize) -> usize
-    requires tree { IsPreorder (packed_marks nodes.now) }
-    requires at { at < length (packed_marks nodes.now) }
-    ensures some { 0 < result }
-    ensures within { at + result ≤ length (packed_marks nodes.now) }
-{
-    let node = kept_at(nodes, at);
-    let width = node.width();
-    if is_open(node, width) { 1 } else { width }
 }

@@ -21,6 +21,8 @@
 pub mod array;
 mod item_places;
 mod kept;
+mod key_tags;
+mod large_parts;
 pub mod laws;
 mod list;
 mod node;

@@ -1,44 +1,54 @@
 //! The nodes of a whole tape.
 
-ghost use Rattle.std.specs.Prelude.{◌≡◌, ◌≤◌, drop, take};
+ghost use Rattle.std.specs.Prelude.{◌≡◌, ◌≤◌, drop, take, IfSome};
 ghost use Rattle.sj_text_core.specs.Nodes.{IsPreorder};
 ghost use Rattle.sj_text_core.specs.Tree.{items_len};
 ghost use Rattle.sj_tape.specs.Marks.{packed_marks};
 ghost use Rattle.sj_tape.specs.Parts.{AreItemNodes, ItemsFrom, items_in};
 ghost use Rattle.sj_tape.specs.Places.{AllPlaced};
+ghost use Rattle.sj_tape.specs.Tags.{AllTagged, IsTagged};
 
-use crate::item_places::{ArrayPlaces, arrays_in, place_before};
+use crate::item_places::{ArrayPlaces, place_before};
+use crate::key_tags::{KeyTags, tags_of_object};
+use crate::large_parts::kept_in;
 use crate::node::Node;
 use crate::packed::Packed;
 use std::alloc::Global;
 use std::fmt;
 
-/// Packed nodes, and places of items of the arrays among them.
+/// Packed nodes, places of items of the arrays among them, and tags of keys of the objects.
 pub(crate) struct PackedList<'i> {
     nodes: Vec<Packed<'i>>,
     arrays: Vec<ArrayPlaces>,
+    objects: Vec<KeyTags>,
     ghost placed: { AllPlaced (packed_marks nodes.items) arrays.items },
+    ghost tagged: { AllTagged (packed_marks nodes.items) objects.items },
 }
 
 impl<'i> PackedList<'i> {
-    /// The nodes, of whose arrays no places are kept.
+    /// The nodes, without places and tags.
     pub(crate) fn new(alloc: Global, nodes: Vec<Packed<'i>>) -> PackedList<'i>
         ensures { result.nodes ≡ nodes.entry }
     {
         PackedList {
             nodes,
             arrays: Vec::new(alloc),
+            objects: Vec::new(alloc),
         }
     }
 
-    /// The nodes of one tree, of whose large arrays places are kept. Where memory for these is refused,
-    /// fewer are kept, or none.
+    /// The nodes of one tree, with places of its large arrays and tags of its large objects. Where memory
+    /// for these is refused, fewer are kept, or none.
     pub(crate) fn with_places(nodes: Vec<Packed<'i>>) -> PackedList<'i>
         requires { IsPreorder (packed_marks nodes.items) }
         ensures { result.nodes ≡ nodes.entry }
     {
-        let arrays = arrays_in(*nodes.allocator(), &nodes);
-        PackedList { nodes, arrays }
+        let (arrays, objects) = kept_in(*nodes.allocator(), &nodes);
+        PackedList {
+            nodes,
+            arrays,
+            objects,
+        }
     }
 
     /// The nodes.
@@ -60,19 +70,32 @@ impl<'i> PackedList<'i> {
         place_before(&self.arrays, &self.nodes, start, end, position)
     }
 
-    /// The nodes; the places are let go.
+    /// The tags that are kept of the object whose members' nodes are those from `start` on and before
+    /// `end`; None where there are none.
+    pub(crate) fn key_tags(&self, start: usize, end: usize) -> Option<&KeyTags>
+        ensures { IfSome result (λ k. IsTagged (drop start (take end (packed_marks self.now.nodes.items))) k.now) }
+    {
+        tags_of_object(&self.objects, &self.nodes, start, end)
+    }
+
+    /// The nodes; the places and tags are let go.
     pub(crate) fn into_nodes(self) -> Vec<Packed<'i>> {
-        let PackedList { nodes, arrays: _ } = self;
+        let PackedList {
+            nodes,
+            arrays: _,
+            objects: _,
+        } = self;
         nodes
     }
 }
 
-/// One call lets both lists go, so that who lets a tape go sees one step.
+/// One call lets all lists go, so that who lets a tape go sees one step.
 impl<'i> Drop for PackedList<'i> {
     fn drop(self) {
         let PackedList {
             nodes: _,
             arrays: _,
+            objects: _,
         } = self;
     }
 }

@@ -5,6 +5,7 @@ ghost use Rattle.std.specs.Prelude.{◌≤◌, ◌<◌, ◌^◌, length};
 ghost use Rattle.sj_tape.specs.Whole.{all_nodes};
 
 use crate::kept::{Kept, between, item_place, kept_at};
+use crate::key_tags::KeyTags;
 use crate::list::List;
 use crate::node::Node;
 use crate::packed::Packed;
@@ -31,6 +32,7 @@ impl<'t, 'i> Nodes<'t, 'i> {
     ghost use Rattle.sj_tape.specs.Whole.{list_nodes};
     ghost use Rattle.sj_text_core.specs.Tree.{items_len};
     ghost use Rattle.sj_tape.specs.Parts.{AreItemNodes, ItemsFrom, items_in};
+    ghost use Rattle.sj_tape.specs.Tags.{IsTagged};
 
     /// The one node of a null.
     pub(crate) fn null() -> Nodes<'t, 'i>
@@ -192,6 +194,17 @@ impl<'t, 'i> Nodes<'t, 'i> {
                 )
             }
             None => position,
+        }
+    }
+
+    /// The tags that are kept of an object's keys, whose members have these nodes; None where there are
+    /// none.
+    pub(crate) fn key_tags(&self) -> Option<&'t KeyTags>
+        ensures { IfSome result (λ k. IsTagged (nodes_in self.now) k.now) }
+    {
+        match self.lists.first()? {
+            List::Packed(list) => list.key_tags(self.from, self.end),
+            List::Plain(_) => None,
         }
     }
 

@@ -7,6 +7,8 @@ ghost use Rattle.sj_text_core.specs.Nodes.{AreMembers, members_in};
 ghost use Rattle.sj_text_core.specs.Tree.{members_len};
 ghost use Rattle.sj_tape.specs.Stretches.{nodes_in};
 
+use crate::key_tags::KeyTags;
+use crate::large_parts::MANY;
 use crate::nodes::Nodes;
 use crate::value::Value;
 use sj_text_core::{Repeats, are_same_texts};
@@ -22,13 +24,14 @@ pub struct Object<'t, 'i> {
 }
 
 impl<'t, 'i> Object<'t, 'i> {
-    ghost use Rattle.std.specs.Prelude.{◌≡◌, ◌↔◌, ℕ, List, IsTrue, IfSome, map, drop, option_map};
+    ghost use Rattle.std.specs.Prelude.{◌≡◌, ◌≤◌, ◌↔◌, ℕ, List, IsTrue, IfSome, length, map, drop, option_map};
     ghost use Rattle.sj_text_core.specs.Agree.{is_before, texts};
     ghost use Rattle.sj_text_core.specs.Find.{find_member};
     ghost use Rattle.sj_text_core.specs.Keep.{is_seen};
     ghost use Rattle.sj_text_core.specs.Repeats.{find_member_by};
     ghost use Rattle.sj_text_core.specs.Tree.{Tree, no_members, paired};
     ghost use Rattle.sj_tape.specs.Members.{members, members_ahead, keys_ahead, values_ahead, object_choice, parts_ahead, value_parts_ahead, chosen};
+    ghost use Rattle.sj_tape.specs.Tags.{IsTagged};
     ghost use Rattle.sj_tape.specs.Value.{tree, choice};
 
     /// The object with so many members, whose nodes are these.
@@ -69,6 +72,32 @@ impl<'t, 'i> Object<'t, 'i> {
         Iter {
             nodes: self.nodes,
             repeats: self.repeats,
+        }
+    }
+
+    /// The members from the one on whose nodes begin at that place.
+    pub(crate) fn iter_from(&self, place: usize) -> Iter<'t, 'i>
+        requires inside { place ≤ length (nodes_in self.now.nodes) }
+        requires are { AreMembers (drop place (nodes_in self.now.nodes)) }
+        ensures { parts_ahead result ≡ chosen (object_choice self.now) (paired (members_in (drop place (nodes_in self.now.nodes)))) }
+    {
+        Iter {
+            nodes: self.nodes.from(place),
+            repeats: self.repeats,
+        }
+    }
+
+    /// The tags that are kept of the keys, where the first member of a key counts; else None.
+    pub(crate) fn key_tags(&self) -> Option<&'t KeyTags>
+        ensures tagged { IfSome result (λ k. IsTagged (nodes_in self.now.nodes) k.now) }
+        ensures first { IfSome result (λ _. object_choice self.now ≡ Repeats.First) }
+    {
+        if self.len < MANY {
+            return None;
+        }
+        match self.repeats {
+            Repeats::First => self.nodes.key_tags(),
+            Repeats::Last => None,
         }
     }
 

@@ -31,7 +31,7 @@ pub const DEPTH_LIMIT: usize = 1024;
 
 /// Reads one text (RFC 8259 without fractions and exponents). The texts of the tape lie in the
 /// bytes, where an escape is written over by what it stands for. Of large arrays the tape keeps the
-/// places of some items too, where memory for them is given.
+/// places of some items too, and of large objects tags of their keys, where memory for these is given.
 ///
 /// Refused as `InvalidUtf8` exactly where the bytes are not UTF-8, before any memory is asked
 /// for. `Syntax`, `LoneSurrogate`, `Float`, `NumberTooLarge` and `TooDeep` come only where the
@@ -71,7 +71,7 @@ pub fn to_tape_with_buffers<'i>(
 }
 
 /// Reads as `to_tape` does, into the memory of a tape that is done with, which grows where it is too
-/// small. The tape keeps no places of items. A refusal hands the memory back.
+/// small. The tape keeps neither places of items nor tags. A refusal hands the memory back.
 pub fn to_tape_with_spare<'i>(
     bytes: &'i mut [u8],
     spare: Spare<'i>,

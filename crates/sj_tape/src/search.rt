@@ -7,7 +7,10 @@ ghost use Rattle.sj_tape.specs.Lookup.{first_value, last_value, compared};
 ghost use Rattle.sj_tape.specs.Members.{members, object_choice, parts_ahead};
 ghost use Rattle.sj_tape.specs.Value.{tree, choice, part};
 
+mod tagged;
+
 use crate::object::{Iter, Object};
+use crate::search::tagged::first_tagged;
 use crate::value::Value;
 use sj_text_core::{Repeats, Steps, are_same_bytes};
 use std::marker::Brand;
@@ -138,7 +141,7 @@ pub(crate) fn find_counted<'t, 'i, L: Ledger>(
 impl<'t, 'i> Object<'t, 'i> {
     ghost use Rattle.sj_tape.specs.Members.{members};
 
-    /// The same, where nobody reads the steps.
+    /// The same, where nobody reads the steps; by the tags of its keys, where they are kept.
     fn find_blank<L: Ledger>(&self, key: &[u8], blank: Blank) -> Option<Value<'t, 'i>>
         requires name { blank.name ≡ L.name }
         requires parts { blank.parts ≡ L.parts }
@@ -147,7 +150,10 @@ impl<'t, 'i> Object<'t, 'i> {
         ensures choice { IfSome result (λ v. choice v ≡ object_choice self.now) }
     {
         let mut steps = Steps::<L>::new(blank);
-        find_counted(self, key, &mut steps)
+        match self.key_tags() {
+            Some(kept) => first_tagged(self, kept, key, &mut steps),
+            None => find_counted(self, key, &mut steps),
+        }
     }
 
     /// The value of the member with the key that counts.

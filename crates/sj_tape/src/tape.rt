@@ -70,8 +70,8 @@ impl<'i> Tape<'i> {
         }
     }
 
-    /// The tape of packed nodes that are a preorder, with places of items of its large arrays, where
-    /// memory for them is given.
+    /// The tape of packed nodes that are a preorder, with places of items of its large arrays and tags of
+    /// the keys of its large objects, where memory for these is given.
     pub(crate) fn with_places(nodes: Vec<Packed<'i>>) -> Tape<'i>
         requires { IsPreorder (packed_marks nodes.items) }
         ensures { result ≡ tree_of (packed_marks nodes.entry.items) }

@@ -1,11 +1,13 @@
 use Rattle.std.proofs.Common.{◌-◌, ◌≤◌, length}
 use Rattle.sj_tape.specs.Marks.{packed_marks}
 use Rattle.sj_tape.specs.Places.{AllPlaced}
-use Rattle.sj_tape.proofs.item_places.arrays_in.Given as goal
+use Rattle.sj_tape.specs.Tags.{AllTagged}
+use Rattle.sj_tape.proofs.large_parts.kept_in.Given as goal
 
 abbrev pub invariant-loop-at : goal.invariant-loop-at
 invariant-loop-at l = record {
   placed : AllPlaced (packed_marks l.nodes) l.arrays.items;
+  tagged : AllTagged (packed_marks l.nodes) l.objects.items;
   within : l.at ≤ length l.nodes;
 }
 

@@ -3,7 +3,7 @@ use Rattle.std.proofs.lemmas.List.{length-map}
 use Rattle.sj_text_core.specs.Nodes.{width}
 use Rattle.sj_tape.specs.Marks.{packed_mark, packed_marks}
 use Rattle.sj_tape.proofs.Nested.{tree_in}
-use Rattle.sj_tape.proofs.item_places.step_at.Goals as goal
+use Rattle.sj_tape.proofs.large_parts.step_at.Goals as goal
 
 pub width-width-requires : goal.width-width-requires
 width-width-requires c =

@@ -1,0 +1,7 @@
+use Rattle.std.proofs.Common.{rules}
+use Rattle.sj_tape.specs.Tags.{half_word}
+use Rattle.sj_tape.proofs.key_tags.half_word_at.Goals as goal
+
+pub returns : goal.returns
+unfolding half_word
+returns c = search rules

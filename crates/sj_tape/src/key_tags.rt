@@ -1,0 +1,268 @@
+//! Tags of keys that are kept beside the nodes, so that a look-up passes most members unseen.
+
+ghost use Rattle.std.specs.Prelude.{◌≡◌, ◌+◌, ◌<◌, ◌≤◌, ◌%◌, ◌^◌, length, get_or, drop, take, IfSome};
+ghost use Rattle.sj_text_core.specs.Hash.{hash};
+ghost use Rattle.sj_text_core.specs.Nodes.{AreMembers, IsPreorder, members_in, nothing, width as node_width};
+ghost use Rattle.sj_text_core.specs.Tree.{members_len};
+ghost use Rattle.sj_tape.specs.Marks.{packed_marks};
+ghost use Rattle.sj_tape.specs.Tags.{AllTagged, AreTags, IsTagged, MembersFrom, half_word, has_tag, key_tag, mixed, tag, word};
+
+use crate::kept::{Kept, between, kept_at};
+use crate::large_parts::{MANY, STEP};
+use crate::packed::Packed;
+use std::alloc::Global;
+
+/// How many nodes a member has on an average, its key's too, where tags are kept. Narrower ones are
+/// searched fast without, and are read so fast that tags would cost a fourth of it.
+const WIDE: usize = 4;
+
+/// The tags of the keys of an object's first members, the places of some of these, counted from the
+/// first one's, and where the members behind them begin.
+#[derive(Drop)]
+pub(crate) struct KeyTags {
+    pub(crate) start: usize,
+    pub(crate) end: usize,
+    pub(crate) tags: Vec<u16>,
+    pub(crate) places: Vec<usize>,
+    pub(crate) rest: usize,
+}
+
+/// The eight bytes at a position, as one word.
+#[inline]
+fn word_at(bytes: &[u8], at: usize) -> u64
+    requires { at + 8 ≤ length bytes.now }
+    ensures { result ≡ word at bytes.now }
+{
+    let Some((word, _)) = bytes[at..].split_first_chunk::<8>() else {
+        unreachable!();
+    };
+    u64::from_le_bytes(*word)
+}
+
+/// The four bytes at a position, as one word.
+#[inline]
+fn half_word_at(bytes: &[u8], at: usize) -> u64
+    requires { at + 4 ≤ length bytes.now }
+    ensures { result ≡ half_word at bytes.now }
+{
+    let Some((word, _)) = bytes[at..].split_first_chunk::<4>() else {
+        unreachable!();
+    };
+    u64::from(u32::from_le_bytes(*word))
+}
+
+/// The tag of a text below four bytes.
+fn tag_of_few(text: &[u8]) -> u16
+    ensures { result ≡ hash text.now % 2 ^ 16 }
+{
+    let mut sum = 0u64;
+    for byte in text {
+        sum = sum.wrapping_mul(31).wrapping_add(u64::from(*byte));
+    }
+    (sum % 65_536) as u16
+}
+
+/// Two words as sixteen bits: they are multiplied by odd numbers without a pattern, and the highest
+/// bits of the product kept.
+#[inline]
+fn mix(first: u64, last: u64) -> u16
+    ensures { result ≡ mixed first last }
+{
+    let words = first.wrapping_mul(0x9e37_79b9_7f4a_7c15).wrapping_add(last);
+    (words.wrapping_mul(0xd6e8_feb8_6659_fd93) >> 48) as u16
+}
+
+/// The tag of a text: a number of its first eight bytes and its last, or of all where they are fewer.
+#[inline]
+pub(crate) fn tag_of(text: &[u8]) -> u16
+    ensures { result ≡ tag text.now }
+{
+    let len = text.len();
+    if len >= 8 {
+        return mix(word_at(text, 0), word_at(text, len - 8));
+    }
+    if len >= 4 {
+        return mix(half_word_at(text, 0), half_word_at(text, len - 4));
+    }
+    tag_of_few(text)
+}
+
+/// Whether one of the tags is that one.
+// It goes on behind it, so that several are compared at once.
+pub(crate) fn is_among(tag: u16, tags: &[u16]) -> bool
+    ensures { result ≡ has_tag tag tags.now }
+{
+    let mut among = false;
+    for other in tags {
+        among |= *other == tag;
+    }
+    among
+}
+
+/// The tag of the key that the node at a place is.
+#[inline(always)]
+fn tag_at(nodes: &[Packed<'_>], place: usize) -> u16
+    requires { place < length (packed_marks nodes.now) }
+    ensures { result ≡ key_tag (get_or (packed_marks nodes.now) place nothing) }
+{
+    match kept_at(nodes, place).text() {
+        Some(text) => tag_of(text.as_bytes()),
+        None => 0,
+    }
+}
+
+/// How many nodes the value has of the member at that place.
+#[inline(always)]
+fn value_width(nodes: &[Packed<'_>], position: usize, place: usize) -> usize
+    requires from { MembersFrom (packed_marks nodes.now) position place }
+    requires more { position < members_len (members_in (packed_marks nodes.now)) }
+    ensures { result ≡ node_width (get_or (packed_marks nodes.now) (place + 1) nothing) }
+{
+    kept_at(nodes, place + 1).width()
+}
+
+/// Puts the tag of the key of the member at that place, whose value has so many nodes: where the next
+/// member begins. None where memory was refused.
+#[inline(always)]
+fn tag_member(
+    nodes: &[Packed<'_>],
+    place: usize,
+    width: usize,
+    tags: &mut Vec<u16>,
+) -> Option<usize>
+    requires are { AreMembers (packed_marks nodes.now) }
+    requires from { MembersFrom (packed_marks nodes.now) (length tags.old.items) place }
+    requires more { length tags.old.items < members_len (members_in (packed_marks nodes.now)) }
+    requires wide { width ≡ node_width (get_or (packed_marks nodes.now) (place + 1) nothing) }
+    requires tagged { AreTags (packed_marks nodes.now) tags.old.items }
+    ensures from { IfSome result (λ p. MembersFrom (packed_marks nodes.now) (length tags.new.items) p) }
+    ensures more { IfSome result (λ _. length tags.new.items ≡ length tags.old.items + 1) }
+    ensures tagged { IfSome result (λ _. AreTags (packed_marks nodes.now) tags.new.items) }
+{
+    tags.push(tag_at(nodes, place)).ok()?;
+    Some(place + 1 + width)
+}
+
+/// Puts the tag of the key of the member at that place, and those of the members behind it whose
+/// values are as wide, up to so many tags: where the next member begins. None where memory was refused.
+fn tag_run(
+    nodes: &[Packed<'_>],
+    place: usize,
+    most: usize,
+    tags: &mut Vec<u16>,
+) -> Option<usize>
+    requires are { AreMembers (packed_marks nodes.now) }
+    requires from { MembersFrom (packed_marks nodes.now) (length tags.old.items) place }
+    requires more { length tags.old.items < most }
+    requires some { most ≤ members_len (members_in (packed_marks nodes.now)) }
+    requires tagged { AreTags (packed_marks nodes.now) tags.old.items }
+    ensures from { IfSome result (λ p. MembersFrom (packed_marks nodes.now) (length tags.new.items) p) }
+    ensures more { IfSome result (λ _. length tags.old.items < length tags.new.items) }
+    ensures within { IfSome result (λ _. length tags.new.items ≤ most) }
+    ensures tagged { IfSome result (λ _. AreTags (packed_marks nodes.now) tags.new.items) }
+{
+    let width = value_width(nodes, tags.len(), place);
+    let mut at = tag_member(nodes, place, width, tags)?;
+    while tags.len() < most {
+        if value_width(nodes, tags.len(), at) != width {
+            return Some(at);
+        }
+        at = tag_member(nodes, at, width, tags)?;
+    }
+    Some(at)
+}
+
+/// Puts so many tags in all: where the next member begins, and whether the values of the members with
+/// new ones are all as wide. None where memory was refused.
+fn tag_block(
+    nodes: &[Packed<'_>],
+    place: usize,
+    most: usize,
+    tags: &mut Vec<u16>,
+) -> Option<(usize, bool)>
+    requires are { AreMembers (packed_marks nodes.now) }
+    requires from { MembersFrom (packed_marks nodes.now) (length tags.old.items) place }
+    requires more { length tags.old.items < most }
+    requires some { most ≤ members_len (members_in (packed_marks nodes.now)) }
+    requires tagged { AreTags (packed_marks nodes.now) tags.old.items }
+    ensures from { IfSome result (λ p. MembersFrom (packed_marks nodes.now) (length tags.new.items) p.0) }
+    ensures all { IfSome result (λ _. length tags.new.items ≡ most) }
+    ensures tagged { IfSome result (λ _. AreTags (packed_marks nodes.now) tags.new.items) }
+{
+    let mut at = tag_run(nodes, place, most, tags)?;
+    let even = tags.len() == most;
+    while tags.len() < most {
+        at = tag_run(nodes, at, most, tags)?;
+    }
+    Some((at, even))
+}
+
+/// The tags of an object's keys, up to where too few values are as wide as their neighbours: among
+/// others the way to each waits for the one before. None where memory was refused.
+fn tags_between(
+    alloc: Global,
+    nodes: &[Packed<'_>],
+    start: usize,
+    end: usize,
+    len: usize,
+) -> Option<KeyTags>
+    requires are { AreMembers (packed_marks nodes.now) }
+    requires counted { len ≡ members_len (members_in (packed_marks nodes.now)) }
+    ensures start { IfSome result (λ k. k.start ≡ start) }
+    ensures end { IfSome result (λ k. k.end ≡ end) }
+    ensures tagged { IfSome result (λ k. IsTagged (packed_marks nodes.now) k) }
+{
+    let mut tags = Vec::with_capacity(alloc, len).ok()?;
+    let mut places = Vec::with_capacity(alloc, len / STEP + 1).ok()?;
+    let mut at = 0;
+    let mut uneven = 0usize;
+    while tags.len() < len && uneven <= 4 + places.len() / 8 {
+        places.push(at).ok()?;
+        let most = tags.len() + STEP.min(len - tags.len());
+        let (place, even) = tag_block(nodes, at, most, &mut tags)?;
+        uneven = uneven.saturating_add(usize::from(!even));
+        at = place;
+    }
+    Some(KeyTags {
+        start,
+        end,
+        tags,
+        places,
+        rest: at,
+    })
+}
+
+/// The tags of the object that begins with the node there, where it has many members that are wide.
+pub(crate) fn object_at(alloc: Global, nodes: &[Packed<'_>], at: usize) -> Option<KeyTags>
+    requires tree { IsPreorder (packed_marks nodes.now) }
+    requires at { at < length (packed_marks nodes.now) }
+    ensures { IfSome result (λ k. IsTagged (drop k.start (take k.end (packed_marks nodes.now))) k) }
+{
+    let node = kept_at(nodes, at);
+    let len = node.object_len()?;
+    let start = at + 1;
+    let end = at + node.width();
+    if len < MANY || (end - start) / WIDE < len {
+        return None;
+    }
+    tags_between(alloc, between(nodes, start, end), start, end, len)
+}
+
+/// The tags of the object whose members' nodes are those from `start` on and before `end`; None where
+/// there are none.
+pub(crate) fn tags_of_object<'t>(
+    objects: &'t [KeyTags],
+    _nodes: &[Packed<'_>],
+    start: usize,
+    end: usize,
+) -> Option<&'t KeyTags>
+    requires { AllTagged (packed_marks _nodes.now) objects.now }
+    ensures { IfSome result (λ k. IsTagged (drop start (take end (packed_marks _nodes.now))) k.now) }
+{
+    for object in objects {
+        if object.start == start && object.end == end {
+            return Some(object);
+        }
+    }
+    None
+}
