@@ -1,19 +1,16 @@
 -- Look-ups by key that pass members by their tags.
-use Rattle.std.proofs.Common.{◌≡◌, ◌==◌, ◌||◌, ℕ, Option, Some, None, IfSome, IfNone, option_map, zero, suc, ◌+◌, ◌-◌, ◌*◌, ◌<◌, ◌≤◌, Bool, true, false, if◌then◌else◌, List, [], ◌∷◌, length, take, drop, get_or, bytes_eq, refl, sym, ap, ◌∙◌, subst, arith}
+use Rattle.std.proofs.Common.{◌≡◌, ◌==◌, ◌||◌, ℕ, Some, zero, suc, ◌+◌, ◌-◌, ◌*◌, ◌<◌, ◌≤◌, Bool, true, false, if◌then◌else◌, List, [], ◌∷◌, length, take, drop, get_or, bytes_eq, refl, sym, ap, ◌∙◌, subst, arith}
 use Rattle.std.proofs.lemmas.Bool.Decides.{nat_tests}
-use Rattle.std.proofs.lemmas.List.{at_drop_all, drop-drop, drop-map, drop_more}
+use Rattle.std.proofs.lemmas.List.{drop-drop, drop-map, drop_more}
 use Rattle.std.proofs.lemmas.Grind.{get_or_default_zero}
 use Rattle.std.proofs.lemmas.Slice.Eq.{bytes_eq-Decides}
-use Rattle.sj_text_core.specs.Tree.{Tree, Members, members_len, paired}
+use Rattle.sj_text_core.specs.Tree.{Tree, members_len, paired}
 use Rattle.sj_text_core.specs.Nodes.{Mark, AreMembers, members_in}
 use Rattle.sj_text_core.specs.declared.repeats.Repeats.{Repeats}
 use Rattle.sj_tape.specs.Lookup.{first_value}
 use Rattle.sj_tape.specs.Members.{chosen}
 use Rattle.sj_tape.specs.Tags.{AreTags, IsTagged, MembersFrom, member_at, key_tag, tag, has_tag}
-use Rattle.sj_tape.specs.Value.{part}
-use Rattle.sj_tape.specs.declared.value.Value.{Value}
 use Rattle.sj_tape.specs.declared.key_tags.KeyTags.{KeyTags}
-use Rattle.sj_tape.proofs.Lookups.{length-chosen}
 use Rattle.sj_tape.proofs.MemberPlaces.{member_from, next_member_place}
 
 same_number : (m n : ℕ) → m ≡ n → (m == n) ≡ true
@@ -67,12 +64,3 @@ block_place ns kept block place are tagged l e =
 -- the place behind the members whose tags are kept
 pub rest_place : (ns : List Mark) (kept : KeyTags) → AreMembers ns → IsTagged ns kept → MembersFrom ns (length kept.tags.items) kept.rest
 rest_place ns kept are tagged = subst (λ p. MembersFrom ns (length kept.tags.items) p) (sym tagged.rest) (member_from ns are (length kept.tags.items) tagged.some)
-
--- nothing is left behind those that were looked at
-pub all_seen : (ms : Members) (c : Repeats) (k : List ℕ) (i n : ℕ) → members_len ms ≤ i + n → drop n (drop i (chosen c (paired ms))) ≡ []
-all_seen ms c k i n l = drop-drop n i (chosen c (paired ms)) ∙ at_drop_all (λ ps. ps) (chosen c (paired ms)) (i + n) (omega (arith, l, length-chosen c k ms))
-
--- what the last ones give
-pub found_last : (r : Option Value) (k : List ℕ) (ps rest : List (List ℕ × (Repeats × Tree))) → rest ≡ [] → IfSome r (λ v. Some (part v) ≡ first_value k ps) → IfNone r (first_value k ps ≡ first_value k rest) → option_map part r ≡ first_value k ps
-found_last None k ps rest e f n = sym (n ∙ ap (first_value k) e)
-found_last (Some v) k ps rest e f n = f

@@ -14,15 +14,16 @@ word at s = from_le_bytes w64 (take 8 (drop at s))
 unfoldable pub half_word : ℕ → List ℕ → ℕ
 half_word at s = from_le_bytes w32 (take 4 (drop at s))
 
--- two words as sixteen bits
-abbrev pub mixed : ℕ → ℕ → ℕ
-mixed a b = ((a * 11400714819323198485) % 2 ^ 64 + b) % 2 ^ 64 * 15485907386658061715 % 2 ^ 64 / 2 ^ 48
+-- three words as sixteen bits
+abbrev pub mixed : ℕ → ℕ → ℕ → ℕ
+mixed a b c = (((a * 11400714819323198485) % 2 ^ 64 + b) % 2 ^ 64 * 11400714819323198485 % 2 ^ 64 + c) % 2 ^ 64 * 11400714819323198485 % 2 ^ 64 / 2 ^ 48
 
 -- the tag of a text
 unfoldable pub tag : List ℕ → ℕ
 tag s =
     if nat_lt (length s) 4 then hash s % 2 ^ 16 else
-    if nat_lt (length s) 8 then mixed (half_word 0 s) (half_word (length s - 4) s) else mixed (word 0 s) (word (length s - 8) s)
+    if nat_lt (length s) 8 then mixed (half_word 0 s) 0 (half_word (length s - 4) s)
+    else mixed (word 0 s) (word ((length s - 8) / 2) s) (word (length s - 8) s)
 
 -- the tag of a key by its node
 abbrev pub key_tag : Mark → ℕ

@@ -1,4 +1,4 @@
-//! Places of items that are kept beside the nodes, so that few are passed on the way to any.
+//! Places of the items of large arrays, so that few are passed on the way to any.
 
 ghost use Rattle.std.specs.Prelude.{◌≡◌, ◌+◌, ◌<◌, ◌≤◌, ◌^◌, length, map, drop, take, IfSome};
 ghost use Rattle.sj_text_core.specs.Nodes.{IsPreorder};
@@ -7,8 +7,8 @@ ghost use Rattle.sj_tape.specs.Marks.{packed_marks};
 ghost use Rattle.sj_tape.specs.Parts.{AreItemNodes, ItemsFrom, items_in};
 ghost use Rattle.sj_tape.specs.Places.{AllPlaced, ArePlaces, IsPlaced};
 
-use crate::kept::{Kept, between, item_place, kept_at, pass_run};
-use crate::large_parts::{MANY, STEP};
+use crate::kept::{Kept, between, kept_at, pass_run};
+use crate::landmarks::{Begins, FREE_CHANGES, MANY_ITEMS, PER_CHANGE, STEP, index_of};
 use crate::packed::Packed;
 use std::alloc::Global;
 
@@ -18,6 +18,12 @@ pub(crate) struct ArrayPlaces {
     start: usize,
     end: usize,
     places: Vec<usize>,
+}
+
+impl Begins for ArrayPlaces {
+    fn start(&self) -> usize {
+        self.start
+    }
 }
 
 /// The position of an item, at most this one, and its place, where the nodes from `start` on and
@@ -46,57 +52,57 @@ pub(crate) fn place_before(
     if array.start != start || array.end != end {
         return (0, 0);
     }
-    let kept = position / STEP;
-    match array.places.get(kept) {
-        Some(place) => (kept * STEP, *place),
-        None => (0, 0),
+    let kept = (position / STEP + 1).min(array.places.len());
+    if kept == 0 {
+        return (0, 0);
     }
+    ((kept - 1) * STEP, array.places[kept - 1])
 }
 
-/// Where the array stands among them whose items begin there. They are in that order; where it is none
-/// of them, where the next one stands, or how many they are.
-fn index_of(arrays: &[ArrayPlaces], start: usize) -> usize {
-    let mut low = 0;
-    let mut high = arrays.len();
-    while low < high {
-        let middle = low + (high - low) / 2;
-        if arrays[middle].start < start {
-            low = middle + 1;
-        } else {
-            high = middle;
-        }
+/// The place of the item at that position, from the one at an earlier position on, and how many of the
+/// items behind that one differ in width from the one before.
+fn pass_block<'i, N: Kept<'i>>(
+    nodes: &[N],
+    passed: usize,
+    place: usize,
+    position: usize,
+) -> (usize, usize)
+    requires from { ItemsFrom (map N.mark_of nodes.now) passed place }
+    requires more { passed < position }
+    requires some { position ≤ items_len (items_in (map N.mark_of nodes.now)) }
+    requires fits { length nodes.now < 2 ^ 64 }
+    ensures { ItemsFrom (map N.mark_of nodes.now) position result.0 }
+{
+    let mut behind = pass_run(nodes, passed, place, position);
+    let mut changes = 0usize;
+    while behind.0 < position {
+        behind = pass_run(nodes, behind.0, behind.1, position);
+        changes = changes.saturating_add(1);
     }
-    low
+    (behind.1, changes)
 }
 
-/// The place of each item whose position is a multiple of `STEP`, up to where too few items are as wide
-/// as their neighbours: among others the way to each waits for the one before. Where memory is refused,
-/// places of the first of these, or none.
-fn places_of<'i, N: Kept<'i>>(alloc: Global, nodes: &[N], len: usize) -> Vec<usize>
+/// The place of each item whose position is a multiple of `STEP`, up to where too many items differ in
+/// width from the one before. None where memory was refused.
+fn places_of<'i, N: Kept<'i>>(alloc: Global, nodes: &[N], len: usize) -> Option<Vec<usize>>
     requires are { AreItemNodes (map N.mark_of nodes.now) }
     requires counted { len ≡ items_len (items_in (map N.mark_of nodes.now)) }
     requires fits { length nodes.now < 2 ^ 64 }
-    ensures { ArePlaces (map N.mark_of nodes.now) result.items }
+    ensures { IfSome result (λ places. ArePlaces (map N.mark_of nodes.now) places.items) }
 {
-    let Ok(mut places) = Vec::with_capacity(alloc, len / STEP + 1) else {
-        return Vec::new(alloc);
-    };
+    let mut places = Vec::with_capacity(alloc, len / STEP + 1).ok()?;
     let mut passed = 0;
     let mut at = 0;
-    let mut uneven = 0usize;
-    while passed < len && uneven <= 4 + places.len() / 8 {
-        if places.push(at).is_err() {
-            return places;
-        }
+    let mut changes = 0usize;
+    while passed < len && changes <= FREE_CHANGES + passed / PER_CHANGE {
+        places.push(at).ok()?;
         let next = passed + STEP.min(len - passed);
-        let (reached, place) = pass_run(nodes, passed, at, next);
-        if reached < next {
-            uneven = uneven.saturating_add(1);
-        }
-        at = item_place(nodes, reached, place, next);
+        let (place, more) = pass_block(nodes, passed, at, next);
+        changes = changes.saturating_add(more);
+        at = place;
         passed = next;
     }
-    places
+    Some(places)
 }
 
 /// The places of the array that begins with the node there, where it has many items that are not
@@ -110,9 +116,9 @@ pub(crate) fn array_at(alloc: Global, nodes: &[Packed<'_>], at: usize) -> Option
     let len = node.array_len()?;
     let start = at + 1;
     let end = at + node.width();
-    if len < MANY || len == end - start {
+    if len < MANY_ITEMS || len == end - start {
         return None;
     }
-    let places = places_of(alloc, between(nodes, start, end), len);
+    let places = places_of(alloc, between(nodes, start, end), len)?;
     Some(ArrayPlaces { start, end, places })
 }

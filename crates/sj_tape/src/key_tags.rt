@@ -1,15 +1,15 @@
-//! Tags of keys that are kept beside the nodes, so that a look-up passes most members unseen.
+//! Tags of the keys of large objects, so that a look-up passes most members unseen.
 
-ghost use Rattle.std.specs.Prelude.{◌≡◌, ◌+◌, ◌<◌, ◌≤◌, ◌%◌, ◌^◌, length, get_or, drop, take, IfSome};
-ghost use Rattle.sj_text_core.specs.Hash.{hash};
+ghost use Rattle.std.specs.Prelude.{◌≡◌, ◌+◌, ◌<◌, ◌≤◌, length, get_or, drop, take, IfSome};
 ghost use Rattle.sj_text_core.specs.Nodes.{AreMembers, IsPreorder, members_in, nothing, width as node_width};
 ghost use Rattle.sj_text_core.specs.Tree.{members_len};
 ghost use Rattle.sj_tape.specs.Marks.{packed_marks};
-ghost use Rattle.sj_tape.specs.Tags.{AllTagged, AreTags, IsTagged, MembersFrom, half_word, has_tag, key_tag, mixed, tag, word};
+ghost use Rattle.sj_tape.specs.Tags.{AllTagged, AreTags, IsTagged, MembersFrom, key_tag};
 
 use crate::kept::{Kept, between, kept_at};
-use crate::large_parts::{MANY, STEP};
+use crate::landmarks::{Begins, FREE_CHANGES, MANY_MEMBERS, PER_CHANGE, STEP, index_of};
 use crate::packed::Packed;
+use crate::tag::tag_of;
 use std::alloc::Global;
 
 /// How many nodes a member has on an average, its key's too, where tags are kept. Narrower ones are
@@ -27,76 +27,10 @@ pub(crate) struct KeyTags {
     pub(crate) rest: usize,
 }
 
-/// The eight bytes at a position, as one word.
-#[inline]
-fn word_at(bytes: &[u8], at: usize) -> u64
-    requires { at + 8 ≤ length bytes.now }
-    ensures { result ≡ word at bytes.now }
-{
-    let Some((word, _)) = bytes[at..].split_first_chunk::<8>() else {
-        unreachable!();
-    };
-    u64::from_le_bytes(*word)
-}
-
-/// The four bytes at a position, as one word.
-#[inline]
-fn half_word_at(bytes: &[u8], at: usize) -> u64
-    requires { at + 4 ≤ length bytes.now }
-    ensures { result ≡ half_word at bytes.now }
-{
-    let Some((word, _)) = bytes[at..].split_first_chunk::<4>() else {
-        unreachable!();
-    };
-    u64::from(u32::from_le_bytes(*word))
-}
-
-/// The tag of a text below four bytes.
-fn tag_of_few(text: &[u8]) -> u16
-    ensures { result ≡ hash text.now % 2 ^ 16 }
-{
-    let mut sum = 0u64;
-    for byte in text {
-        sum = sum.wrapping_mul(31).wrapping_add(u64::from(*byte));
+impl Begins for KeyTags {
+    fn start(&self) -> usize {
+        self.start
     }
-    (sum % 65_536) as u16
-}
-
-/// Two words as sixteen bits: they are multiplied by odd numbers without a pattern, and the highest
-/// bits of the product kept.
-#[inline]
-fn mix(first: u64, last: u64) -> u16
-    ensures { result ≡ mixed first last }
-{
-    let words = first.wrapping_mul(0x9e37_79b9_7f4a_7c15).wrapping_add(last);
-    (words.wrapping_mul(0xd6e8_feb8_6659_fd93) >> 48) as u16
-}
-
-/// The tag of a text: a number of its first eight bytes and its last, or of all where they are fewer.
-#[inline]
-pub(crate) fn tag_of(text: &[u8]) -> u16
-    ensures { result ≡ tag text.now }
-{
-    let len = text.len();
-    if len >= 8 {
-        return mix(word_at(text, 0), word_at(text, len - 8));
-    }
-    if len >= 4 {
-        return mix(half_word_at(text, 0), half_word_at(text, len - 4));
-    }
-    tag_of_few(text)
-}
-
-/// Whether one of the tags is that one.
-// It goes on behind it, so that several are compared at once.
-pub(crate) fn is_among(tag: u16, tags: &[u16]) -> bool
-    ensures { result ≡ has_tag tag tags.now }
-{
-    let mut among = false;
-    for other in tags {
-        among |= *other == tag;
-    }
-    among
 }
 
 /// The tag of the key that the node at a place is.
@@ -172,14 +106,14 @@ fn tag_run(
     Some(at)
 }
 
-/// Puts so many tags in all: where the next member begins, and whether the values of the members with
-/// new ones are all as wide. None where memory was refused.
+/// Puts so many tags in all: where the next member begins, and how many of the members behind the first
+/// new one have a value of another width than the one before. None where memory was refused.
 fn tag_block(
     nodes: &[Packed<'_>],
     place: usize,
     most: usize,
     tags: &mut Vec<u16>,
-) -> Option<(usize, bool)>
+) -> Option<(usize, usize)>
     requires are { AreMembers (packed_marks nodes.now) }
     requires from { MembersFrom (packed_marks nodes.now) (length tags.old.items) place }
     requires more { length tags.old.items < most }
@@ -190,15 +124,16 @@ fn tag_block(
     ensures tagged { IfSome result (λ _. AreTags (packed_marks nodes.now) tags.new.items) }
 {
     let mut at = tag_run(nodes, place, most, tags)?;
-    let even = tags.len() == most;
+    let mut changes = 0usize;
     while tags.len() < most {
         at = tag_run(nodes, at, most, tags)?;
+        changes = changes.saturating_add(1);
     }
-    Some((at, even))
+    Some((at, changes))
 }
 
-/// The tags of an object's keys, up to where too few values are as wide as their neighbours: among
-/// others the way to each waits for the one before. None where memory was refused.
+/// The tags of an object's keys, up to where too many values differ in width from the one before. None
+/// where memory was refused.
 fn tags_between(
     alloc: Global,
     nodes: &[Packed<'_>],
@@ -215,12 +150,12 @@ fn tags_between(
     let mut tags = Vec::with_capacity(alloc, len).ok()?;
     let mut places = Vec::with_capacity(alloc, len / STEP + 1).ok()?;
     let mut at = 0;
-    let mut uneven = 0usize;
-    while tags.len() < len && uneven <= 4 + places.len() / 8 {
+    let mut changes = 0usize;
+    while tags.len() < len && changes <= FREE_CHANGES + tags.len() / PER_CHANGE {
         places.push(at).ok()?;
         let most = tags.len() + STEP.min(len - tags.len());
-        let (place, even) = tag_block(nodes, at, most, &mut tags)?;
-        uneven = uneven.saturating_add(usize::from(!even));
+        let (place, more) = tag_block(nodes, at, most, &mut tags)?;
+        changes = changes.saturating_add(more);
         at = place;
     }
     Some(KeyTags {
@@ -242,7 +177,7 @@ pub(crate) fn object_at(alloc: Global, nodes: &[Packed<'_>], at: usize) -> Optio
     let len = node.object_len()?;
     let start = at + 1;
     let end = at + node.width();
-    if len < MANY || (end - start) / WIDE < len {
+    if len < MANY_MEMBERS || (end - start) / WIDE < len {
         return None;
     }
     tags_between(alloc, between(nodes, start, end), start, end, len)
@@ -259,10 +194,13 @@ pub(crate) fn tags_of_object<'t>(
     requires { AllTagged (packed_marks _nodes.now) objects.now }
     ensures { IfSome result (λ k. IsTagged (drop start (take end (packed_marks _nodes.now))) k.now) }
 {
-    for object in objects {
-        if object.start == start && object.end == end {
-            return Some(object);
-        }
+    let index = index_of(objects, start);
+    if index >= objects.len() {
+        return None;
     }
-    None
+    let object = &objects[index];
+    if object.start != start || object.end != end {
+        return None;
+    }
+    Some(object)
 }

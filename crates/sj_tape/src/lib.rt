@@ -22,7 +22,7 @@ pub mod array;
 mod item_places;
 mod kept;
 mod key_tags;
-mod large_parts;
+mod landmarks;
 pub mod laws;
 mod list;
 mod node;
@@ -32,6 +32,7 @@ mod packed;
 mod preorder;
 mod reader;
 mod search;
+mod tag;
 mod tape;
 mod value;
 

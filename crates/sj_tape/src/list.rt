@@ -10,7 +10,7 @@ ghost use Rattle.sj_tape.specs.Tags.{AllTagged, IsTagged};
 
 use crate::item_places::{ArrayPlaces, place_before};
 use crate::key_tags::{KeyTags, tags_of_object};
-use crate::large_parts::kept_in;
+use crate::landmarks::landmarks_in;
 use crate::node::Node;
 use crate::packed::Packed;
 use std::alloc::Global;
@@ -39,11 +39,11 @@ impl<'i> PackedList<'i> {
 
     /// The nodes of one tree, with places of its large arrays and tags of its large objects. Where memory
     /// for these is refused, fewer are kept, or none.
-    pub(crate) fn with_places(nodes: Vec<Packed<'i>>) -> PackedList<'i>
+    pub(crate) fn with_landmarks(nodes: Vec<Packed<'i>>) -> PackedList<'i>
         requires { IsPreorder (packed_marks nodes.items) }
         ensures { result.nodes ≡ nodes.entry }
     {
-        let (arrays, objects) = kept_in(*nodes.allocator(), &nodes);
+        let (arrays, objects) = landmarks_in(*nodes.allocator(), &nodes);
         PackedList {
             nodes,
             arrays,
@@ -89,7 +89,7 @@ impl<'i> PackedList<'i> {
     }
 }
 
-/// One call lets all lists go, so that who lets a tape go sees one step.
+/// One call lets all lists go: a proof about a caller then has one step for them.
 impl<'i> Drop for PackedList<'i> {
     fn drop(self) {
         let PackedList {

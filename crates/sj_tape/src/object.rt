@@ -8,7 +8,7 @@ ghost use Rattle.sj_text_core.specs.Tree.{members_len};
 ghost use Rattle.sj_tape.specs.Stretches.{nodes_in};
 
 use crate::key_tags::KeyTags;
-use crate::large_parts::MANY;
+use crate::landmarks::MANY_MEMBERS;
 use crate::nodes::Nodes;
 use crate::value::Value;
 use sj_text_core::{Repeats, are_same_texts};
@@ -92,7 +92,7 @@ impl<'t, 'i> Object<'t, 'i> {
         ensures tagged { IfSome result (λ k. IsTagged (nodes_in self.now.nodes) k.now) }
         ensures first { IfSome result (λ _. object_choice self.now ≡ Repeats.First) }
     {
-        if self.len < MANY {
+        if self.len < MANY_MEMBERS {
             return None;
         }
         match self.repeats {
@@ -212,7 +212,7 @@ impl<'t, 'i> Iterator for Iter<'t, 'i> {
 }
 
 impl<'t, 'i> Iter<'t, 'i> {
-    ghost use Rattle.std.specs.Prelude.{◌≡◌, ◌∷◌, IfNone, IfSome};
+    ghost use Rattle.std.specs.Prelude.{◌≡◌, ◌∷◌, [], IfNone, IfSome};
     ghost use Rattle.sj_tape.specs.Members.{parts_ahead};
     ghost use Rattle.sj_tape.specs.Value.{part};
 
@@ -234,6 +234,18 @@ impl<'t, 'i> Iter<'t, 'i> {
         }
         let value = Value::take_wide(&mut self.nodes, 1, width, self.repeats);
         Some((name, value))
+    }
+
+    /// The next member. Where its value has so many nodes, the one behind it waits for none of them.
+    #[inline(always)]
+    pub(crate) fn next_after(&mut self, width: usize) -> Option<(&'i str, Value<'t, 'i>)>
+        ensures none { IfNone result (parts_ahead self.old ≡ []) }
+        ensures some { IfSome result (λ p. parts_ahead self.old ≡ (p.0.now, part p.1) ∷ parts_ahead self.new) }
+    {
+        match self.next_wide(width) {
+            Some(member) => Some(member),
+            None => self.next(),
+        }
     }
 }
 

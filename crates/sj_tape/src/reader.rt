@@ -30,8 +30,9 @@ use std::alloc::Global;
 pub const DEPTH_LIMIT: usize = 1024;
 
 /// Reads one text (RFC 8259 without fractions and exponents). The texts of the tape lie in the
-/// bytes, where an escape is written over by what it stands for. Of large arrays the tape keeps the
-/// places of some items too, and of large objects tags of their keys, where memory for these is given.
+/// bytes, where an escape is written over by what it stands for. For look-ups the tape keeps places of
+/// items of large arrays too, and tags of keys of large objects, where these stand in nothing but small
+/// objects and memory for it is given.
 ///
 /// Refused as `InvalidUtf8` exactly where the bytes are not UTF-8, before any memory is asked
 /// for. `Syntax`, `LoneSurrogate`, `Float`, `NumberTooLarge` and `TooDeep` come only where the
@@ -121,5 +122,5 @@ fn read<'i>(alloc: Global, bytes: &'i mut [u8], room: &mut usize) -> Result<Tape
     let mut nodes = Vec::with_capacity(alloc, most.min(*room))?;
     whole(bytes, DEPTH_LIMIT, &mut nodes)?;
     *room = nodes.len().max(*room);
-    Ok(Tape::with_places(nodes))
+    Ok(Tape::with_landmarks(nodes))
 }

@@ -72,12 +72,12 @@ impl<'i> Tape<'i> {
 
     /// The tape of packed nodes that are a preorder, with places of items of its large arrays and tags of
     /// the keys of its large objects, where memory for these is given.
-    pub(crate) fn with_places(nodes: Vec<Packed<'i>>) -> Tape<'i>
+    pub(crate) fn with_landmarks(nodes: Vec<Packed<'i>>) -> Tape<'i>
         requires { IsPreorder (packed_marks nodes.items) }
         ensures { result ≡ tree_of (packed_marks nodes.entry.items) }
     {
         Tape {
-            nodes: List::Packed(PackedList::with_places(nodes)),
+            nodes: List::Packed(PackedList::with_landmarks(nodes)),
         }
     }
 

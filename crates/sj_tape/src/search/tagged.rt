@@ -8,15 +8,16 @@ ghost use Rattle.sj_tape.specs.Stretches.{nodes_in};
 ghost use Rattle.sj_tape.specs.Tags.{IsTagged, tag as tag_is};
 ghost use Rattle.sj_tape.specs.Value.{part};
 
-use crate::key_tags::{KeyTags, is_among, tag_of};
-use crate::large_parts::STEP;
+use crate::key_tags::KeyTags;
+use crate::landmarks::STEP;
 use crate::object::{Iter, Object};
-use crate::search::is_key;
+use crate::search::{first_counted, is_key};
+use crate::tag::{is_among, tag_of};
 use crate::value::Value;
 use sj_text_core::Steps;
 use std::sync::ledger::Ledger;
 
-/// The value of the first with the key of so many members.
+/// The value of the first member with the key, among so many.
 fn first_of<'t, 'i, L: Ledger>(
     members: Iter<'t, 'i>,
     count: usize,
@@ -27,16 +28,18 @@ fn first_of<'t, 'i, L: Ledger>(
     ensures passed { IfNone result (first_value key.now (parts_ahead members.entry) ≡ first_value key.now (drop count (parts_ahead members.entry))) }
 {
     let mut ahead = members;
+    let mut width = 0;
     for _ in 0..count {
-        let (name, value) = ahead.next()?;
+        let (name, value) = ahead.next_after(width)?;
         if is_key(name, key, steps) {
             return Some(value);
         }
+        width = value.width();
     }
     None
 }
 
-/// The value of the first with the key of the members in a block, from one position on and before
+/// The value of the first member with the key in a block, from one position on and before
 /// another. Where no tag is the key's, none of them is looked at.
 fn first_in_block<'t, 'i, L: Ledger>(
     object: &Object<'t, 'i>,
@@ -82,6 +85,5 @@ pub(super) fn first_tagged<'t, 'i, L: Ledger>(
         block += 1;
         from = next;
     }
-    let rest = object.iter_from(kept.rest);
-    first_of(rest, object.len() - from, key, steps)
+    first_counted(object.iter_from(kept.rest), key, steps)
 }

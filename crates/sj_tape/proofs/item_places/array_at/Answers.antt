@@ -26,8 +26,8 @@ between-requires c κs =
     let same = ap width c.kept_at-node.ensures in
     ((refl, (refl, tt)), (omega (arith, tree.wide, c.width.ensures, same), omega (arith, tree.fits, c.width.ensures, same)))
 
-pub places_of-places-requires : goal.places_of-places-requires
-places_of-places-requires c κs =
+pub places_of-requires : goal.places_of-requires
+places_of-requires c κs =
     let ns = packed_marks c.args.nodes.now in
     let tree = tree_in ns c.args.at c.requires.tree c.requires.at in
     let wide = c.width.ensures ∙ ap width c.kept_at-node.ensures in

@@ -13,7 +13,7 @@ loop-passed-preserved g c =
     let here : l.at ≡ item_at ns (length l.places.items * 64) =
     one_place ns l.passed l.at (item_at ns l.passed) l.invariant.from (item_from ns c.requires.are l.passed (omega (arith, c.loop-passed-test.true, c.requires.counted))) ∙ ap (item_at ns) steps in
     record {
-      from = c.item_place-at.ensures;
+      from = c.pass_block-place.ensures;
       count = omega (arith, long, steps, c.min.ensures, c.loop-passed-test.true);
       there = kept_with ns l.places.items c.push.new.self.items l.at pushed here l.invariant.there;
     }

@@ -6,19 +6,19 @@ use Rattle.sj_tape.specs.Tags.{member_at}
 use Rattle.sj_tape.proofs.MemberPlaces.{member_from, one_member_place, placed_with}
 use Rattle.sj_tape.proofs.key_tags.tags_between.Goals as goal
 
-pub loop-places-preserved : goal.loop-places-preserved
-loop-places-preserved c =
+pub loop-tags-preserved : goal.loop-tags-preserved
+loop-tags-preserved c =
     let ns = packed_marks c.args.nodes.now in
-    let l = c.loop-places in
+    let l = c.loop-tags in
     let passed = length l.tags.items in
     let pushed : c.push.new.self.items ≡ l.places.items ++ l.at ∷ [] = search rules in
     let long : length c.push.new.self.items ≡ length l.places.items + 1 = ap length pushed ∙ length-append l.places.items (l.at ∷ []) in
-    let steps : passed ≡ length l.places.items * 64 = omega (arith, l.invariant.count, c.len.ensures, c.loop-places-test.true) in
+    let steps : passed ≡ length l.places.items * 64 = omega (arith, l.invariant.count, c.len.ensures, c.loop-tags-test.true) in
     let here : l.at ≡ member_at ns (length l.places.items * 64) =
-    one_member_place ns passed l.at (member_at ns passed) l.invariant.from (member_from ns c.requires.are passed (omega (arith, c.len.ensures, c.loop-places-test.true, c.requires.counted))) ∙ ap (member_at ns) steps in
+    one_member_place ns passed l.at (member_at ns passed) l.invariant.from (member_from ns c.requires.are passed (omega (arith, c.len.ensures, c.loop-tags-test.true, c.requires.counted))) ∙ ap (member_at ns) steps in
     record {
       from = c.in_ok-place.ensures.from;
-      count = omega (arith, long, steps, c.min.ensures, c.len.ensures, c.len-in-loop-places-2.ensures, c.len-in-loop-places-3.ensures, c.in_ok-place.ensures.all, c.loop-places-test.true);
+      count = omega (arith, long, steps, c.min.ensures, c.len.ensures, c.len-in-loop-tags-2.ensures, c.len-in-loop-tags-3.ensures, c.in_ok-place.ensures.all, c.loop-tags-test.true);
       tagged = c.in_ok-place.ensures.tagged;
       there = placed_with ns l.places.items c.push.new.self.items l.at pushed here l.invariant.there;
     }
@@ -26,7 +26,7 @@ loop-places-preserved c =
 pub returns-clause-tagged : goal.returns-clause-tagged
 returns-clause-tagged c =
     let ns = packed_marks c.args.nodes.now in
-    let l = c.loop-places in
+    let l = c.loop-tags in
     let few : length l.tags.items ≤ members_len (members_in ns) = omega (arith, l.invariant.count, c.requires.counted) in
     record {
       some = few;

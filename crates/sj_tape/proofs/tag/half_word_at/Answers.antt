@@ -1,6 +1,6 @@
 use Rattle.std.proofs.Common.{rules}
 use Rattle.sj_tape.specs.Tags.{half_word}
-use Rattle.sj_tape.proofs.key_tags.half_word_at.Goals as goal
+use Rattle.sj_tape.proofs.tag.half_word_at.Goals as goal
 
 pub returns : goal.returns
 unfolding half_word

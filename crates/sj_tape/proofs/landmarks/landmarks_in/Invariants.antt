@@ -2,7 +2,7 @@ use Rattle.std.proofs.Common.{◌-◌, ◌≤◌, length}
 use Rattle.sj_tape.specs.Marks.{packed_marks}
 use Rattle.sj_tape.specs.Places.{AllPlaced}
 use Rattle.sj_tape.specs.Tags.{AllTagged}
-use Rattle.sj_tape.proofs.large_parts.kept_in.Given as goal
+use Rattle.sj_tape.proofs.landmarks.landmarks_in.Given as goal
 
 abbrev pub invariant-loop-at : goal.invariant-loop-at
 invariant-loop-at l = record {
