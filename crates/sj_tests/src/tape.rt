@@ -1,7 +1,11 @@
 mod comparisons;
+mod keys;
+mod large_arrays;
+mod large_objects;
 mod prints;
 mod reader;
 mod reads;
+mod shapes;
 mod values;
 
 use sj_tape::{Array, Node, Object, Tape, Value};

@@ -1,0 +1,275 @@
+//! Look-ups by key in objects of many members, beside walks and searches through all of them.
+
+use super::keys::{Again, Keys, members, twins};
+use super::shapes::{Shape, is_printed, object_of};
+use sj_tape::{Repeats, Value, Writable, to_tape};
+use std::alloc::Global;
+use std::test::Fail;
+
+/// Keys that no object has.
+const ABSENT: [&str; 5] = [
+    "absent",
+    "~",
+    "the keysthe same",
+    "the keys~~~~the same",
+    "xxxxxxxx~xxxxxxxx",
+];
+
+/// How many members, from the first on, a walk meets and look-ups of their keys find, where no key
+/// comes again; 0 where the object has more.
+pub(super) fn found_members(
+    alloc: Global,
+    value: Value<'_, '_>,
+    keys: &[String],
+    values: &[String],
+) -> Result<usize, Fail> {
+    let mut walk = value.as_object().ok_or("an object")?.iter();
+    for (i, (key, text)) in keys.iter().zip(values.iter()).enumerate() {
+        let Some((name, met)) = walk.next() else {
+            return Ok(i);
+        };
+        let is_met = name == key.as_str() && is_printed(alloc, Some(met), text.as_str())?;
+        if !is_met || !is_printed(alloc, value.get(key.as_str()), text.as_str())? {
+            return Ok(i);
+        }
+    }
+    Ok(if walk.next().is_none() { keys.len() } else { 0 })
+}
+
+/// How many of the keys are not found.
+fn absent_keys(value: Value<'_, '_>, keys: &[String]) -> usize {
+    let mut absent = 0usize;
+    for key in keys {
+        if value.get(key.as_str()).is_none() {
+            absent = absent.saturating_add(1);
+        }
+    }
+    absent
+}
+
+/// Keys that an object of so many has not: twins of its keys, the next 24, and others.
+fn other_keys(alloc: Global, keys: Keys, names: &[String]) -> Result<Vec<String>, Fail> {
+    let mut others = twins(alloc, names)?;
+    let len = names.len();
+    for key in keys.keys(alloc, len..len.saturating_add(24))? {
+        others.push(key)?;
+    }
+    for key in ABSENT {
+        others.push(String::from_str(alloc, key)?)?;
+    }
+    Ok(others)
+}
+
+/// How many members of an object are found, and how many other keys are not, by that choice. The
+/// object is read from a text of its own.
+fn told_alone(
+    alloc: Global,
+    (keys, choice): (Keys, Repeats),
+    shape: Shape,
+    len: usize,
+) -> Result<(usize, usize), Fail> {
+    let names = keys.keys(alloc, 0..len)?;
+    let values = shape.items(alloc, 0..len)?;
+    let others = other_keys(alloc, keys, &names)?;
+    let mut bytes = object_of(alloc, &members(alloc, &names, &values)?)?.into_bytes();
+    let tape = to_tape(alloc, bytes.as_mut_slice())?;
+    let value = tape.as_value_repeats(choice);
+    let found = found_members(alloc, value, &names, &values)?;
+    Ok((found, absent_keys(value, &others)))
+}
+
+/// Shapes of values, how many members have them, and how many other keys are looked up.
+const CASES: [(Shape, usize, usize); 3] = [
+    (Shape::Records, 1023, 234),
+    (Shape::Records, 1024, 234),
+    (Shape::Records, 1089, 247),
+];
+
+/// How many of the cases are told as they are made, up to one that is not.
+fn right_cases(alloc: Global, keys: Keys) -> Result<usize, Fail> {
+    for (i, (shape, len, absent)) in CASES.iter().enumerate() {
+        let told = told_alone(alloc, (keys, Repeats::First), *shape, *len)?;
+        if told != (*len, *absent) {
+            return Ok(i);
+        }
+    }
+    Ok(CASES.len())
+}
+
+#[test]
+fn short_keys(rt: HostRuntime) -> Result<(), Fail> {
+    assert_eq!(rt; right_cases(rt.alloc(), Keys::Short)?, 3);
+    Ok(())
+}
+
+#[test]
+fn keys_of_eight_bytes(rt: HostRuntime) -> Result<(), Fail> {
+    assert_eq!(rt; right_cases(rt.alloc(), Keys::Eight)?, 3);
+    Ok(())
+}
+
+#[test]
+fn keys_of_nine_bytes_and_more(rt: HostRuntime) -> Result<(), Fail> {
+    assert_eq!(rt; right_cases(rt.alloc(), Keys::Middling)?, 3);
+    Ok(())
+}
+
+#[test]
+fn keys_with_one_tag(rt: HostRuntime) -> Result<(), Fail> {
+    let told = told_alone(
+        rt.alloc(),
+        (Keys::Long, Repeats::First),
+        Shape::Records,
+        1089,
+    )?;
+    assert_eq!(rt; told, (1089, 247));
+    Ok(())
+}
+
+#[test]
+fn keys_with_escapes(rt: HostRuntime) -> Result<(), Fail> {
+    let told = told_alone(
+        rt.alloc(),
+        (Keys::Escaped, Repeats::First),
+        Shape::Records,
+        1089,
+    )?;
+    assert_eq!(rt; told, (1089, 247));
+    Ok(())
+}
+
+#[test]
+fn the_last_of_many_members(rt: HostRuntime) -> Result<(), Fail> {
+    let form = (Keys::Eight, Repeats::Last);
+    let told = told_alone(rt.alloc(), form, Shape::UnevenFrom(64), 257)?;
+    assert_eq!(rt; told, (257, 81));
+    Ok(())
+}
+
+#[test]
+fn uneven_values_behind_even_ones(rt: HostRuntime) -> Result<(), Fail> {
+    for from in [17, 1000] {
+        let shape = Shape::UnevenFrom(from);
+        let told = told_alone(rt.alloc(), (Keys::Eight, Repeats::First), shape, 1089)?;
+        assert!(rt; told == (1089, 247), "{from}: {told:?}");
+    }
+    Ok(())
+}
+
+/// The value of the member with the key that counts, by a search from the first member on.
+fn searched<'t, 'i>(value: Value<'t, 'i>, key: &str) -> Option<Value<'t, 'i>> {
+    let mut last = None;
+    for (name, member) in value.as_object()?.iter() {
+        if name == key {
+            if value.repeats() == Repeats::First {
+                return Some(member);
+            }
+            last = Some(member);
+        }
+    }
+    last
+}
+
+/// At how many keys look-ups find what searches find, and at how many the value of that position.
+fn found_alike(
+    alloc: Global,
+    value: Value<'_, '_>,
+    keys: &[String],
+    values: &[String],
+) -> Result<(usize, usize), Fail> {
+    let mut alike = 0usize;
+    let mut own = 0usize;
+    for (key, text) in keys.iter().zip(values.iter()) {
+        let wanted = searched(value, key.as_str()).ok_or("no such key")?;
+        let found = value.get(key.as_str());
+        if is_printed(alloc, found, wanted.encode(alloc)?.as_str())? {
+            alike = alike.saturating_add(1);
+        }
+        if is_printed(alloc, found, text.as_str())? {
+            own = own.saturating_add(1);
+        }
+    }
+    Ok((alike, own))
+}
+
+/// The same of an object in which keys come again, by each choice.
+fn told_repeated(
+    alloc: Global,
+    keys: Keys,
+    again: Again,
+    (shape, len): (Shape, usize),
+) -> Result<[(usize, usize); 2], Fail> {
+    let names = keys.repeated(alloc, again, len)?;
+    let values = shape.items(alloc, 0..len)?;
+    let mut bytes = object_of(alloc, &members(alloc, &names, &values)?)?.into_bytes();
+    let tape = to_tape(alloc, bytes.as_mut_slice())?;
+    let last = tape.as_value_repeats(Repeats::Last);
+    Ok([
+        found_alike(alloc, tape.as_value(), &names, &values)?,
+        found_alike(alloc, last, &names, &values)?,
+    ])
+}
+
+/// Keys and values, which keys come again, among how many members, and how many keys differ.
+const REPEATED: [(Keys, Shape, Again, usize, usize); 3] = [
+    (Keys::Eight, Shape::Records, Again::Pairs, 1025, 513),
+    (Keys::Eight, Shape::Records, Again::Behind(64), 257, 64),
+    (Keys::Long, Shape::Uneven, Again::Behind(65), 256, 65),
+];
+
+#[test]
+fn keys_that_come_again(rt: HostRuntime) -> Result<(), Fail> {
+    for (keys, shape, again, len, own) in REPEATED {
+        let told = told_repeated(rt.alloc(), keys, again, (shape, len))?;
+        assert!(rt; told == [(len, own); 2], "{keys:?} {again:?}: {told:?}");
+    }
+    Ok(())
+}
+
+/// Whether look-ups by each choice find the first and the last of two members with one key, of 1,089.
+fn finds_both(
+    alloc: Global,
+    (keys, shape): (Keys, Shape),
+    (first, second): (usize, usize),
+) -> Result<[bool; 2], Fail> {
+    let names = keys.repeated(alloc, Again::Once(first, second), 1089)?;
+    let values = shape.items(alloc, 0..1089)?;
+    let key = names.get(first).ok_or("no such key")?.as_str();
+    let early = values.get(first).ok_or("no such value")?.as_str();
+    let late = values.get(second).ok_or("no such value")?.as_str();
+    let mut bytes = object_of(alloc, &members(alloc, &names, &values)?)?.into_bytes();
+    let tape = to_tape(alloc, bytes.as_mut_slice())?;
+    let last = tape.as_value_repeats(Repeats::Last);
+    Ok([
+        is_printed(alloc, tape.as_value().get(key), early)?,
+        is_printed(alloc, last.get(key), late)?,
+    ])
+}
+
+/// Positions of two members with one key: in one block of 64, at its ends, and in two of them.
+const TWICE: [(usize, usize); 10] = [
+    (0, 1),
+    (0, 63),
+    (10, 20),
+    (63, 64),
+    (64, 127),
+    (0, 1088),
+    (10, 1000),
+    (128, 192),
+    (255, 256),
+    (1087, 1088),
+];
+
+#[test]
+fn one_key_twice(rt: HostRuntime) -> Result<(), Fail> {
+    for form in [
+        (Keys::Middling, Shape::Records),
+        (Keys::Long, Shape::Records),
+    ] {
+        for places in TWICE {
+            let found = finds_both(rt.alloc(), form, places)?;
+            assert!(rt; found == [true; 2], "{form:?} {places:?}: {found:?}");
+        }
+    }
+    Ok(())
+}
