@@ -79,12 +79,7 @@ fn tag_member(
 
 /// Puts the tag of the key of the member at that place, and those of the members behind it whose
 /// values are as wide, up to so many tags: where the next member begins. None where memory was refused.
-fn tag_run(
-    nodes: &[Packed<'_>],
-    place: usize,
-    most: usize,
-    tags: &mut Vec<u16>,
-) -> Option<usize>
+fn tag_run(nodes: &[Packed<'_>], place: usize, most: usize, tags: &mut Vec<u16>) -> Option<usize>
     requires are { AreMembers (packed_marks nodes.now) }
     requires from { MembersFrom (packed_marks nodes.now) (length tags.old.items) place }
     requires more { length tags.old.items < most }

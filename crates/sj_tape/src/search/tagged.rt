@@ -61,7 +61,12 @@ fn first_in_block<'t, 'i, L: Ledger>(
     if !is_among(tag, &kept.tags[from..next]) {
         return None;
     }
-    first_of(object.iter_from(kept.places[block]), next - from, key, steps)
+    first_of(
+        object.iter_from(kept.places[block]),
+        next - from,
+        key,
+        steps,
+    )
 }
 
 /// The value of the first member with the key.
