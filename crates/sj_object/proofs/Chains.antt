@@ -1,13 +1,13 @@
 -- The chains of members by their hashes: what one more member, or one less, does to them.
-use Rattle.std.proofs.Common.{◌≡◌, ◌≢◌, ℕ, zero, suc, ◌+◌, ◌<◌, ◌≤◌, ◌%◌, nat_le, Bool, true, false, List, [], ◌∷◌, ◌++◌, map, length, take, drop, get_or, set, refl, sym, ap, ◌∙◌, arith, add-one, get_or-set_same, get_or-set_other, below_more, subst, true≢false}
+use Rattle.std.proofs.Common.{◌≡◌, ◌≢◌, ℕ, zero, suc, ◌+◌, ◌-◌, ◌<◌, ◌≤◌, ◌%◌, nat_le, Bool, true, false, List, [], ◌∷◌, ◌++◌, map, length, take, drop, get_or, set, refl, sym, ap, ◌∙◌, arith, add-one, get_or-set_same, get_or-set_other, below_more, subst, true≢false}
 use Rattle.std.specs.Bool.{if◌then◌else◌}
 use Rattle.std.specs.Prelude.{◌==◌}
 use Rattle.std.specs.List.{remove}
 use Rattle.std.proofs.lemmas.Bool.Decides.{nat_tests}
-use Rattle.std.proofs.lemmas.List.{get_or-take, length-take-le, length-set, length-replicate, length_push, get_or-replicate, get_or_append_left, length-map}
+use Rattle.std.proofs.lemmas.List.{take-append-drop, drop-take, get_or-take, get_or-drop, length-drop, length-take-le, length-set, length-replicate, length_push, get_or-replicate, get_or_append_left, length-map}
 use Rattle.std.proofs.Math.ListN.{replicate, get_or-map}
-use Rattle.std.proofs.Math.Seq.{take-append_seam}
-use Rattle.std.proofs.lemmas.List.Edits.{get_or-remove_below, get_or-remove_above, length-remove}
+use Rattle.std.proofs.Math.Seq.{take-append_seam, drop-append_seam}
+use Rattle.std.proofs.lemmas.List.Edits.{get_or-remove_below, get_or-remove_above, length-remove, remove-append_right}
 use Rattle.sj_object.specs.Chains.{is_in, last_below, IsLinked, passed, lowered}
 
 module _ (n b : ℕ) where
@@ -328,6 +328,55 @@ module _ (n : ℕ) (hs links heads : List ℕ) (m : ℕ) (p : 0 < n) (e : m + 1 
         let w : i < m = omega (arith, taken, l) in
         get_or-take m links i 0 w ∙ h.nexts i (omega (arith, e, w)) ∙ ap (λ z. last_below n (z % n) hs i) (sym (get_or-take m hs i 0 w)) ∙ sym (last_take (get_or (take m hs) i 0 % n) i (omega (arith, w)));
   }
+
+-- the chains once the first members are left out, so many: a place of those ends a chain
+module _ (n : ℕ) (hs : List ℕ) (g : ℕ) where
+  less_zero : 0 - g ≡ 0
+  less_zero = omega arith
+
+  pub get_or-less : (xs : List ℕ) (i : ℕ) → get_or (map (λ p. p - g) xs) i 0 ≡ get_or xs i 0 - g
+  get_or-less xs i = ap (λ d. get_or (map (λ p. p - g) xs) i d) (sym less_zero) ∙ get_or-map (λ p. p - g) xs i 0
+
+  last_dropped : (b k : ℕ) → last_below n b (drop g hs) k ≡ last_below n b hs (g + k) - g
+  unfolding last_below
+  last_dropped b zero = omega (arith, last_le n b hs (g + 0))
+  last_dropped b (suc k) = by_test (is_in n b (get_or (drop g hs) k 0)) refl (last_dropped b k) where
+    next : g + suc k ≡ suc (g + k)
+    next = omega arith
+
+    by_test : (c : Bool) → is_in n b (get_or (drop g hs) k 0) ≡ c → last_below n b (drop g hs) k ≡ last_below n b hs (g + k) - g → last_below n b (drop g hs) (suc k) ≡ last_below n b hs (g + suc k) - g
+    by_test true e h =
+        let same : suc k ≡ suc (g + k) - g = omega arith in
+        last_in n b (drop g hs) k e ∙ same ∙ ap (λ m. m - g) (sym (ap (last_below n b hs) next ∙ last_in n b hs (g + k) (ap (is_in n b) (sym (get_or-drop g hs k 0)) ∙ e)))
+    by_test false e h =
+        last_out n b (drop g hs) k e ∙ h ∙ ap (λ m. m - g) (sym (ap (last_below n b hs) next ∙ last_out n b hs (g + k) (ap (is_in n b) (sym (get_or-drop g hs k 0)) ∙ e)))
+
+  pub IsLinked-dropped : (links heads : List ℕ) → g ≤ length hs → IsLinked n hs links heads (length hs)
+      → IsLinked n (drop g hs) (map (λ p. p - g) (drop g links)) (map (λ p. p - g) heads) (length (drop g hs))
+  IsLinked-dropped links heads l h =
+      let whole : length hs ≡ g + length (drop g hs) = omega (arith, length-drop g hs) in
+      record {
+        count = length-map heads (λ p. p - g) ∙ h.count;
+        size = length-map (drop g links) (λ p. p - g) ∙ length-drop g links ∙ ap (λ m. m - g) h.size ∙ sym (length-drop g hs);
+        starts = λ b m. get_or-less heads b ∙ ap (λ p. p - g) (h.starts b m ∙ ap (last_below n b hs) whole) ∙ sym (last_dropped b (length (drop g hs)));
+        nexts = λ i m.
+            get_or-less (drop g links) i ∙ ap (λ p. p - g) (get_or-drop g links i 0 ∙ h.nexts (g + i) (omega (arith, m, whole)))
+            ∙ sym (last_dropped (get_or hs (g + i) 0 % n) i) ∙ ap (λ x. last_below n (x % n) (drop g hs) i) (sym (get_or-drop g hs i 0));
+      }
+
+-- what is left behind the first, once one of the others is taken out
+pub drop-remove : {X : Type 0} (xs : List X) (g i : ℕ) → g ≤ length xs → drop g (remove xs (g + i)) ≡ remove (drop g xs) i
+drop-remove {X} xs g i l =
+    let n : length (take g xs) ≡ g = length-take-le g xs l in
+    let whole = ap (λ ys. remove ys (g + i)) (sym (take-append-drop g xs)) ∙ remove-append_right (take g xs) (drop g xs) g (g + i) n (omega arith) in
+    let past : g + i - g ≡ i = omega arith in
+    ap (drop g) (whole ∙ ap (λ m. take g xs ++ remove (drop g xs) m) past) ∙ ap (λ m. drop m (take g xs ++ remove (drop g xs) i)) (sym n) ∙ drop-append_seam (take g xs) (remove (drop g xs) i)
+
+-- and once the last is taken out
+pub drop-pop : {X : Type 0} (xs : List X) (g : ℕ) → g < length xs → drop g (take (length xs - 1) xs) ≡ take (length (drop g xs) - 1) (drop g xs)
+drop-pop xs g l =
+    let m : length xs - 1 ≡ g + (length (drop g xs) - 1) = omega (arith, length-drop g xs) in
+    ap (λ k. drop g (take k xs)) m ∙ drop-take g (length (drop g xs) - 1) xs
 
 -- what a vector has after its slice was lent and written
 pub refilled : (a : ℕ) (ws xs : List ℕ) → a ≡ length ws → take a (ws ++ drop (length ws) xs) ≡ ws

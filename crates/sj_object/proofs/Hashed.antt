@@ -1,5 +1,5 @@
 -- The hashes of a map's members, and the members that a lookup compares.
-use Rattle.std.proofs.Common.{◌≡◌, ℕ, zero, suc, ◌+◌, ◌-◌, ◌*◌, ◌<◌, ◌%◌, ◌==◌, nat_eq, Bool, true, false, ◌&&◌, List, [], ◌∷◌, ◌++◌, map, length, get_or, slice_set, take, drop, bytes_eq, Option, Some, None, IsSome, nat_le, ◌≤◌, subst, refl, sym, ap, ◌∙◌, arith, true≢false, count_by, Box, Global}
+use Rattle.std.proofs.Common.{◌≡◌, ℕ, zero, suc, ◌+◌, ◌*◌, ◌<◌, ◌%◌, ◌==◌, nat_eq, Bool, true, false, ◌&&◌, List, [], ◌∷◌, ◌++◌, map, length, get_or, slice_set, take, drop, bytes_eq, Option, Some, None, IsSome, nat_le, ◌≤◌, subst, refl, sym, ap, ◌∙◌, arith, true≢false, count_by}
 use Rattle.std.specs.Bool.{if◌then◌else◌}
 use Rattle.std.proofs.lemmas.List.{length-map, length_push, map-append}
 use Rattle.std.proofs.lemmas.Nat.{pow_pos}
@@ -16,8 +16,10 @@ use Rattle.sj_object.specs.declared.map.HashMap.TheInside.{Inside}
 use Rattle.sj_object.specs.Texts.{no_repeats}
 use Rattle.sj_object.specs.Entries.{Entry, texts, entries_of}
 use Rattle.sj_object.specs.Chains.{is_in}
-use Rattle.sj_object.specs.declared.map.index.Table.{Table}
-use Rattle.sj_object.specs.Index.{IsIndexOf, NeedsHash, HasRoom, HasRoom-prop, buckets_of, buckets_for}
+use Rattle.sj_object.specs.declared.map.store.Store.{Store}
+use Rattle.sj_object.specs.declared.map.store.Store.TheVariants.{Plain, Hashed}
+use Rattle.sj_object.specs.Index.{NeedsHash, HasRoom, HasRoom-prop, buckets_for}
+use Rattle.sj_object.specs.Stored.{pairs_of, IsIndexOf, buckets_of}
 use Rattle.sj_object.specs.Steps.{chain, walk, found_on}
 use Rattle.sj_object.proofs.Walked.{Agrees, count}
 use Rattle.sj_object.proofs.Position.{IsFound}
@@ -26,9 +28,6 @@ pub text_at : {K V : Type 0} (t : K → List ℕ) (ps : List (K × V)) (i : ℕ)
 text_at t [] i q l e = absurd (omega arith)
 text_at t (p ∷ ps) zero q l e = ap (λ r. t r.0) (sym e)
 text_at t (p ∷ ps) (suc i) q l e = text_at t ps i q (omega arith) e
-
-pub text_there : {K V : Type 0} (t : K → List ℕ) (ps : List (K × V)) (i : ℕ) (q : K × V) → i < length ps → q ≡ get_or ps i q → get_or (texts (entries_of t ps)) i [] ≡ t (get_or ps i q).0
-text_there t ps i q l e = text_at t ps i q l e ∙ ap (λ r. t r.0) e
 
 sum_by-map : {X Y : Type 0} (F : Y → ℕ) (f : X → Y) (xs : List X) → sum_by F (map f xs) ≡ sum_by (λ x. F (f x)) xs
 sum_by-map F f [] = refl
@@ -97,42 +96,41 @@ module _ {K V : Type 0} (t : K → List ℕ) (H : List ℕ → ℕ) where
   hashes-last ps p = map-append (λ (q : K × V). H (t q.0)) ps (p ∷ [])
 
 -- one hash more, which is read only where there are buckets then
-pub IsIndexOf-last : (hs : List ℕ) (h x : ℕ) (o : Option ℕ) (b : Option (Box Table Global)) → IsIndexOf (hs ++ h ∷ []) b → buckets_of b ≡ buckets_for (length hs + 1) o → (NeedsHash (length hs) o → h ≡ x) → IsIndexOf (hs ++ x ∷ []) b
+pub IsIndexOf-last : {K V : Type 0} (hs : List ℕ) (h x : ℕ) (o : Option ℕ) (b : Store K V) → IsIndexOf (hs ++ h ∷ []) b → buckets_of b ≡ buckets_for (length hs + 1) o → (NeedsHash (length hs) o → h ≡ x) → IsIndexOf (hs ++ x ∷ []) b
 IsIndexOf-last hs h x (Some n) b k e f = subst (λ y. IsIndexOf (hs ++ y ∷ []) b) (f tt) k
-IsIndexOf-last hs h x None b k e f = by_test (nat_le 32 (length hs)) refl where
+IsIndexOf-last {K} {V} hs h x None b k e f = by_test (nat_le 32 (length hs)) refl where
   by_test : (c : Bool) → nat_le 32 (length hs) ≡ c → IsIndexOf (hs ++ x ∷ []) b
   by_test true q = let r : 32 ≤ length hs = grind (arith, nat_tests) in subst (λ y. IsIndexOf (hs ++ y ∷ []) b) (f r) k
   by_test false q = let l : length hs + 1 ≤ 32 = grind (arith, nat_tests) in plain l b (e ∙ small (length hs + 1) l) where
-    plain : length hs + 1 ≤ 32 → (i : Option (Box Table Global)) → buckets_of i ≡ None → IsIndexOf (hs ++ x ∷ []) i
-    plain l None z = omega (arith, l, length_push hs x)
-    plain l (Some t) z = cc
+    plain : length hs + 1 ≤ 32 → (i : Store K V) → buckets_of i ≡ None → IsIndexOf (hs ++ x ∷ []) i
+    plain l (Plain v) z = omega (arith, l, length_push hs x)
+    plain l (Hashed t) z = cc
 
     small : (m : ℕ) → m ≤ 32 → buckets_for m None ≡ None
     small m l = let y : nat_le m 32 ≡ true = grind (arith, nat_tests) in λ j. if y j then None else Some 64
 
 -- fields that agree in what is data are the same
-pub same_inside : {K V S : Type 0} {G : text.Ghosts K} {E : eq.Ghosts K} {H : hasher.Ghosts S} (m : Inside K V S G E H) (d : no_repeats (texts (entries_of G.text_of m.pairs.items)) ≡ true)
-    (r : HasRoom (length (entries_of G.text_of m.pairs.items)) (buckets_of m.index)) → ◌≡◌ {A = Inside K V S G E H} (record { pairs = m.pairs; hasher = m.hasher; index = m.index; distinct = d; room = r }) m
+pub same_inside : {K V S : Type 0} {G : text.Ghosts K} {E : eq.Ghosts K} {H : hasher.Ghosts S} (m : Inside K V S G E H) (d : no_repeats (texts (entries_of G.text_of (pairs_of m.store))) ≡ true)
+    (r : HasRoom (length (entries_of G.text_of (pairs_of m.store))) (buckets_of m.store)) → ◌≡◌ {A = Inside K V S G E H} (record { store = m.store; hasher = m.hasher; distinct = d; room = r }) m
 same_inside {K} {V} {S} {G} m d r = λ i. record {
-  pairs = m.pairs;
+  store = m.store;
   hasher = m.hasher;
-  index = m.index;
-  distinct = Coded-set coded_bool (no_repeats (texts (entries_of G.text_of m.pairs.items))) true d m.distinct i;
-  room = HasRoom-prop (length (entries_of G.text_of m.pairs.items)) (buckets_of m.index) r m.room i;
+  distinct = Coded-set coded_bool (no_repeats (texts (entries_of G.text_of (pairs_of m.store)))) true d m.distinct i;
+  room = HasRoom-prop (length (entries_of G.text_of (pairs_of m.store))) (buckets_of m.store) r m.room i;
 }
 
 pub needs_where_some : (m : ℕ) (o : Option ℕ) → IsSome o → NeedsHash m o
 needs_where_some m None s = absurd (true≢false (sym s))
 needs_where_some m (Some n) s = tt
 
-pub has_room : (hs : List ℕ) (i : Option (Box Table Global)) → IsIndexOf hs i → HasRoom (length hs) (buckets_of i)
-has_room hs None h = h
-has_room hs (Some b) h =
+pub has_room : {K V : Type 0} (hs : List ℕ) (i : Store K V) → IsIndexOf hs i → HasRoom (length hs) (buckets_of i)
+has_room hs (Plain v) h = h
+has_room hs (Hashed b) h =
     let n = h.table.linked.count in
-    let p = pow_pos b.value.bits in
+    let p = pow_pos b.value.table.bits in
     (omega (arith, n, p), omega (arith, n, h.table.room, ap length h.same))
 
-pub room_of : {K V : Type 0} (t : K → List ℕ) (ps : List (K × V)) (hs : List ℕ) (i : Option (Box Table Global)) → IsIndexOf hs i → length hs ≡ length ps → HasRoom (length (entries_of t ps)) (buckets_of i)
+pub room_of : {K V : Type 0} (t : K → List ℕ) (ps : List (K × V)) (hs : List ℕ) (i : Store K V) → IsIndexOf hs i → length hs ≡ length ps → HasRoom (length (entries_of t ps)) (buckets_of i)
 room_of t ps hs i h e = subst (λ n. HasRoom n (buckets_of i)) (e ∙ sym (entries-length t ps)) (has_room hs i h)
 
 pub room_fewer : (n m : ℕ) (o : Option ℕ) → n ≤ m → HasRoom m o → HasRoom n o

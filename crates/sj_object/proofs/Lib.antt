@@ -5,6 +5,7 @@ pub mod Lent
 pub mod Chains
 pub mod Walked
 pub mod Hashed
+pub mod Stored
 pub mod Added
 pub mod Shown
 pub mod Kept

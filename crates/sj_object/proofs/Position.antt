@@ -23,6 +23,7 @@ module _ {K V : Type 0} (t : K → List ℕ) (k : List ℕ) where
     pub place : (o : ℕ) → position_from test o ps ≡ Some (o + j)
     pub seen : is_seen k (texts (entries_of t ps)) ≡ true
     pub there : (w : V) (q : K) → t q ≡ k → set_value_at j w (entries_of t ps) ≡ put (q, t q) w (entries_of t ps)
+    pub set_there : (w : V) → set_value_at j w (entries_of t ps) ≡ set_value k w (entries_of t ps)
     pub value_there : value_at j (entries_of t ps) ≡ lookup k (entries_of t ps)
     pub onward : found_on k (entries_of t ps) ≡ drop j (entries_of t ps)
 
@@ -55,6 +56,7 @@ module _ {K V : Type 0} (t : K → List ℕ) (k : List ℕ) where
       cut_at = sym (λ i. after_cut (e i));
       place = λ o. (λ i. if e i then Some o else position_from test (o + 1) ps) ∙ (let h : o ≡ o + 0 = omega arith in ap (λ m. Some m) h);
       there = λ w q h. sym ((λ i. after_put (bytes_eq (h i) (t p.0)) q w) ∙ (λ i. after_put (e i) q w));
+      set_there = λ w. sym (λ i. after_set (e i) w);
       value_there = sym (λ i. if e i then Some p.1 else lookup k (entries_of t ps));
       seen = λ i. e i || is_seen k (texts (entries_of t ps));
       onward = λ i. if e i then ((p.0, t p.0), p.1) ∷ entries_of t ps else found_on k (entries_of t ps);
@@ -70,6 +72,7 @@ module _ {K V : Type 0} (t : K → List ℕ) (k : List ℕ) where
       cut_at = ap (λ l. ((p.0, t p.0), p.1) ∷ l) f.cut_at ∙ sym (λ i. after_cut (e i));
       place = λ o. (λ i. if e i then Some o else position_from test (o + 1) ps) ∙ f.place (o + 1) ∙ (let h : o + 1 + j ≡ o + suc j = omega arith in ap (λ m. Some m) h);
       there = λ w q h. ap (λ l. ((p.0, t p.0), p.1) ∷ l) (f.there w q h) ∙ sym ((λ i. after_put (bytes_eq (h i) (t p.0)) q w) ∙ (λ i. after_put (e i) q w));
+      set_there = λ w. ap (λ l. ((p.0, t p.0), p.1) ∷ l) (f.set_there w) ∙ sym (λ i. after_set (e i) w);
       value_there = f.value_there ∙ sym (λ i. if e i then Some p.1 else lookup k (entries_of t ps));
       seen = (λ i. e i || is_seen k (texts (entries_of t ps))) ∙ f.seen;
       onward = (λ i. if e i then ((p.0, t p.0), p.1) ∷ entries_of t ps else found_on k (entries_of t ps)) ∙ f.onward;

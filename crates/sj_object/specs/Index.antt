@@ -1,35 +1,29 @@
 -- The index of a map's members by their hashes. A map of up to 32 members that never had more is a plain list, and has none.
-use Rattle.std.specs.Prelude.{◌≡◌, ◌+◌, ◌<◌, ◌≤◌, ◌*◌, ◌^◌, ℕ, Bool, true, false, List, length, Option, Some, None, if◌then◌else◌, nat_le, ⊤, refl}
-use Rattle.std.proofs.Common.{arith, Box, Global}
+use Rattle.std.specs.Prelude.{◌≡◌, ◌+◌, ◌<◌, ◌≤◌, ◌*◌, ◌/◌, ◌^◌, ℕ, Bool, true, false, List, length, drop, Option, Some, None, if◌then◌else◌, nat_le, ⊤, refl}
+use Rattle.std.specs.Vec.{vec_capacity}
+use Rattle.std.proofs.Common.{arith}
 use Rattle.std.proofs.lemmas.Bool.Decides.{nat_tests}
 use denote.Struct.Props.{props}
 use Rattle.sj_object.specs.declared.map.index.Table.{Table}
 use Rattle.sj_object.specs.Chains.{IsLinked}
 
--- how many buckets there are
-abbrev pub buckets_of : Option (Box Table Global) → Option ℕ
-buckets_of None = None
-buckets_of (Some b) = Some (length b.value.heads.items)
+-- the hashes of the members that are there: those of members that left at the front, and are not forgotten, stand before them
+abbrev pub hashes_in : Table → List ℕ
+hashes_in t = drop t.gone t.hashes.items
 
--- the members whose hashes t keeps stand in their chains
+-- the members whose hashes t keeps stand in their chains, those that are gone too. There is room for a quarter more than there are buckets
 pub record IsTable (t : Table) : Type 0 where
   pub bits : t.bits < 64
-  pub room : length t.hashes.items ≤ 2 ^ t.bits
+  pub gone : t.gone ≤ length t.hashes.items
+  pub few : t.gone ≤ length t.heads.items / 4
+  pub space : (length t.heads.items + length t.heads.items / 4 ≤ vec_capacity t.hashes) × (length t.heads.items + length t.heads.items / 4 ≤ vec_capacity t.links)
+  pub room : length (hashes_in t) ≤ 2 ^ t.bits
   pub linked : IsLinked (2 ^ t.bits) t.hashes.items t.links.items t.heads.items (length t.hashes.items)
 
 -- t is the table of members with those hashes
 pub record IsTableOf (hashes : List ℕ) (t : Table) : Type 0 where
-  pub same : t.hashes.items ≡ hashes
+  pub same : hashes_in t ≡ hashes
   pub table : IsTable t
-
--- the index of members with those hashes
-abbrev pub IsIndexOf : List ℕ → Option (Box Table Global) → Type 0
-IsIndexOf hashes None = length hashes ≤ 32
-IsIndexOf hashes (Some b) = IsTableOf hashes b.value
-
-pub IsIndexOf-prop : (hashes : List ℕ) (i : Option (Box Table Global)) → IsProp (IsIndexOf hashes i)
-IsIndexOf-prop hashes None = hlevel props
-IsIndexOf-prop hashes (Some b) = hlevel props
 
 -- how many buckets there are once so many members stand in the map, from those before
 abbrev pub buckets_for : ℕ → Option ℕ → Option ℕ

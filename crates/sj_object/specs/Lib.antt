@@ -7,6 +7,7 @@ pub mod Edits
 pub mod Steps
 pub mod Chains
 pub mod Index
+pub mod Stored
 pub mod Lends
 pub mod Laws
 pub mod Builder

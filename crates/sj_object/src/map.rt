@@ -3,7 +3,8 @@
 ghost use Rattle.std.specs.Prelude.{◌≡◌, ◌↔◌, [], length, true, None, IsTrue, IfOk};
 ghost use Rattle.sj_object.specs.Texts.{no_repeats};
 ghost use Rattle.sj_object.specs.Entries.{texts, keys, values, entries_of};
-ghost use Rattle.sj_object.specs.Index.{HasRoom, HasRoom-prop, buckets_of};
+ghost use Rattle.sj_object.specs.Index.{HasRoom, HasRoom-prop};
+ghost use Rattle.sj_object.specs.Stored.{pairs_of, buckets_of};
 
 mod chain;
 mod debug;
@@ -12,15 +13,18 @@ mod index;
 mod insert;
 mod iter;
 mod or_insert;
+mod pairs;
 mod remove;
+mod room;
 mod search;
+mod store;
 
 use crate::hasher::KeyHasher;
 use crate::key::KeyText;
-use index::Index;
 pub use iter::{IntoIter, Iter, Keys, Values};
 use std::alloc::{AllocError, Global};
 use std::marker::Model;
+use store::Store;
 
 /// A map from texts that keeps its members in the order of their insertion.
 ///
@@ -30,26 +34,25 @@ use std::marker::Model;
 /// than there are buckets doubles them, and nothing lowers them.
 #[derive(Drop)]
 pub struct HashMap<K: KeyText, V, S: KeyHasher> {
-    pairs: Vec<(K, V)>,
+    store: Store<K, V>,
     hasher: S,
-    index: Index,
-    ghost distinct: { no_repeats (texts (entries_of K.text_of pairs.items)) ≡ true },
-    ghost room: { HasRoom (length (entries_of K.text_of pairs.items)) (buckets_of index) } by { HasRoom-prop _ _ },
+    ghost distinct: { no_repeats (texts (entries_of K.text_of (pairs_of store))) ≡ true },
+    ghost room: { HasRoom (length (entries_of K.text_of (pairs_of store))) (buckets_of store) } by { HasRoom-prop _ _ },
 }
 
 impl<K: KeyText, V, S: KeyHasher> Model for HashMap<K, V, S> {
     ghost use Rattle.std.specs.Prelude.{map};
     ghost use Rattle.sj_object.specs.Entries.{entries_of};
     ghost use Rattle.sj_object.specs.HashMap.{Contents, contents_code};
-    ghost use Rattle.sj_object.specs.Index.{IsIndexOf, buckets_of};
+    ghost use Rattle.sj_object.specs.Stored.{IsIndexOf, pairs_of, buckets_of};
 
     ghost Value = { Contents K V S };
 
     ghost coded = { contents_code K.code V.code S.code };
 
-    ghost view = { λ m. record { entries = entries_of K.text_of m.pairs.items; hasher = m.hasher; buckets = buckets_of m.index; distinct = m.distinct; room = m.room } };
+    ghost view = { λ m. record { entries = entries_of K.text_of (pairs_of m.store); hasher = m.hasher; buckets = buckets_of m.store; distinct = m.distinct; room = m.room } };
 
-    ghost invariant = { λ m. IsIndexOf (map (λ p. S.hash_of m.hasher (K.text_of p.0)) m.pairs.items) m.index };
+    ghost invariant = { λ m. IsIndexOf (map (λ p. S.hash_of m.hasher (K.text_of p.0)) (pairs_of m.store)) m.store };
 }
 
 impl<K: KeyText, V, S: KeyHasher> HashMap<K, V, S> {
@@ -66,9 +69,8 @@ impl<K: KeyText, V, S: KeyHasher> HashMap<K, V, S> {
         ensures buckets { IfOk result (λ m. m.buckets ≡ None) }
     {
         Ok(HashMap {
-            pairs: Vec::with_capacity(alloc, capacity)?,
+            store: Store::Plain(Vec::with_capacity(alloc, capacity)?),
             hasher,
-            index: None,
         })
     }
 
@@ -76,14 +78,14 @@ impl<K: KeyText, V, S: KeyHasher> HashMap<K, V, S> {
     pub fn len(&self) -> usize
         ensures { result ≡ length self.now.entries }
     {
-        self.pairs.len()
+        self.store.len()
     }
 
     /// Whether there are no members.
     pub fn is_empty(&self) -> bool
         ensures { IsTrue result ↔ (self.now.entries ≡ []) }
     {
-        self.pairs.is_empty()
+        self.store.len() == 0
     }
 
     /// How many buckets the members are hashed to; None where the map is a plain list. Past 32
@@ -92,7 +94,7 @@ impl<K: KeyText, V, S: KeyHasher> HashMap<K, V, S> {
         ensures buckets { result ≡ self.now.buckets }
         ensures room { HasRoom (length self.now.entries) self.now.buckets }
     {
-        index::buckets(&self.index)
+        self.store.buckets()
     }
 
     /// What hashes the keys.
@@ -104,27 +106,27 @@ impl<K: KeyText, V, S: KeyHasher> HashMap<K, V, S> {
 
     /// What the map's memory is taken from.
     pub fn allocator(&self) -> Global {
-        *self.pairs.allocator()
+        self.store.allocator()
     }
 
     /// The members in order, each a key and its value.
     pub fn iter(&self) -> Iter<'_, K, V>
         ensures { entries_of K.text_of result ≡ self.now.entries }
     {
-        Iter::new(&self.pairs)
+        Iter::new(&self.store)
     }
 
     /// The keys in order.
     pub fn keys(&self) -> Keys<'_, K, V>
         ensures { result ≡ keys self.now.entries }
     {
-        Keys::new(&self.pairs)
+        Keys::new(&self.store)
     }
 
     /// The values in order.
     pub fn values(&self) -> Values<'_, K, V>
         ensures { result ≡ values self.now.entries }
     {
-        Values::new(&self.pairs)
+        Values::new(&self.store)
     }
 }

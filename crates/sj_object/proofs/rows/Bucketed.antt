@@ -1,7 +1,9 @@
 -- How many buckets there are.
-use Rattle.std.proofs.Common.{◌≡◌, [], ◌∷◌, length, refl, ap, Some, None, arith, Box, Global}
-use Rattle.sj_object.specs.declared.map.index.Table.{Table}
-use Rattle.sj_object.specs.Index.{buckets_of, buckets_for, HasRoom, NeedsHash}
+use Rattle.std.proofs.Common.{◌≡◌, [], ◌∷◌, length, refl, ap, Some, None, arith, Box, Vec, Global}
+use Rattle.sj_object.specs.declared.map.store.Hashed.{Hashed as Hashes}
+use Rattle.sj_object.specs.declared.map.store.Store.TheVariants.{Plain, Hashed}
+use Rattle.sj_object.specs.Index.{buckets_for, HasRoom, NeedsHash}
+use Rattle.sj_object.specs.Stored.{buckets_of}
 
 at-32 : buckets_for 32 None ≡ None
 at-32 = refl
@@ -22,11 +24,11 @@ at-129 = refl
 after-removals : buckets_for 1 (Some 128) ≡ Some 128
 after-removals = refl
 
-plain : buckets_of None ≡ None
-plain = refl
+plain : {K V : Type 0} (v : Vec (K × V) Global) → buckets_of (Plain v) ≡ None
+plain v = refl
 
 -- one for each head of a chain, also where all chains are empty
-hashed : (b : Box Table Global) → b.value.heads.items ≡ 0 ∷ 0 ∷ [] → buckets_of (Some b) ≡ Some 2
+hashed : {K V : Type 0} (b : Box (Hashes K V) Global) → b.value.table.heads.items ≡ 0 ∷ 0 ∷ [] → buckets_of (Hashed b) ≡ Some 2
 hashed b e = ap (λ hs. Some (length hs)) e
 
 room-plain : HasRoom 32 None

@@ -1,9 +1,10 @@
 //! The chains of members whose hashes share a bucket.
 //!
 //! A place is a member's position counted from 1, and 0 is the end of a chain. A chain begins at
-//! its highest place, and each link goes to a lower one.
+//! its highest place, and each link goes to a lower one. Members that left a map at its front keep
+//! their places until they are forgotten; a chain ends at them.
 
-ghost use Rattle.std.specs.Prelude.{◌≡◌, ◌+◌, ◌<◌, ◌≤◌, ◌%◌, ◌^◌, ℕ, length, map, slice_index};
+ghost use Rattle.std.specs.Prelude.{◌≡◌, ◌+◌, ◌-◌, ◌<◌, ◌≤◌, ◌%◌, ◌^◌, ℕ, length, map, slice_index};
 ghost use Rattle.sj_object.specs.Chains.{IsLinked, lowered, passed};
 
 /// The bucket of a hash, of 2 to the power of `bits`.
@@ -71,6 +72,16 @@ pub fn lower_all(places: &mut [usize], position: usize)
 {
     for place in places.iter_mut() {
         *place = lower(*place, position);
+    }
+}
+
+/// Lowers all places by so many, once as many members in front are left out: a place of those is
+/// then the end of a chain.
+pub fn lower_by(places: &mut [usize], first: usize)
+    ensures { places.new ≡ map (λ p. p - first) places.old }
+{
+    for place in places.iter_mut() {
+        *place = place.saturating_sub(first);
     }
 }
 

@@ -20,7 +20,7 @@ impl<K: KeyText, V, S: KeyHasher> HashMap<K, V, S> {
     pub(super) fn hash_in(&self, key: &str) -> u64
         ensures { IsSome self.now.buckets → result ≡ S.hash_of self.now.hasher key.now }
     {
-        if self.index.is_none() {
+        if self.store.buckets().is_none() {
             0
         } else {
             self.hasher.hash_text(key)
@@ -32,8 +32,8 @@ impl<K: KeyText, V, S: KeyHasher> HashMap<K, V, S> {
         requires { IsSome self.now.buckets → hash ≡ S.hash_of self.now.hasher key.now }
         ensures { option_copied result ≡ lookup key.now self.now.entries }
     {
-        match position_of(&self.pairs, &self.index, &self.hasher, hash, key) {
-            Some(i) => Some(&self.pairs[i].1),
+        match position_of(&self.store, &self.hasher, hash, key) {
+            Some(i) => Some(&self.store.pair(i).1),
             None => None,
         }
     }
@@ -64,8 +64,8 @@ impl<K: KeyText, V, S: KeyHasher> HashMap<K, V, S> {
     {
         let hash = self.hash_in(key);
         let text = key.as_bytes();
-        match position_counted(&self.pairs, &self.index, &self.hasher, hash, text, steps) {
-            Some(i) => Some(&self.pairs[i].1),
+        match position_counted(&self.store, &self.hasher, hash, text, steps) {
+            Some(i) => Some(&self.store.pair(i).1),
             None => None,
         }
     }
@@ -77,7 +77,7 @@ impl<K: KeyText, V, S: KeyHasher> HashMap<K, V, S> {
         ensures within { IfSome result (λ i. i < length self.now.entries) }
         ensures absent { result ≡ None → lookup key.now self.now.entries ≡ None }
     {
-        position_of(&self.pairs, &self.index, &self.hasher, hash, key)
+        position_of(&self.store, &self.hasher, hash, key)
     }
 
     /// Whether a member has the key.
@@ -93,11 +93,8 @@ impl<K: KeyText, V, S: KeyHasher> HashMap<K, V, S> {
         ensures* writes_back { sem 𝓛 (LendsValue K.row V.row S.row K.KeyText S.KeyHasher self.entry key.now result) }
         ensures value { option_copied_mut result ≡ lookup key.now self.old.entries }
     {
-        match position_of(&self.pairs, &self.index, &self.hasher, hash, key) {
-            Some(i) => {
-                let pair = &mut self.pairs[i];
-                Some(&mut pair.1)
-            }
+        match position_of(&self.store, &self.hasher, hash, key) {
+            Some(i) => Some(self.value_at_mut(i)),
             None => None,
         }
     }

@@ -3,13 +3,12 @@
 ghost use Rattle.std.specs.Prelude.{◌≡◌, ◌++◌, ◌∷◌, [], length, None, IsSome, IsOk, IfOk, IfErr, OnOk, OnErr};
 
 use super::HashMap;
-use super::index::make_room;
+use super::room::make_room;
 use super::search::position_of;
 use crate::hasher::KeyHasher;
 use crate::key::KeyText;
 use sj_text_core::Refused;
 use std::alloc::AllocError;
-use std::mem;
 
 impl<K: KeyText, V, S: KeyHasher> HashMap<K, V, S> {
     ghost use Rattle.sj_object.specs.Edits.{lookup, put};
@@ -67,8 +66,8 @@ impl<K: KeyText, V, S: KeyHasher> HashMap<K, V, S> {
         ensures returned { IfErr result (λ r. r.value ≡ (key, value)) }
         ensures succeeds { IsSome (lookup (K.text_of key) self.old.entries) → IsOk result }
     {
-        match position_of(&self.pairs, &self.index, &self.hasher, hash, key.text()) {
-            Some(i) => Ok(Some(mem::replace(&mut self.pairs[i].1, value))),
+        match position_of(&self.store, &self.hasher, hash, key.text()) {
+            Some(i) => Ok(Some(self.store.replace(i, value))),
             None => {
                 self.append_hashed(hash, key, value)?;
                 Ok(None)
@@ -80,10 +79,10 @@ impl<K: KeyText, V, S: KeyHasher> HashMap<K, V, S> {
     pub(crate) fn hash_for(&self, text: &str) -> u64
         ensures { NeedsHash (length self.now.entries) self.now.buckets → result ≡ S.hash_of self.now.hasher text.now }
     {
-        if self.index.is_none() && self.pairs.len() < 32 {
-            0
-        } else {
+        if self.store.reads_hash() {
             self.hasher.hash_text(text)
+        } else {
+            0
         }
     }
 
@@ -104,9 +103,9 @@ impl<K: KeyText, V, S: KeyHasher> HashMap<K, V, S> {
         ensures refused { OnErr result (self.new ≡ self.old) }
         ensures returned { IfErr result (λ r. r.value ≡ (key, value)) }
     {
-        match make_room(&mut self.pairs, &mut self.index, &self.hasher, hash) {
+        match make_room(&mut self.store, &self.hasher, hash) {
             Ok(()) => {
-                self.pairs.push_reserved((key, value));
+                self.store.push_reserved((key, value));
                 Ok(())
             }
             Err(why) => Err(Refused {

@@ -5,33 +5,35 @@ ghost use Rattle.std.specs.Iterator.{at_most};
 ghost use Rattle.std.specs.Map.Iter.{TakesFirst, deref, deref_pair};
 ghost use Rattle.std.specs.Prelude.{length};
 ghost use Rattle.sj_object.specs.Entries.{entries_of};
+ghost use Rattle.sj_object.specs.Stored.{pairs_of};
 
 use super::HashMap;
+use super::pairs::Pairs;
+use super::store::Store;
 use crate::hasher::KeyHasher;
 use crate::key::KeyText;
 use std::marker::Model;
-use std::{slice, vec};
+use std::vec;
 
 /// The members in order, each as `(&K, &V)`.
 pub struct Iter<'a, K, V> {
-    pairs: slice::Iter<'a, (K, V)>,
+    pairs: Pairs<'a, K, V>,
 }
 
 impl<'a, K, V> Model for Iter<'a, K, V> {
     ghost use Rattle.std.specs.Prelude.{List};
-    ghost use Rattle.std.specs.Slice.Iter.{iter_rest};
 
     ghost Value = { List (K × V) };
 
-    ghost view = { λ a. iter_rest a.pairs };
+    ghost view = { λ a. a.pairs };
 }
 
 impl<'a, K, V> Iter<'a, K, V> {
-    pub(super) fn new(pairs: &'a [(K, V)]) -> Self
-        ensures { result ≡ pairs.now }
+    pub(super) fn new(store: &'a Store<K, V>) -> Self
+        ensures { result ≡ pairs_of store.now }
     {
         Iter {
-            pairs: pairs.iter(),
+            pairs: Pairs::new(store),
         }
     }
 }
@@ -57,24 +59,23 @@ impl<'a, K, V> Iterator for Iter<'a, K, V> {
 
 /// The keys in order.
 pub struct Keys<'a, K, V> {
-    pairs: slice::Iter<'a, (K, V)>,
+    pairs: Pairs<'a, K, V>,
 }
 
 impl<'a, K, V> Model for Keys<'a, K, V> {
     ghost use Rattle.std.specs.Prelude.{List, map};
-    ghost use Rattle.std.specs.Slice.Iter.{iter_rest};
 
     ghost Value = { List K };
 
-    ghost view = { λ a. map (λ (p : K × V). p.0) (iter_rest a.pairs) };
+    ghost view = { λ a. map (λ (p : K × V). p.0) a.pairs };
 }
 
 impl<'a, K, V> Keys<'a, K, V> {
-    pub(super) fn new(pairs: &'a [(K, V)]) -> Self
-        ensures { result ≡ map (λ p. p.0) pairs.now }
+    pub(super) fn new(store: &'a Store<K, V>) -> Self
+        ensures { result ≡ map (λ p. p.0) (pairs_of store.now) }
     {
         Keys {
-            pairs: pairs.iter(),
+            pairs: Pairs::new(store),
         }
     }
 }
@@ -100,24 +101,23 @@ impl<'a, K, V> Iterator for Keys<'a, K, V> {
 
 /// The values in order.
 pub struct Values<'a, K, V> {
-    pairs: slice::Iter<'a, (K, V)>,
+    pairs: Pairs<'a, K, V>,
 }
 
 impl<'a, K, V> Model for Values<'a, K, V> {
     ghost use Rattle.std.specs.Prelude.{List, map};
-    ghost use Rattle.std.specs.Slice.Iter.{iter_rest};
 
     ghost Value = { List V };
 
-    ghost view = { λ a. map (λ (p : K × V). p.1) (iter_rest a.pairs) };
+    ghost view = { λ a. map (λ (p : K × V). p.1) a.pairs };
 }
 
 impl<'a, K, V> Values<'a, K, V> {
-    pub(super) fn new(pairs: &'a [(K, V)]) -> Self
-        ensures { result ≡ map (λ p. p.1) pairs.now }
+    pub(super) fn new(store: &'a Store<K, V>) -> Self
+        ensures { result ≡ map (λ p. p.1) (pairs_of store.now) }
     {
         Values {
-            pairs: pairs.iter(),
+            pairs: Pairs::new(store),
         }
     }
 }
@@ -176,13 +176,9 @@ impl<K: KeyText + Drop, V: Drop, S: KeyHasher + Drop> IntoIterator for HashMap<K
     ghost into_iter_gives = { λ m it. entries_of K.text_of it ≡ m.entries };
 
     fn into_iter(self) -> IntoIter<K, V> {
-        let HashMap {
-            pairs,
-            hasher: _,
-            index: _,
-        } = self;
+        let HashMap { store, hasher: _ } = self;
         IntoIter {
-            pairs: pairs.into_iter(),
+            pairs: store.into_vec().into_iter(),
         }
     }
 }

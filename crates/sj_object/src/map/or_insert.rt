@@ -4,8 +4,9 @@ ghost use Rattle.std.specs.Prelude.{◌≡◌, ◌<◌, length, Some, None, IsSo
 ghost use Rattle.std.specs.Borrow.{sem};
 
 use super::HashMap;
-use super::index::make_room;
+use super::room::make_room;
 use super::search::position_of;
+use super::store::Store;
 use crate::hasher::KeyHasher;
 use crate::key::KeyText;
 use std::alloc::AllocError;
@@ -21,8 +22,16 @@ impl<K: KeyText, V, S: KeyHasher> HashMap<K, V, S> {
         ensures* writes_back { sem 𝓛 (LendsAt K.row V.row S.row K.KeyText S.KeyHasher self.entry position result) }
         ensures value { value_at position self.old.entries ≡ Some result.now }
     {
-        let pair = &mut self.pairs[position];
-        &mut pair.1
+        match &mut self.store {
+            Store::Plain(pairs) => {
+                let pair = &mut pairs[position];
+                &mut pair.1
+            }
+            Store::Hashed(hashed) => {
+                let pair = &mut hashed.pairs[position];
+                &mut pair.1
+            }
+        }
     }
 
     /// The value of the key, which hashes to `hash`, to write; where the key is absent, `with` is
@@ -43,7 +52,7 @@ impl<K: KeyText, V, S: KeyHasher> HashMap<K, V, S> {
         ensures made { lookup (K.text_of key) self.old.entries ≡ None → IfOk result (λ v. F.post with v.now) }
         ensures succeeds { IsSome (lookup (K.text_of key) self.old.entries) → IsOk result }
     {
-        if let Some(i) = position_of(&self.pairs, &self.index, &self.hasher, hash, key.text()) {
+        if let Some(i) = position_of(&self.store, &self.hasher, hash, key.text()) {
             return Ok(self.value_at_mut(i));
         }
         self.append_hashed_with(hash, key, with)
@@ -66,12 +75,12 @@ impl<K: KeyText, V, S: KeyHasher> HashMap<K, V, S> {
         ensures* writes_back { sem 𝓛 (LendsEntry K.row V.row S.row K.KeyText S.KeyHasher self.entry (key, K.text_of key) result) }
         ensures made { IfOk result (λ v. F.post with v.now) }
     {
-        if let Err(why) = make_room(&mut self.pairs, &mut self.index, &self.hasher, hash) {
+        if let Err(why) = make_room(&mut self.store, &self.hasher, hash) {
             return Err(why);
         }
         let value = with();
-        self.pairs.push_reserved((key, value));
-        let last = self.pairs.len() - 1;
+        self.store.push_reserved((key, value));
+        let last = self.store.len() - 1;
         Ok(self.value_at_mut(last))
     }
 }

@@ -2,8 +2,8 @@
 
 ghost use Rattle.std.specs.Prelude.{◌≡◌, ◌++◌, [], IfNone, option_to_list};
 
+use super::HashMap;
 use super::search::position_of;
-use super::{HashMap, index};
 use crate::hasher::KeyHasher;
 use crate::key::KeyText;
 
@@ -21,9 +21,8 @@ impl<K: KeyText, V, S: KeyHasher> HashMap<K, V, S> {
         ensures buckets { self.new.buckets ≡ self.old.buckets }
     {
         let hash = self.hash_in(key);
-        let i = position_of(&self.pairs, &self.index, &self.hasher, hash, key)?;
-        let (_, value) = self.pairs.remove(i);
-        index::remove(&mut self.index, i);
+        let i = position_of(&self.store, &self.hasher, hash, key)?;
+        let (_, value) = self.store.remove(i)?;
         Some(value)
     }
 
@@ -35,9 +34,7 @@ impl<K: KeyText, V, S: KeyHasher> HashMap<K, V, S> {
         ensures hasher { self.new.hasher ≡ self.old.hasher }
         ensures buckets { self.new.buckets ≡ self.old.buckets }
     {
-        let pair = self.pairs.pop()?;
-        index::pop(&mut self.index);
-        Some(pair)
+        self.store.pop()
     }
 
     /// Lets a map without members go, whatever its keys and values are.
@@ -46,11 +43,7 @@ impl<K: KeyText, V, S: KeyHasher> HashMap<K, V, S> {
         S: Drop,
         requires { self.entries ≡ [] }
     {
-        let HashMap {
-            pairs,
-            hasher: _,
-            index: _,
-        } = self;
-        pairs.destroy_empty();
+        let HashMap { store, hasher: _ } = self;
+        store.into_vec().destroy_empty();
     }
 }

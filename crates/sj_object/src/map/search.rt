@@ -1,14 +1,16 @@
 //! Where a key stands among the members.
 
-ghost use Rattle.std.specs.Prelude.{◌≡◌, ◌+◌, ◌<◌, ◌%◌, ◌^◌, ◌&&◌, ◌∷◌, [], true, map, length, IsSome, bytes_eq};
+ghost use Rattle.std.specs.Prelude.{◌≡◌, ◌+◌, ◌<◌, ◌%◌, ◌^◌, ◌&&◌, ◌∷◌, ◌++◌, [], true, map, length, slice_index_or, IsSome, bytes_eq};
 ghost use Rattle.std.specs.List.{position_from};
 ghost use Rattle.sj_object.specs.Entries.{entries_of, texts};
 ghost use Rattle.sj_object.specs.Texts.{no_repeats};
 ghost use Rattle.sj_object.specs.Steps.{visited, walk, compared};
-ghost use Rattle.sj_object.specs.Index.{IsIndexOf, IsTableOf, buckets_of};
+ghost use Rattle.sj_object.specs.Index.{IsTableOf};
+ghost use Rattle.sj_object.specs.Stored.{pairs_of, buckets_of, IsIndexOf};
 
 use super::chain::bucket_of;
-use super::index::{Index, Table};
+use super::index::Table;
+use super::store::{Hashed, Store};
 use crate::hasher::KeyHasher;
 use crate::key::KeyText;
 use sj_text_core::{Steps, are_same_bytes};
@@ -43,57 +45,116 @@ fn position_in_list<K: KeyText, V, L: Ledger>(
     None
 }
 
-/// The same along the chain of the text's bucket.
-fn position_in_chain<K: KeyText, V, S: KeyHasher, L: Ledger>(
-    pairs: &[(K, V)],
+/// The pair at a position of two parts.
+#[inline]
+fn pair_at<'a, K, V>(front: &'a [(K, V)], back: &'a [(K, V)], position: usize) -> &'a (K, V)
+    requires { position < length (front.now ++ back.now) }
+    ensures { result.now ≡ slice_index_or (front.now ++ back.now) position result.now }
+{
+    if back.is_empty() || position < front.len() {
+        &front[position]
+    } else {
+        &back[position - front.len()]
+    }
+}
+
+/// The position of the pair whose key has the text, along the chain of the text's bucket, where
+/// the pairs stand in two parts.
+#[inline(always)]
+fn position_in_parts<K: KeyText, V, S: KeyHasher, L: Ledger>(
+    front: &[(K, V)],
+    back: &[(K, V)],
     table: &Table,
     _hasher: &S,
     hash: u64,
     text: &[u8],
     steps: &mut Steps<L>,
 ) -> Option<usize>
-    requires distinct { no_repeats (texts (entries_of K.text_of pairs.now)) ≡ true }
-    requires table { IsTableOf (map (λ p. S.hash_of _hasher.now (K.text_of p.0)) pairs.now) table.now }
+    requires distinct { no_repeats (texts (entries_of K.text_of (front.now ++ back.now))) ≡ true }
+    requires table { IsTableOf (map (λ p. S.hash_of _hasher.now (K.text_of p.0)) (front.now ++ back.now)) table.now }
     requires hash { hash ≡ S.hash_of _hasher.now text.now }
-    ensures found { result ≡ position_from (λ p. bytes_eq text.now (K.text_of p.0)) 0 pairs.now }
-    ensures exact { steps.new ≡ steps.old + walk (S.hash_of _hasher.now) (length table.now.heads.items) text.now (entries_of K.text_of pairs.now) }
+    ensures found { result ≡ position_from (λ p. bytes_eq text.now (K.text_of p.0)) 0 (front.now ++ back.now) }
+    ensures exact { steps.new ≡ steps.old + walk (S.hash_of _hasher.now) (length table.now.heads.items) text.now (entries_of K.text_of (front.now ++ back.now)) }
 {
     let mut place = table.heads[bucket_of(hash, table.bits)];
-    while place > 0 {
-        let i = place - 1;
-        if is_key(table.hashes[i] == hash, &pairs[i].0, text, steps) {
+    while place > table.gone {
+        let may_be = table.hashes[place - 1] == hash;
+        let i = place - 1 - table.gone;
+        if is_key(may_be, &pair_at(front, back, i).0, text, steps) {
             return Some(i);
         }
-        place = table.links[i];
+        place = table.links[place - 1];
     }
     None
 }
 
-/// The position of the pair whose key has the text, and, where there are buckets, the hash.
-pub fn position_counted<K: KeyText, V, S: KeyHasher, L: Ledger>(
-    pairs: &[(K, V)],
-    index: &Index,
+/// The same, apart from its callers: few rings have come round.
+#[inline(never)]
+fn position_in_two<K: KeyText, V, S: KeyHasher, L: Ledger>(
+    front: &[(K, V)],
+    back: &[(K, V)],
+    table: &Table,
     hasher: &S,
     hash: u64,
     text: &[u8],
     steps: &mut Steps<L>,
 ) -> Option<usize>
-    requires distinct { no_repeats (texts (entries_of K.text_of pairs.now)) ≡ true }
-    requires index { IsIndexOf (map (λ p. S.hash_of hasher.now (K.text_of p.0)) pairs.now) index.now }
-    requires hash { IsSome (buckets_of index.now) → hash ≡ S.hash_of hasher.now text.now }
-    ensures found { result ≡ position_from (λ p. bytes_eq text.now (K.text_of p.0)) 0 pairs.now }
-    ensures exact { steps.new ≡ steps.old + compared (S.hash_of hasher.now) (buckets_of index.now) text.now (entries_of K.text_of pairs.now) }
+    requires distinct { no_repeats (texts (entries_of K.text_of (front.now ++ back.now))) ≡ true }
+    requires table { IsTableOf (map (λ p. S.hash_of hasher.now (K.text_of p.0)) (front.now ++ back.now)) table.now }
+    requires hash { hash ≡ S.hash_of hasher.now text.now }
+    ensures found { result ≡ position_from (λ p. bytes_eq text.now (K.text_of p.0)) 0 (front.now ++ back.now) }
+    ensures exact { steps.new ≡ steps.old + walk (S.hash_of hasher.now) (length table.now.heads.items) text.now (entries_of K.text_of (front.now ++ back.now)) }
 {
-    match index {
-        None => position_in_list(pairs, text, steps),
-        Some(table) => position_in_chain(pairs, table, hasher, hash, text, steps),
+    position_in_parts(front, back, table, hasher, hash, text, steps)
+}
+
+/// The same, where the pairs stand in a ring.
+fn position_in_chain<K: KeyText, V, S: KeyHasher, L: Ledger>(
+    hashed: &Hashed<K, V>,
+    hasher: &S,
+    hash: u64,
+    text: &[u8],
+    steps: &mut Steps<L>,
+) -> Option<usize>
+    requires distinct { no_repeats (texts (entries_of K.text_of hashed.now.pairs.items)) ≡ true }
+    requires table { IsTableOf (map (λ p. S.hash_of hasher.now (K.text_of p.0)) hashed.now.pairs.items) hashed.now.table }
+    requires hash { hash ≡ S.hash_of hasher.now text.now }
+    ensures found { result ≡ position_from (λ p. bytes_eq text.now (K.text_of p.0)) 0 hashed.now.pairs.items }
+    ensures exact { steps.new ≡ steps.old + walk (S.hash_of hasher.now) (length hashed.now.table.heads.items) text.now (entries_of K.text_of hashed.now.pairs.items) }
+{
+    let (front, back) = hashed.pairs.as_slices();
+    // A ring that has not come round is one part, in which no step looks for the other.
+    if back.is_empty() {
+        let none = &front[..0];
+        position_in_parts(front, none, &hashed.table, hasher, hash, text, steps)
+    } else {
+        position_in_two(front, back, &hashed.table, hasher, hash, text, steps)
+    }
+}
+
+/// The position of the pair whose key has the text, and, where there are buckets, the hash.
+pub fn position_counted<K: KeyText, V, S: KeyHasher, L: Ledger>(
+    store: &Store<K, V>,
+    hasher: &S,
+    hash: u64,
+    text: &[u8],
+    steps: &mut Steps<L>,
+) -> Option<usize>
+    requires distinct { no_repeats (texts (entries_of K.text_of (pairs_of store.now))) ≡ true }
+    requires index { IsIndexOf (map (λ p. S.hash_of hasher.now (K.text_of p.0)) (pairs_of store.now)) store.now }
+    requires hash { IsSome (buckets_of store.now) → hash ≡ S.hash_of hasher.now text.now }
+    ensures found { result ≡ position_from (λ p. bytes_eq text.now (K.text_of p.0)) 0 (pairs_of store.now) }
+    ensures exact { steps.new ≡ steps.old + compared (S.hash_of hasher.now) (buckets_of store.now) text.now (entries_of K.text_of (pairs_of store.now)) }
+{
+    match store {
+        Store::Plain(pairs) => position_in_list(pairs, text, steps),
+        Store::Hashed(hashed) => position_in_chain(hashed, hasher, hash, text, steps),
     }
 }
 
 /// The same, where nobody reads the steps.
 fn position_blank<K: KeyText, V, S: KeyHasher, L: Ledger>(
-    pairs: &[(K, V)],
-    index: &Index,
+    store: &Store<K, V>,
     hasher: &S,
     hash: u64,
     text: &[u8],
@@ -102,27 +163,26 @@ fn position_blank<K: KeyText, V, S: KeyHasher, L: Ledger>(
     requires name { blank.name ≡ L.name }
     requires parts { blank.parts ≡ L.parts }
     requires some { 0 < L.parts }
-    requires distinct { no_repeats (texts (entries_of K.text_of pairs.now)) ≡ true }
-    requires index { IsIndexOf (map (λ p. S.hash_of hasher.now (K.text_of p.0)) pairs.now) index.now }
-    requires hash { IsSome (buckets_of index.now) → hash ≡ S.hash_of hasher.now text.now }
-    ensures { result ≡ position_from (λ p. bytes_eq text.now (K.text_of p.0)) 0 pairs.now }
+    requires distinct { no_repeats (texts (entries_of K.text_of (pairs_of store.now))) ≡ true }
+    requires index { IsIndexOf (map (λ p. S.hash_of hasher.now (K.text_of p.0)) (pairs_of store.now)) store.now }
+    requires hash { IsSome (buckets_of store.now) → hash ≡ S.hash_of hasher.now text.now }
+    ensures { result ≡ position_from (λ p. bytes_eq text.now (K.text_of p.0)) 0 (pairs_of store.now) }
 {
     let mut steps = Steps::<L>::new(blank);
-    position_counted(pairs, index, hasher, hash, text, &mut steps)
+    position_counted(store, hasher, hash, text, &mut steps)
 }
 
 /// The position of the pair whose key has the text, and, where there are buckets, the hash.
 pub fn position_of<K: KeyText, V, S: KeyHasher>(
-    pairs: &[(K, V)],
-    index: &Index,
+    store: &Store<K, V>,
     hasher: &S,
     hash: u64,
     text: &str,
 ) -> Option<usize>
-    requires distinct { no_repeats (texts (entries_of K.text_of pairs.now)) ≡ true }
-    requires index { IsIndexOf (map (λ p. S.hash_of hasher.now (K.text_of p.0)) pairs.now) index.now }
-    requires hash { IsSome (buckets_of index.now) → hash ≡ S.hash_of hasher.now text.now }
-    ensures { result ≡ position_from (λ p. bytes_eq text.now (K.text_of p.0)) 0 pairs.now }
+    requires distinct { no_repeats (texts (entries_of K.text_of (pairs_of store.now))) ≡ true }
+    requires index { IsIndexOf (map (λ p. S.hash_of hasher.now (K.text_of p.0)) (pairs_of store.now)) store.now }
+    requires hash { IsSome (buckets_of store.now) → hash ≡ S.hash_of hasher.now text.now }
+    ensures { result ≡ position_from (λ p. bytes_eq text.now (K.text_of p.0)) 0 (pairs_of store.now) }
 {
-    position_blank::<K, V, S, Brand>(pairs, index, hasher, hash, text.as_bytes(), Blank::new(1))
+    position_blank::<K, V, S, Brand>(store, hasher, hash, text.as_bytes(), Blank::new(1))
 }

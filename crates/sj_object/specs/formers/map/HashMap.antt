@@ -4,19 +4,26 @@ use Rattle.std.proofs.Common.{arith}
 use Rattle.std.proofs.lemmas.List.{length-map}
 use mathlib.Core.Path.{PathP, refl, sym, ap, ◌∙◌, subst}
 use mathlib.Core.HLevel.{is_prop→PathP}
-use mathlib.Core.Former.{Former, Count, Row, over, one_more, this, const, pair, list, children}
-use base.Stored.{gcons, coded×, coded_list, coded_ℕ, coded_bool, Coded-set, code_map}
+use mathlib.Core.Logic.{inl, inr}
+use mathlib.Core.Former.{Former, Count, Row, over, one_more, this, const, pair, or, via, such, list, children}
+use base.Stored.{gnil, gcons, coded×, coded_list, coded_ℕ, coded_bool, Coded-set, code_map}
 use denote.RattleType.{RattleType}
 use denote.Struct.Tuple.{tuple_type}
 use denote.Struct.Declared as declared
 use denote.HoleLaws.{Alike}
-use denote.HolePlaces.{Recodes, struct_places, laid}
+use base.Fml.{ftrue}
+use denote.Memory.{part_of}
+use denote.RawPtr.{Ptr}
+use denote.Sharing.{nothing}
+use denote.HolePlaces.{Recodes, struct_places, enum_places, eachs, laid, one_value}
 use denote.Hole.Carrier.{listed}
 use denote.Hole.Fix as fix
 use denote.Param.Weighed.{Weighed, w_pair, w_const, w_list}
 use denote.Model.Placed.{held, view_places}
 use Rattle.std.specs.formers.vec.Vec as vec
-use Rattle.std.specs.declared.vec.Vec.{Vec}
+use Rattle.std.specs.formers.vec.deque.VecDeque as deque
+use Rattle.std.specs.declared.boxed.Box.{Box}
+use Rattle.std.specs.contracts.boxed.Box as box
 use Rattle.std.specs.declared.alloc.Global.{Global}
 use Rattle.std.specs.contracts.alloc.Global as heap
 use Rattle.std.specs.contracts.impls.GlobalAllocator.TheImpl.{ghosts}
@@ -27,7 +34,14 @@ use Rattle.sj_object.specs.declared.hasher.KeyHasher as hasher
 use Rattle.sj_object.specs.Texts.{no_repeats}
 use Rattle.sj_object.specs.Entries.{Entry, texts, entries_of}
 use Rattle.sj_object.specs.HashMap.{Contents, same_contents}
-use Rattle.sj_object.specs.Index.{HasRoom, HasRoom-prop, IsIndexOf, IsIndexOf-prop, buckets_of}
+use Rattle.sj_object.specs.Index.{HasRoom, HasRoom-prop}
+use Rattle.sj_object.specs.Stored.{IsIndexOf, IsIndexOf-prop, pairs_of, buckets_of}
+use Rattle.sj_object.specs.declared.map.index.Table.{Table}
+use Rattle.sj_object.specs.declared.map.store.Store.{Store}
+use Rattle.sj_object.specs.declared.map.store.Store.TheVariants.{Plain, Hashed}
+use Rattle.sj_object.specs.declared.map.store.Hashed.{Hashed as Ring}
+use Rattle.sj_object.specs.contracts.map.store.Store as store_contracts
+use Rattle.sj_object.specs.contracts.map.store.Hashed as ring_contracts
 use Rattle.sj_object.specs.declared.map.HashMap.TheInside.{Inside}
 use Rattle.sj_object.specs.declared.map.HashMap.TheView.{view, invariant}
 use Rattle.sj_object.specs.contracts.map.HashMap as C
@@ -143,68 +157,84 @@ keys-map : {K X Y B : Type 0} (f : K → B) (h : X → Y) (ps : List (K × X)) �
 keys-map f h [] = refl
 keys-map f h (p ∷ ps) = ap (λ l. f p.0 ∷ l) (keys-map f h ps)
 
+-- ---- what stores the members
+module _ (K : Type 0) where
+  abbrev cells : Former {0}
+  cells = or (vec.the_former (entry this K) Global) (pair (deque.the_former (entry this K) Global) (const (Table × (Ptr × Global))))
+
+  abbrev split : (X : Type 0) → Store K X → cells.Of X
+  split X (Plain v) = inl v
+  split X (Hashed b) = inr (b.value.pairs, (b.value.table, (b.ptr, b.alloc)))
+
+  abbrev join : (X : Type 0) → cells.Of X → Store K X
+  join X (inl v) = Plain v
+  join X (inr c) = Hashed (record { ptr = c.1.1.0; alloc = c.1.1.1; value = record { pairs = c.0; table = c.1.0 } })
+
+  join-split : (X : Type 0) (s : Store K X) → join X (split X s) ≡ s
+  join-split X (Plain v) = refl
+  join-split X (Hashed b) = refl
+
+  split-join : (X : Type 0) (c : cells.Of X) → split X (join X c) ≡ c
+  split-join X (inl v) = refl
+  split-join X (inr c) = refl
+
+  abbrev store : Former {0}
+  store = via cells (λ X. Store K X) split join join-split split-join
+
+module _ {K X Y : Type 0} (h : X → Y) where
+  abbrev stored : Store K X → Store K Y
+  stored = (store K).map X Y h
+
+  pairs-stored : (s : Store K X) → pairs_of (stored s) ≡ map (on_value h) (pairs_of s)
+  pairs-stored (Plain v) = refl
+  pairs-stored (Hashed b) = refl
+
+  buckets-stored : (s : Store K X) → buckets_of (stored s) ≡ buckets_of s
+  buckets-stored (Plain v) = refl
+  buckets-stored (Hashed b) = refl
+
+  index-stored : (hs : List ℕ) (s : Store K X) → IsIndexOf hs s → IsIndexOf hs (stored s)
+  index-stored hs (Plain v) i = i
+  index-stored hs (Hashed b) i = i
+
+  index-seen : (hs : List ℕ) (s : Store K X) → IsIndexOf hs (stored s) → IsIndexOf hs s
+  index-seen hs (Plain v) i = i
+  index-seen hs (Hashed b) i = i
+
+held_of-store : {K X : Type 0} (t : K → List ℕ) (s : Store K X) → held (list (entry this (K × List ℕ))) X (entries_of t (pairs_of s)) ≡ held (store K) X s
+held_of-store t (Plain v) = entries_of-held t v.items
+held_of-store t (Hashed b) = entries_of-held t b.value.pairs.items
+
 module _ (K S : Type 0) (G : text.Ghosts K) (E : eq.Ghosts K) (H : hasher.Ghosts S) where
   abbrev In : Type 0 → Type 0
   In X = Inside K X S G E H
 
-  abbrev Sound : {X : Type 0} → Option ℕ → List (K × X) → Type 0
-  Sound o ps = Fits o (entries_of G.text_of ps)
+  -- what a store has to be
+  abbrev Sound : {X : Type 0} → Store K X → Type 0
+  Sound s = Fits (buckets_of s) (entries_of G.text_of (pairs_of s))
 
-  abbrev sound : {X : Type 0} (m : In X) → Sound (buckets_of m.index) m.pairs.items
-  sound m = (m.distinct, m.room)
+  Sound-prop : {X : Type 0} (s : Store K X) → IsProp (Sound s)
+  Sound-prop s = Fits-prop (buckets_of s) (entries_of G.text_of (pairs_of s))
 
-  Sound-map : {X Y : Type 0} (o : Option ℕ) (h : X → Y) (ps : List (K × X)) → Sound o ps → Sound o (map (on_value h) ps)
-  Sound-map o h ps p = subst (Fits o) (sym (entries_of-map G.text_of h ps)) (Fits-map o h (entries_of G.text_of ps) p)
+  Sound-map : {X Y : Type 0} (h : X → Y) (s : Store K X) → Sound s → Sound (stored h s)
+  Sound-map h (Plain v) p = subst (Fits None) (sym (entries_of-map G.text_of h v.items)) (Fits-map None h (entries_of G.text_of v.items) p)
+  Sound-map h (Hashed b) p = subst (Fits (buckets_of (Hashed b))) (sym (entries_of-map G.text_of h b.value.pairs.items)) (Fits-map (buckets_of (Hashed b)) h (entries_of G.text_of b.value.pairs.items) p)
 
-  Sound-seen : {X Y : Type 0} (o : Option ℕ) (h : X → Y) (ps : List (K × X)) (qs : List (K × Y)) → map (on_value h) ps ≡ qs → Sound o qs → Sound o ps
-  Sound-seen o h ps qs e p = Fits-seen o h (entries_of G.text_of ps) (entries_of G.text_of qs) (sym (entries_of-map G.text_of h ps) ∙ ap (entries_of G.text_of) e) p
+  Sound-seen : {X Y : Type 0} (h : X → Y) (s : Store K X) → Sound (stored h s) → Sound s
+  Sound-seen h (Plain v) p = Fits-seen None h (entries_of G.text_of v.items) _ (sym (entries_of-map G.text_of h v.items)) p
+  Sound-seen h (Hashed b) p = Fits-seen (buckets_of (Hashed b)) h (entries_of G.text_of b.value.pairs.items) _ (sym (entries_of-map G.text_of h b.value.pairs.items)) p
 
-  module _ {X Y : Type 0} (m : In X) where
-    abbrev with_pairs : (ps : Vec (K × Y) Global) → Sound (buckets_of m.index) ps.items → In Y
-    with_pairs ps ok = record { pairs = ps; hasher = m.hasher; index = m.index; distinct = ok.0; room = ok.1 }
+  seen_at : (X : Type 0) (s : Store K X) → join K (Unit {0}) ((store K).shape X s) ≡ stored (λ x. tt) s
+  seen_at X (Plain v) = refl
+  seen_at X (Hashed b) = refl
 
-    Sound-along : (ps qs : Vec (K × Y) Global) (e : ps ≡ qs) (p : Sound (buckets_of m.index) ps.items) (q : Sound (buckets_of m.index) qs.items) → PathP (λ i. Sound (buckets_of m.index) (e i).items) p q
-    Sound-along ps qs e = is_prop→PathP (λ i. Sound (buckets_of m.index) (e i).items) (λ i. Fits-prop (buckets_of m.index) (entries_of G.text_of (e i).items))
-
-    abbrev with_pairs_along : (ps qs : Vec (K × Y) Global) (e : ps ≡ qs) (p : Sound (buckets_of m.index) ps.items) (q : Sound (buckets_of m.index) qs.items) → with_pairs ps p ≡ with_pairs qs q
-    with_pairs_along ps qs e p q = λ i. with_pairs (e i) (Sound-along ps qs e p q i)
-
-  abbrev fields_mapped : {X Y : Type 0} → (X → Y) → In X → In Y
-  fields_mapped h m = with_pairs m (vec.mapped (on_value h) m.pairs) (Sound-map (buckets_of m.index) h m.pairs.items (sound m))
-
-  abbrev pairs : Former {0}
-  pairs = vec.the_former (entry this K) Global
-
-  sound_got : (X : Type 0) (a : In (Unit {0})) (n : Count) (v : Row X (pairs.count a.pairs n)) → Sound (buckets_of a.index) (pairs.get X a.pairs n v).0.items
-  sound_got X a n v = Sound-seen (buckets_of a.index) (λ x. tt) (pairs.get X a.pairs n v).0.items a.pairs.items (λ i. (pairs.put-get X a.pairs n v i).0.items) (sound a)
-
-  abbrev fields_got : (X : Type 0) (a : In (Unit {0})) (n : Count) → Row X (pairs.count a.pairs n) → In X × Row X n
-  fields_got X a n v = let r : Vec (K × X) Global × Row X n = pairs.get X a.pairs n v in (with_pairs a r.0 (sound_got X a n v), r.1)
-
-  fields_got-put : (X : Type 0) (m : In X) (n : Count) (t : Row X n) → fields_got X (fields_mapped (λ x. tt) m) n (pairs.put X m.pairs n t) ≡ (m, t)
-  fields_got-put X m n t = λ i. (with_pairs_along m _ _ (λ j. (pairs.get-put X m.pairs n t j).0) (sound (fields_got X (fields_mapped (λ x. tt) m) n (pairs.put X m.pairs n t)).0) (sound m) i, (pairs.get-put X m.pairs n t i).1)
-
-  fields_put-got : (X : Type 0) (a : In (Unit {0})) (n : Count) (v : Row X (pairs.count a.pairs n))
-      → ◌≡◌ {A = (b : In (Unit {0})) × Row X (pairs.count b.pairs n)} (fields_mapped (λ x. tt) (fields_got X a n v).0, pairs.put X (fields_got X a n v).0.pairs n (fields_got X a n v).1) (a, v)
-  fields_put-got X a n v = λ i. (with_pairs_along a _ _ (λ j. (pairs.put-get X a.pairs n v j).0) (sound (fields_mapped (λ x. tt) (fields_got X a n v).0)) (sound a) i, (pairs.put-get X a.pairs n v i).1)
-
-  fields_got-map : (X Y : Type 0) (h : X → Y) (a : In (Unit {0})) (n : Count) (v : Row X (pairs.count a.pairs n))
-      → fields_got Y a n (over h (pairs.count a.pairs n) v) ≡ (fields_mapped h (fields_got X a n v).0, over h n (fields_got X a n v).1)
-  fields_got-map X Y h a n v = λ i. (with_pairs_along a _ _ (λ j. (pairs.get-map X Y h a.pairs n v j).0) (sound (fields_got Y a n (over h (pairs.count a.pairs n) v)).0) (sound (fields_mapped h (fields_got X a n v).0)) i, (pairs.get-map X Y h a.pairs n v i).1)
+  abbrev parts : Former {0}
+  parts = such (pair (store K) (const S)) (λ X x. Sound x.0) (λ a. Sound (join K (Unit {0}) a.0)) (λ X x. Sound-prop x.0) (λ a. Sound-prop (join K (Unit {0}) a.0))
+      (λ X x p. subst Sound (sym (seen_at X x.0)) (Sound-map (λ x. tt) x.0 p))
+      (λ X x q. Sound-seen (λ x. tt) x.0 (subst Sound (seen_at X x.0) q))
 
   abbrev fields : Former {0}
-  fields = record {
-    Of = In;
-    Shape = In (Unit {0});
-    count = λ a. pairs.count a.pairs;
-    shape = λ X. fields_mapped (λ x. tt);
-    put = λ X m. pairs.put X m.pairs;
-    get = fields_got;
-    map = λ X Y h. fields_mapped h;
-    get-put = fields_got-put;
-    put-get = fields_put-got;
-    get-map = fields_got-map;
-  }
+  fields = via parts In (λ X m. ((m.store, m.hasher), (m.distinct, m.room))) (λ X p. record { store = p.0.0; hasher = p.0.1; distinct = p.1.0; room = p.1.1 }) (λ X m. refl) (λ X p. refl)
 
 module _ (K S : RattleType) (G : text.Ghosts K.Denot) (E : eq.Ghosts K.Denot) (H : hasher.Ghosts S.Denot) (R R' : RattleType) (h : R.Denot → R'.Denot) where
   abbrev pair_of : RattleType → RattleType
@@ -213,23 +243,58 @@ module _ (K S : RattleType) (G : text.Ghosts K.Denot) (E : eq.Ghosts K.Denot) (H
   pair_places : Alike R R' h → Alike (pair_of R) (pair_of R') (on_value h)
   pair_places a = struct_places (tuple_type (K ∷ R ∷ [])) (tuple_type (K ∷ R' ∷ [])) (λ k. k, (h, tt)) _ (λ d. refl) refl ((refl, (λ n. refl, λ n. refl)), (laid _ _ _ a, tt))
 
+  abbrev ring_of : RattleType → RattleType
+  ring_of X = ring_contracts.the_row K X
+
+  abbrev ring_mapped : Ring K.Denot R.Denot → Ring K.Denot R'.Denot
+  ring_mapped r = record { pairs = deque.mapped (on_value h) r.pairs; table = r.table }
+
+  ring_places : Alike R R' h → Alike (ring_of R) (ring_of R') ring_mapped
+  ring_places a = struct_places (ring_contracts.the_type K R) (ring_contracts.the_type K R') (deque.mapped (on_value h), (λ n. n, tt)) _ (λ d. refl) refl
+      (laid _ _ _ (deque.the_places heap.the_row ghosts (pair_of R) (pair_of R') (on_value h) (pair_places a)), ((refl, (λ n. refl, λ n. refl)), tt))
+
+  abbrev box_of : RattleType → RattleType
+  box_of X = box.the_row X heap.the_row ghosts
+
+  abbrev with_value : {X Y : Type 0} → Box X Global → Y → Box Y Global
+  with_value b y = record { ptr = b.ptr; alloc = b.alloc; value = y }
+
+  box_places : {X Y : RattleType} (k : X.Denot → Y.Denot) → Alike X Y k → Alike (box_of X) (box_of Y) (λ b. with_value b (k b.value))
+  unfolding part_of
+  box_places {X} k a = record {
+    mir_same = λ i. (box_of (one_value X (a.mir_same i) (λ _. ftrue) (λ _ _. nothing) gnil)).mir;
+    own_same = λ b i. (box_of (one_value X (a.mir_same i) (a.own_same b.value i) (a.shr_same b.value i) gnil)).own_val (with_value b tt);
+    shr_same = λ b i. (box_of (one_value X (a.mir_same i) (a.own_same b.value i) (a.shr_same b.value i) gnil)).shr_at (with_value b tt);
+  }
+
+  as_stored : (d : Store K.Denot R.Denot) → store_contracts.as_values K R' (stored h d) ≡ eachs (store_contracts.enum K R).parts (store_contracts.enum K R').parts ((vec.mapped (on_value h), tt), ((λ b. with_value b (ring_mapped b.value), tt), tt)) (store_contracts.as_values K R d)
+  as_stored (Plain v) = refl
+  as_stored (Hashed b) = refl
+
+  store_places : Alike R R' h → Alike (store_contracts.the_row K R) (store_contracts.the_row K R') (stored h)
+  store_places a = enum_places (store_contracts.enum K R) (store_contracts.enum K R') ((vec.mapped (on_value h), tt), ((λ b. with_value b (ring_mapped b.value), tt), tt)) (stored h) as_stored refl
+      ((laid _ _ _ (vec.the_places heap.the_row ghosts (pair_of R) (pair_of R') (on_value h) (pair_places a)), tt), ((laid _ _ _ (box_places ring_mapped (ring_places a)), tt), tt))
+
   abbrev hash_by : S.Denot → K.Denot → ℕ
   hash_by s k = H.hash_of s (G.text_of k)
 
   abbrev hashes : (X : Type 0) → In K.Denot S.Denot G E H X → List ℕ
-  hashes X m = map (λ (p : K.Denot × X). hash_by m.hasher p.0) m.pairs.items
+  hashes X m = map (λ (p : K.Denot × X). hash_by m.hasher p.0) (pairs_of m.store)
+
+  hashes-stored : (s : S.Denot) (m : Store K.Denot R.Denot) → map (λ (p : K.Denot × R'.Denot). hash_by s p.0) (pairs_of (stored h m)) ≡ map (λ (p : K.Denot × R.Denot). hash_by s p.0) (pairs_of m)
+  hashes-stored s m = ap (map (λ (p : K.Denot × R'.Denot). hash_by s p.0)) (pairs-stored h m) ∙ keys-map (hash_by s) h (pairs_of m)
 
   pub the_places : Alike R R' h → Alike (C.the_row K R S G E H) (C.the_row K R' S G E H) ((the_former this K.Denot S.Denot).map R.Denot R'.Denot h)
   the_places a = view_places (fields K.Denot S.Denot G E H) (the_former this K.Denot S.Denot) (λ X. view K.Denot X S.Denot G E H)
-      (λ X Y k u. same_contents _ _ (λ i. (entries_of-map G.text_of k u.pairs.items i, (u.hasher, (view K.Denot X S.Denot G E H u).buckets))))
-      (λ X u. entries_of-held G.text_of u.pairs.items)
+      (λ X Y k u. same_contents _ _ (λ i. ((ap (entries_of G.text_of) (pairs-stored k u.store) ∙ entries_of-map G.text_of k (pairs_of u.store)) i, (u.hasher, buckets-stored k u.store i))))
+      (λ X u. held_of-store G.text_of u.store)
       R.Denot R'.Denot h (C.the_row K R S G E H).coded (C.the_row K R' S G E H).coded
-      (invariant K.Denot R.Denot S.Denot G E H) (invariant K.Denot R'.Denot S.Denot G E H) (λ u. IsIndexOf-prop (hashes R.Denot u) u.index) (λ u. IsIndexOf-prop (hashes R'.Denot u) u.index)
-      (λ u. subst (λ hs. IsIndexOf hs u.index) (sym (keys-map (hash_by u.hasher) h u.pairs.items)))
-      (λ u. subst (λ hs. IsIndexOf hs u.index) (keys-map (hash_by u.hasher) h u.pairs.items))
+      (invariant K.Denot R.Denot S.Denot G E H) (invariant K.Denot R'.Denot S.Denot G E H) (λ u. IsIndexOf-prop (hashes R.Denot u) u.store) (λ u. IsIndexOf-prop (hashes R'.Denot u) u.store)
+      (λ u k. subst (λ hs. IsIndexOf hs (stored h u.store)) (sym (hashes-stored u.hasher u.store)) (index-stored h (hashes R.Denot u) u.store k))
+      (λ u k. index-seen h (hashes R.Denot u) u.store (subst (λ hs. IsIndexOf hs (stored h u.store)) (hashes-stored u.hasher u.store) k))
       (fix.over (I.the_row K R S G E H)) (fix.over (I.the_row K R' S G E H))
-      (struct_places (I.the_type K R S G E H) (I.the_type K R' S G E H) (vec.mapped (on_value h), (λ n. n, (λ n. n, tt))) _ (λ d. refl) refl
-      (laid _ _ _ (vec.the_places heap.the_row ghosts (pair_of R) (pair_of R') (on_value h) (pair_places a)), ((refl, (λ n. refl, λ n. refl)), ((refl, (λ n. refl, λ n. refl)), tt))))
+      (struct_places (I.the_type K R S G E H) (I.the_type K R' S G E H) (stored h, (λ n. n, tt)) _ (λ d. refl) refl
+      (laid _ _ _ (store_places a), ((refl, (λ n. refl, λ n. refl)), tt)))
 
   pub the_codes_placed : Recodes R R' h → Recodes (C.the_row K R S G E H) (C.the_row K R' S G E H) ((the_former this K.Denot S.Denot).map R.Denot R'.Denot h)
   the_codes_placed e m = ap (λ x. gcons x ((coded× S.coded (coded_option coded_ℕ)).code (m.hasher, m.buckets)))

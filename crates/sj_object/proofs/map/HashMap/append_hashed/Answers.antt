@@ -3,7 +3,8 @@ use Rattle.std.proofs.lemmas.List.{length_push}
 use Rattle.sj_text_core.specs.Keep.{is_seen}
 use Rattle.sj_object.specs.Entries.{texts, entries_of}
 use Rattle.sj_object.specs.HashMap.{same_contents}
-use Rattle.sj_object.specs.Index.{IsIndexOf, NeedsHash, buckets_of, buckets_for}
+use Rattle.sj_object.specs.Index.{NeedsHash, buckets_for}
+use Rattle.sj_object.specs.Stored.{pairs_of, IsIndexOf, buckets_of}
 use Rattle.sj_object.proofs.Repeats.{no_repeats-push}
 use Rattle.sj_object.proofs.Position.{unseen_where_none}
 use Rattle.sj_object.proofs.Hashed.{hashes, hashes-last, hashes-length, entries-length, IsIndexOf-last, room_of}
@@ -12,12 +13,12 @@ use Rattle.sj_object.proofs.map.HashMap.append_hashed.Goals as goal
 pub invariant_of-self-inside : goal.invariant_of-self-inside
 invariant_of-self-inside g c =
     let t = g.K.KeyText.text_of in
-    let e = c.push_reserved.ensures.items ∙ ap (λ l. l ++ (c.args.key, c.args.value) ∷ []) c.in-Ok.ensures.pairs in
+    let e = c.push_reserved.ensures.pairs ∙ ap (λ l. l ++ (c.args.key, c.args.value) ∷ []) c.in-Ok.ensures.pairs in
     let H = g.S.KeyHasher.hash_of c.self.inside.hasher in
-    let ps = c.self.inside.pairs.items in
+    let ps = (pairs_of c.self.inside.store) in
     let n = length_push (hashes t H ps) c.args.hash ∙ ap (λ m. m + 1) (hashes-length t H ps) ∙ sym (ap length e ∙ length_push ps (c.args.key, c.args.value)) in (
-      no_repeats-push t c.self.inside.pairs.items c.push_reserved.new.self.items true c.args.key c.args.value c.self.inside.distinct (ap (λ m. is_seen (t c.args.key) (texts m.entries)) c.self.view_is ∙ unseen_where_none (g.K.KeyText.text_of c.args.key) c.args.self.now.entries c.requires.absent) e,
-      (room_of t c.push_reserved.new.self.items _ c.make_room.new.index c.in-Ok.ensures.ok n, tt),
+      no_repeats-push t (pairs_of c.self.inside.store) (pairs_of c.push_reserved.new.self) true c.args.key c.args.value c.self.inside.distinct (ap (λ m. is_seen (t c.args.key) (texts m.entries)) c.self.view_is ∙ unseen_where_none (g.K.KeyText.text_of c.args.key) c.args.self.now.entries c.requires.absent) e,
+      (room_of t (pairs_of c.push_reserved.new.self) _ c.push_reserved.new.self (c.push_reserved.ensures.index _ c.in-Ok.ensures.ok) n, tt),
     )
 
 pub invariant_of-self : goal.invariant_of-self
@@ -25,17 +26,17 @@ invariant_of-self g c =
     let t = g.K.KeyText.text_of in
     let s = c.self.inside.hasher in
     let H = g.S.KeyHasher.hash_of c.self.inside.hasher in
-    let ps = c.self.inside.pairs.items in
-    let i = c.self.inside.index in
-    let b = c.make_room.new.index in
+    let ps = (pairs_of c.self.inside.store) in
+    let i = c.self.inside.store in
+    let b = c.make_room.new.store in
     let n = hashes-length t H ps in
     let k = c.in-Ok.ensures.buckets ∙ ap (λ m. buckets_for (m + 1) (buckets_of i)) (sym n) in
     let known : NeedsHash (length (hashes t H ps)) (buckets_of i) → c.args.hash ≡ H (t c.args.key) = λ z.
     c.requires.hash (subst (λ m. NeedsHash (length m.entries) m.buckets) c.self.view_is (subst (λ m. NeedsHash m (buckets_of i)) (n ∙ sym (entries-length t ps)) z))
     ∙ ap (λ m. g.S.KeyHasher.hash_of m.hasher (t c.args.key)) (sym c.self.view_is) in
     let r = IsIndexOf-last (hashes t H ps) c.args.hash (H (t c.args.key)) (buckets_of i) b c.in-Ok.ensures.ok k known in
-    let e = ap (hashes t H) (c.push_reserved.ensures.items ∙ ap (λ l. l ++ (c.args.key, c.args.value) ∷ []) c.in-Ok.ensures.pairs) ∙ hashes-last t H ps (c.args.key, c.args.value) in
-    subst (λ hs. IsIndexOf hs b) (sym e) r
+    let e = ap (hashes t H) (c.push_reserved.ensures.pairs ∙ ap (λ l. l ++ (c.args.key, c.args.value) ∷ []) c.in-Ok.ensures.pairs) ∙ hashes-last t H ps (c.args.key, c.args.value) in
+    c.push_reserved.ensures.index _ (subst (λ hs. IsIndexOf hs b) (sym e) r)
 
 pub returns-in-Err-clause-refused : goal.returns-in-Err-clause-refused
 returns-in-Err-clause-refused g c =

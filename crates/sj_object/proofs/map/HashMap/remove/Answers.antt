@@ -1,71 +1,68 @@
-use Rattle.std.proofs.Common.{◌≡◌, ◌<◌, ◌≤◌, None, sym, ap, ◌∙◌, refl, arith, rules, subst, length}
+use Rattle.std.proofs.Common.{◌≡◌, ◌≤◌, None, sym, ap, ◌∙◌, refl, arith, rules, subst, length}
 use Rattle.sj_object.specs.Texts.{no_repeats}
 use Rattle.sj_object.specs.Entries.{texts, entries_of}
 use Rattle.sj_object.specs.Edits.{lookup, cut}
-use Rattle.sj_object.specs.Index.{IsIndexOf, HasRoom, buckets_of}
-use Rattle.sj_object.proofs.Hashed.{hashes, hashes-remove, same_inside, entries-length, room_fewer}
-use Rattle.std.proofs.lemmas.List.{length-map}
+use Rattle.sj_object.specs.Index.{HasRoom}
+use Rattle.sj_object.specs.Stored.{pairs_of, IsIndexOf, buckets_of}
+use Rattle.sj_object.proofs.Hashed.{hashes, hashes-length, hashes-remove, same_inside, entries-length, room_fewer}
 use Rattle.std.proofs.lemmas.List.Edits.{length-remove}
 use Rattle.sj_object.proofs.Repeats.{no_repeats-cut}
 use Rattle.sj_object.proofs.Position.{found, absent}
+use Rattle.sj_object.proofs.Stored.{indexed}
 use Rattle.sj_object.proofs.map.HashMap.remove.Goals as goal
 
-pub remove-value-requires : goal.remove-value-requires
-remove-value-requires g c =
-    let f = found g.K.KeyText.text_of c.args.key.now c.in_ok-i.was c.position_of.ensures refl c.deref.ensures.value in
-    omega (arith, f.within, c.self.inside.pairs.ok.0)
+pub remove-requires-clause-within : goal.remove-requires-clause-within
+remove-requires-clause-within g c =
+    let f = found g.K.KeyText.text_of c.args.key.now c.in_ok-i.was c.position_of.ensures refl refl in
+    f.within
+
+pub remove-requires-clause-indexed : goal.remove-requires-clause-indexed
+remove-requires-clause-indexed g c = indexed g.K.KeyText.text_of (g.S.KeyHasher.hash_of c.self.inside.hasher) c.self.inside.store c.self.invariant
 
 pub invariant_of-self-inside-2 : goal.invariant_of-self-inside-2
 invariant_of-self-inside-2 g c =
     let t = g.K.KeyText.text_of in
     let k = c.args.key.now in
-    let f = found t k c.in_ok-i.was c.position_of.ensures refl c.deref.ensures.value in
+    let f = found t k c.in_ok-i.was c.position_of.ensures refl refl in
     let m = c.self.inside in
-    let ps = c.self.inside.pairs.items in
-    let qs = c.remove-value.new.self.items in
-    let n : length (entries_of t qs) ≤ length (entries_of t ps) = omega (arith, entries-length t qs, entries-length t ps, ap length c.remove-value.ensures.items, length-remove ps c.in_ok-i.i f.within) in (
-      ap (λ es. no_repeats (texts es)) (ap (entries_of t) c.remove-value.ensures.items ∙ f.cut_at) ∙ no_repeats-cut k (entries_of t c.self.inside.pairs.items) c.self.inside.distinct,
-      (subst (HasRoom (length (entries_of t qs))) (sym c.remove.ensures.buckets) (room_fewer (length (entries_of t qs)) (length (entries_of t ps)) (buckets_of m.index) n m.room), tt),
+    let ps = pairs_of c.self.inside.store in
+    let qs = pairs_of c.remove.new.self in
+    let n : length (entries_of t qs) ≤ length (entries_of t ps) = omega (arith, entries-length t qs, entries-length t ps, ap length c.remove.ensures.pairs, length-remove ps c.in_ok-i.i f.within) in (
+      ap (λ es. no_repeats (texts es)) (ap (entries_of t) c.remove.ensures.pairs ∙ f.cut_at) ∙ no_repeats-cut k (entries_of t (pairs_of c.self.inside.store)) c.self.inside.distinct,
+      (subst (HasRoom (length (entries_of t qs))) (sym c.remove.ensures.buckets) (room_fewer (length (entries_of t qs)) (length (entries_of t ps)) (buckets_of m.store) n m.room), tt),
     )
 
 pub returns-clause-answer : goal.returns-clause-answer
 returns-clause-answer g c =
-    let f = found g.K.KeyText.text_of c.args.key.now c.in_ok-i.was c.position_of.ensures refl c.deref.ensures.value in
-    sym (f.lookup_at _ c.remove-value.ensures.value) ∙ ap (λ m. lookup c.args.key.now m.entries) c.self.view_is
+    let f = found g.K.KeyText.text_of c.args.key.now c.in_ok-i.was c.position_of.ensures refl refl in
+    sym (f.lookup_at _ c.in_ok-value.ensures.pair) ∙ ap (λ m. lookup c.args.key.now m.entries) c.self.view_is
 
 pub returns-clause-entries : goal.returns-clause-entries
 returns-clause-entries g c =
     let t = g.K.KeyText.text_of in
-    let f = found t c.args.key.now c.in_ok-i.was c.position_of.ensures refl c.deref.ensures.value in
-    ap (entries_of t) c.remove-value.ensures.items ∙ f.cut_at ∙ ap (λ m. cut c.args.key.now m.entries) c.self.view_is
+    let f = found t c.args.key.now c.in_ok-i.was c.position_of.ensures refl refl in
+    ap (entries_of t) c.remove.ensures.pairs ∙ f.cut_at ∙ ap (λ m. cut c.args.key.now m.entries) c.self.view_is
 
 pub returns-in_err-i-clause-answer : goal.returns-in_err-i-clause-answer
 returns-in_err-i-clause-answer g c =
-    let a = absent g.K.KeyText.text_of c.args.key.now c.in_err-i.was c.position_of.ensures refl c.deref.ensures.value in
+    let a = absent g.K.KeyText.text_of c.args.key.now c.in_err-i.was c.position_of.ensures refl refl in
     let none : c.from_residual.result ≡ None = search rules in
     none ∙ sym a.lookup_none ∙ ap (λ m. lookup c.args.key.now m.entries) c.self.view_is
 
 pub returns-in_err-i-clause-entries : goal.returns-in_err-i-clause-entries
 returns-in_err-i-clause-entries g c =
-    let a = absent g.K.KeyText.text_of c.args.key.now c.in_err-i.was c.position_of.ensures refl c.deref.ensures.value in
+    let a = absent g.K.KeyText.text_of c.args.key.now c.in_err-i.was c.position_of.ensures refl refl in
     ap (λ m. m.entries) (sym c.self.view_is) ∙ sym a.cut_none ∙ ap (λ m. cut c.args.key.now m.entries) c.self.view_is
-
-pub position_of-requires-clause-index : goal.position_of-requires-clause-index
-position_of-requires-clause-index g c = subst (λ ps. IsIndexOf (hashes g.K.KeyText.text_of (g.S.KeyHasher.hash_of c.self.inside.hasher) ps) c.self.inside.index) (sym c.deref.ensures.value) c.self.invariant
 
 pub same-self : goal.same-self
 same-self g c = same_inside c.self.inside _ _
 
-pub invariant_of-self : goal.invariant_of-self
-invariant_of-self g c =
+pub invariant_of-self-2 : goal.invariant_of-self-2
+invariant_of-self-2 g c =
     let t = g.K.KeyText.text_of in
     let H = g.S.KeyHasher.hash_of c.self.inside.hasher in
-    let ps = c.self.inside.pairs.items in
+    let ps = pairs_of c.self.inside.store in
     let i = c.in_ok-i.i in
-    let f = found t c.args.key.now c.in_ok-i.was c.position_of.ensures refl c.deref.ensures.value in
-    let l : i < length (hashes t H ps) = omega (arith, f.within, length-map ps (λ (p : g.row.K.Denot × g.row.V.Denot). H (t p.0))) in
-    let r = c.remove.ensures.index (hashes t H ps) l c.self.invariant in
-    subst (λ hs. IsIndexOf hs c.remove.new.index) (sym (ap (hashes t H) c.remove-value.ensures.items ∙ hashes-remove t H ps i)) r
-
-pub returns-clause-buckets : goal.returns-clause-buckets
-returns-clause-buckets g c = c.remove.ensures.buckets ∙ ap (λ m. m.buckets) c.self.view_is
+    let f = found t c.args.key.now c.in_ok-i.was c.position_of.ensures refl refl in
+    let r = c.remove.ensures.index (hashes t H ps) (hashes-length t H ps) c.self.invariant in
+    subst (λ hs. IsIndexOf hs c.remove.new.self) (sym (ap (hashes t H) c.remove.ensures.pairs ∙ hashes-remove t H ps i)) r

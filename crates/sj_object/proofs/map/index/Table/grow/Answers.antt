@@ -1,5 +1,5 @@
-use Rattle.std.proofs.Common.{◌≡◌, ◌^◌, ◌*◌, ◌+◌, ◌++◌, ◌∷◌, [], ℕ, length, replicate, arith, ap, ◌∙◌, add-one}
-use Rattle.std.proofs.lemmas.List.{length_push}
+use Rattle.std.proofs.Common.{◌≡◌, ◌^◌, ◌*◌, ◌+◌, ◌++◌, ◌∷◌, [], ℕ, length, drop, replicate, arith, ap, ◌∙◌, add-one}
+use Rattle.std.proofs.lemmas.List.{length_push, length-drop}
 use Rattle.std.proofs.lemmas.Nat.{pow_pos}
 use Rattle.std.proofs.Math.Nat.{pow-succ'}
 use Rattle.sj_object.proofs.Chains.{IsLinked-none, IsLinked-lent}
@@ -30,8 +30,59 @@ returns-clause-table c =
     let p = doubled n in
     let q : n + 1 ≡ 64 → ⊥ = λ e. let r : 2 ^ (n + 1) ≡ 2 ^ 64 = ap (λ k. 2 ^ k) e in omega (arith, c.in-Some.ensures) in
     let h : c.push_reserved.new.self.items ≡ t.hashes.items ++ c.args.hash ∷ [] = c.push_reserved.ensures.items ∙ ap (λ l. l ++ c.args.hash ∷ []) c.reserve.ensures.items in
+    let k = IsLinked-lent (2 ^ (n + 1)) c.deref.result.now c.push_reserved.new.self.items c.link.new.links c.link.new.heads _ _ _ _ (omega (arith, c.link.auto.links, c.deref_mut.ensures.len)) (omega (arith, c.link.auto.heads, c.deref_mut-2.ensures.len)) c.deref.ensures.value c.link.ensures in
+    let size : c.len-2.result ≡ 2 ^ (n + 1) = omega (arith, c.len-2.ensures, c.in_ok-heads.ensures.len, c.in-Some.ensures, c.len.ensures, t.heads.ok.0, y, p) in
     record {
       bits = omega arith;
-      room = omega (arith, ap length h, length_push t.hashes.items c.args.hash, pow_pos n);
-      linked = IsLinked-lent (2 ^ (n + 1)) c.deref.result.now c.push_reserved.new.self.items c.link.new.links c.link.new.heads _ _ _ _ (omega (arith, c.link.auto.links, c.deref_mut.ensures.len)) (omega (arith, c.link.auto.heads, c.deref_mut-2.ensures.len)) c.deref.ensures.value c.link.ensures;
+      gone = omega (arith, ap length h, length_push t.hashes.items c.args.hash, c.requires.table.gone);
+      few = omega (arith, c.requires.table.few, k.count, y, p);
+      space = (omega (arith, k.count, y, p, size, c.in_ok-reserve.ensures.ok, c.reserve.ensures.len, c.push_reserved.ensures.capacity), omega (arith, k.count, y, p, size, c.in_ok-reserve-2.ensures.ok, c.reserve-2.ensures.len, c.push_reserved-2.ensures.capacity));
+      room = omega (arith, ap (λ xs. length (drop t.gone xs)) h, length-drop t.gone (t.hashes.items ++ c.args.hash ∷ []), length-drop t.gone t.hashes.items, length_push t.hashes.items c.args.hash, pow_pos n, c.requires.full, c.requires.table.gone, y, p);
+      linked = k;
     }
+
+pub push_reserved-requires : goal.push_reserved-requires
+push_reserved-requires c =
+    let t = c.args.self.now in
+    omega (
+      arith,
+      c.in_ok-reserve.ensures.ok,
+      c.reserve.ensures.len,
+      c.len-2.ensures,
+      c.len-3.ensures,
+      c.len-4.ensures,
+      c.in_ok-heads.ensures.len,
+      c.in-Some.ensures,
+      c.len.ensures,
+      t.heads.ok.0,
+      t.hashes.ok.0,
+      c.requires.full,
+      length-drop t.gone t.hashes.items,
+      c.requires.table.few,
+      c.requires.table.linked.count,
+      pow_pos t.bits,
+    )
+
+pub push_reserved-requires-2 : goal.push_reserved-requires-2
+push_reserved-requires-2 c =
+    let t = c.args.self.now in
+    omega (
+      arith,
+      c.in_ok-reserve-2.ensures.ok,
+      c.reserve-2.ensures.len,
+      c.len-2.ensures,
+      c.len-3.ensures,
+      c.len-4.ensures,
+      c.in_ok-heads.ensures.len,
+      c.in-Some.ensures,
+      c.len.ensures,
+      t.heads.ok.0,
+      t.hashes.ok.0,
+      t.links.ok.0,
+      c.requires.full,
+      length-drop t.gone t.hashes.items,
+      c.requires.table.few,
+      c.requires.table.linked.count,
+      c.requires.table.linked.size,
+      pow_pos t.bits,
+    )

@@ -1,0 +1,174 @@
+//! How a map stores its members.
+
+ghost use Rattle.std.specs.Prelude.{◌≡◌, ◌↔◌, ◌-◌, ◌<◌, ◌∷◌, ◌++◌, [], ℕ, List, length, take, slice_set, slice_index_or, IsTrue, IsSome, IfNone, IfSome};
+ghost use Rattle.std.specs.List.{remove};
+ghost use Rattle.std.specs.Option.{option_to_list};
+ghost use Rattle.std.specs.Vec.{vec_len, vec_capacity};
+ghost use Rattle.sj_object.specs.Index.{NeedsHash};
+ghost use Rattle.sj_object.specs.Stored.{pairs_of, buckets_of, HasPlace, IsIndexOf, IsIndexed};
+
+use super::index::Table;
+use std::alloc::Global;
+use std::collections::VecDeque;
+use std::mem;
+
+/// The members of a map in order: a plain list, or members with an index. These stand in a box, so
+/// that a plain list has little beside its members.
+#[derive(Drop)]
+pub enum Store<K, V> {
+    Plain(Vec<(K, V)>),
+    Hashed(Box<Hashed<K, V>>),
+}
+
+/// Members in a ring, of which a removal moves those in front of it or those behind it, whichever
+/// are fewer, and the index of their hashes.
+#[derive(Drop)]
+pub struct Hashed<K, V> {
+    pub(super) pairs: VecDeque<(K, V)>,
+    pub(super) table: Table,
+}
+
+// What is small is taken into its callers, so that a plain list costs one test.
+impl<K, V> Store<K, V> {
+    /// How many members there are.
+    pub fn len(&self) -> usize
+        ensures { result ≡ length (pairs_of self.now) }
+    {
+        match self {
+            Store::Plain(pairs) => pairs.len(),
+            Store::Hashed(hashed) => hashed.pairs.len(),
+        }
+    }
+
+    /// How many buckets there are; None for a plain list.
+    pub fn buckets(&self) -> Option<usize>
+        ensures { result ≡ buckets_of self.now }
+    {
+        match self {
+            Store::Plain(_) => None,
+            Store::Hashed(hashed) => Some(hashed.table.buckets()),
+        }
+    }
+
+    /// Whether the hash of a member to come is read: there are buckets, or it makes some.
+    #[inline(always)]
+    pub fn reads_hash(&self) -> bool
+        ensures { IsTrue result ↔ NeedsHash (length (pairs_of self.now)) (buckets_of self.now) }
+    {
+        match self {
+            Store::Plain(pairs) => pairs.len() >= 32,
+            Store::Hashed(_) => true,
+        }
+    }
+
+    /// What the memory is taken from.
+    pub fn allocator(&self) -> Global {
+        match self {
+            Store::Plain(pairs) => *pairs.allocator(),
+            Store::Hashed(hashed) => *hashed.pairs.allocator(),
+        }
+    }
+
+    /// The members in order, in two parts.
+    pub fn as_slices(&self) -> (&[(K, V)], &[(K, V)])
+        ensures { result.0.now ++ result.1.now ≡ pairs_of self.now }
+    {
+        match self {
+            Store::Plain(pairs) => (pairs.as_slice(), &[]),
+            Store::Hashed(hashed) => hashed.pairs.as_slices(),
+        }
+    }
+
+    /// The member at a position.
+    #[inline(always)]
+    pub fn pair(&self, position: usize) -> &(K, V)
+        requires { position < length (pairs_of self.now) }
+        ensures { result.now ≡ slice_index_or (pairs_of self.now) position result.now }
+    {
+        match self {
+            Store::Plain(pairs) => &pairs[position],
+            Store::Hashed(hashed) => &hashed.pairs[position],
+        }
+    }
+
+    /// Sets the value of the member at a position, and answers the one before.
+    #[inline(always)]
+    pub fn replace(&mut self, position: usize, value: V) -> V
+        requires { position < length (pairs_of self.old) }
+        ensures before { (pair : K × V) → pair ≡ slice_index_or (pairs_of self.old) position pair → result ≡ pair.1 }
+        ensures pairs { (pair : K × V) → pair ≡ slice_index_or (pairs_of self.old) position pair → pairs_of self.new ≡ slice_set (pairs_of self.old) position (pair.0, value) }
+        ensures index { (hashes : List ℕ) → IsIndexOf hashes self.old → IsIndexOf hashes self.new }
+        ensures buckets { buckets_of self.new ≡ buckets_of self.old }
+    {
+        match self {
+            Store::Plain(pairs) => mem::replace(&mut pairs[position].1, value),
+            Store::Hashed(hashed) => mem::replace(&mut hashed.pairs[position].1, value),
+        }
+    }
+
+    /// Puts a member last, for which there is a place.
+    #[inline(always)]
+    pub fn push_reserved(&mut self, pair: (K, V))
+        requires { HasPlace self.old }
+        ensures pairs { pairs_of self.new ≡ pairs_of self.old ++ pair ∷ [] }
+        ensures index { (hashes : List ℕ) → IsIndexOf hashes self.old → IsIndexOf hashes self.new }
+        ensures buckets { buckets_of self.new ≡ buckets_of self.old }
+    {
+        match self {
+            Store::Plain(pairs) => pairs.push_reserved(pair),
+            Store::Hashed(hashed) => hashed.pairs.push_back_reserved(pair),
+        }
+    }
+
+    /// Takes the member at a position out. The members after it close up.
+    pub fn remove(&mut self, position: usize) -> Option<(K, V)>
+        requires within { position < length (pairs_of self.old) }
+        requires indexed { IsIndexed self.old }
+        ensures pair { IfSome result (λ p. p ≡ slice_index_or (pairs_of self.old) position p) }
+        ensures some { IsSome result }
+        ensures pairs { pairs_of self.new ≡ remove (pairs_of self.old) position }
+        ensures index { (hashes : List ℕ) → length hashes ≡ length (pairs_of self.old) → IsIndexOf hashes self.old → IsIndexOf (remove hashes position) self.new }
+        ensures buckets { buckets_of self.new ≡ buckets_of self.old }
+    {
+        match self {
+            Store::Plain(pairs) => Some(pairs.remove(position)),
+            Store::Hashed(hashed) => {
+                hashed.table.remove(position);
+                hashed.pairs.remove(position)
+            }
+        }
+    }
+
+    /// Takes the last member out.
+    pub fn pop(&mut self) -> Option<(K, V)>
+        requires { IsIndexed self.old }
+        ensures pairs { pairs_of self.old ≡ pairs_of self.new ++ option_to_list result }
+        ensures rest { pairs_of self.new ≡ take (length (pairs_of self.old) - 1) (pairs_of self.old) }
+        ensures none { IfNone result (pairs_of self.new ≡ []) }
+        ensures index { (hashes : List ℕ) → length hashes ≡ length (pairs_of self.old) → IsIndexOf hashes self.old → IsIndexOf (take (length hashes - 1) hashes) self.new }
+        ensures buckets { buckets_of self.new ≡ buckets_of self.old }
+    {
+        match self {
+            Store::Plain(pairs) => pairs.pop(),
+            Store::Hashed(hashed) => {
+                let pair = hashed.pairs.pop_back()?;
+                hashed.table.pop();
+                Some(pair)
+            }
+        }
+    }
+
+    /// The members in order, as a list.
+    pub fn into_vec(self) -> Vec<(K, V)>
+        ensures pairs { result.items ≡ pairs_of self }
+        ensures place { HasPlace self → vec_len result < vec_capacity result }
+    {
+        match self {
+            Store::Plain(pairs) => pairs,
+            Store::Hashed(hashed) => {
+                let Hashed { pairs, table: _ } = Box::into_inner(hashed);
+                pairs.into_vec()
+            }
+        }
+    }
+}
