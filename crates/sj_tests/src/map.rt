@@ -1,6 +1,7 @@
 ghost use Rattle.std.specs.Prelude.{◌≡◌, ◌<◌};
 
 mod hashed;
+mod ring;
 
 use sj_object::*;
 use sj_text_core::Steps;

@@ -1,0 +1,215 @@
+//! Maps whose members leave at the front, in any order and at the end: beside them a list of their
+//! numbers.
+
+use super::{Constant, numbered};
+use sj_object::{HashMap, KeyHasher, ObjectHasher};
+use std::alloc::Global;
+use std::test::Fail;
+
+/// A map, and the numbers of its members as a plain list.
+#[derive(Drop)]
+struct Beside<S: KeyHasher> {
+    map: HashMap<String, u64, S>,
+    list: Vec<u64>,
+}
+
+impl<S: KeyHasher + Drop> Beside<S> {
+    /// The members `k00`, `k01` and so on.
+    fn new(alloc: Global, members: u64, hasher: S) -> Result<Self, Fail> {
+        let mut list = Vec::new(alloc);
+        for number in 0..members {
+            list.push(number)?;
+        }
+        Ok(Beside {
+            map: numbered(alloc, members, hasher)?,
+            list,
+        })
+    }
+
+    /// Takes the member at a position out; whether it was there.
+    fn remove(&mut self, alloc: Global, position: usize) -> Result<bool, Fail> {
+        if position >= self.list.len() {
+            return Ok(false);
+        }
+        let number = self.list.remove(position);
+        let key = format!(in alloc; "k{number:02}")?;
+        Ok(self.map.remove(key.as_str()) == Some(number))
+    }
+
+    /// Puts a member last.
+    fn push(&mut self, alloc: Global, number: u64) -> Result<(), Fail> {
+        self.list.push(number)?;
+        let key = format!(in alloc; "k{number:02}")?;
+        self.map.insert(key, number)?;
+        Ok(())
+    }
+
+    /// How many members are where the list has them, found by their keys, in the order of the list.
+    fn agreeing(&self, alloc: Global) -> Result<usize, Fail> {
+        let mut agreeing = 0usize;
+        let mut members = self.map.iter();
+        for (position, number) in self.list.iter().enumerate() {
+            let key = format!(in alloc; "k{number:02}")?;
+            let hash = self.map.hasher().hash_text(key.as_str());
+            if members.next().map(|(_, value)| *value) == Some(*number)
+                && self.map.get(key.as_str()) == Some(number)
+                && self.map.position_hashed(hash, key.as_str()) == Some(position)
+            {
+                agreeing = agreeing.saturating_add(1);
+            }
+        }
+        Ok(if members.next().is_none() {
+            agreeing
+        } else {
+            0
+        })
+    }
+}
+
+/// Takes the first member out so many times, and puts one last for each; how many members agree.
+fn queue<S: KeyHasher + Drop>(
+    alloc: Global,
+    members: u64,
+    calls: u64,
+    hasher: S,
+) -> Result<usize, Fail> {
+    let mut beside = Beside::new(alloc, members, hasher)?;
+    for number in 0..calls {
+        if !beside.remove(alloc, 0)? {
+            return Ok(0);
+        }
+        beside.push(alloc, u64::wrapping_add(members, number))?;
+    }
+    beside.agreeing(alloc)
+}
+
+#[test]
+fn queues_keep_their_order(rt: HostRuntime) -> Result<(), Fail> {
+    let alloc = rt.alloc();
+    for members in [1, 2, 32, 33, 48, 64, 65, 100] {
+        let told = (
+            queue(alloc, members, 15, ObjectHasher::default())?,
+            queue(alloc, members, 70, ObjectHasher::default())?,
+            queue(alloc, members, 40, Constant)?,
+        );
+        let all = members as usize;
+        assert_eq!(rt; told, (all, all, all));
+    }
+    Ok(())
+}
+
+#[test]
+fn members_leave_in_any_order(rt: HostRuntime) -> Result<(), Fail> {
+    let alloc = rt.alloc();
+    let mut beside = Beside::new(alloc, 90, ObjectHasher::default())?;
+    let mut place = 11u64;
+    let mut seen = 0usize;
+    for number in 0..120 {
+        place = place.wrapping_mul(37).wrapping_add(5) % 1009;
+        // Every other one leaves at the front, so that those in the middle leave behind the gone.
+        let position = if number % 2 == 0 {
+            0
+        } else {
+            place as usize % 90
+        };
+        assert!(rt; beside.remove(alloc, position)?, "{number}");
+        beside.push(alloc, 90 + number)?;
+        if number % 8 > 5 {
+            assert_eq!(rt; beside.agreeing(alloc)?, 90);
+            seen = seen.saturating_add(1);
+        }
+    }
+    assert_eq!(rt; (seen, beside.map.buckets()), (30, Some(128)));
+    Ok(())
+}
+
+#[test]
+fn members_leave_at_both_ends(rt: HostRuntime) -> Result<(), Fail> {
+    let alloc = rt.alloc();
+    let mut beside = Beside::new(alloc, 70, ObjectHasher::default())?;
+    let mut seen = 0usize;
+    for left in 0..34 {
+        assert!(rt; beside.remove(alloc, 0)?, "{left}");
+        let last = beside.list.pop();
+        assert!(rt;
+            beside.map.pop().map(|(_, number)| number) == last,
+            "{left}"
+        );
+        assert_eq!(rt; beside.agreeing(alloc)?, 68 - 2 * left);
+        seen = seen.saturating_add(1);
+    }
+    assert_eq!(rt; (seen, beside.list.len()), (34, 2));
+    Ok(())
+}
+
+#[test]
+fn members_that_left_are_not_found(rt: HostRuntime) -> Result<(), Fail> {
+    let alloc = rt.alloc();
+    let mut beside = Beside::new(alloc, 64, Constant)?;
+    let mut absent = 0usize;
+    for number in 0..40 {
+        assert!(rt; beside.remove(alloc, 0)?, "{number}");
+        for gone in 0..number + 1 {
+            let key = format!(in alloc; "k{gone:02}")?;
+            if !beside.map.contains_key(key.as_str()) {
+                absent = absent.saturating_add(1);
+            }
+        }
+    }
+    // 1 + 2 + .. + 40
+    assert_eq!(rt; (absent, beside.agreeing(alloc)?), (820, 24));
+    Ok(())
+}
+
+#[test]
+fn grows_where_its_members_turn(rt: HostRuntime) -> Result<(), Fail> {
+    let alloc = rt.alloc();
+    for gone in [1, 15, 16, 17, 40] {
+        let mut beside = Beside::new(alloc, 64, ObjectHasher::default())?;
+        for _ in 0..gone {
+            assert!(rt; beside.remove(alloc, 0)?, "{gone}");
+        }
+        for number in 0..100 {
+            beside.push(alloc, 64 + number)?;
+        }
+        let told = (beside.agreeing(alloc)? as u64, beside.map.buckets());
+        let buckets = if gone < 36 { 256 } else { 128 };
+        assert_eq!(rt; told, (164 - gone, Some(buckets)));
+    }
+    Ok(())
+}
+
+#[test]
+fn hands_its_members_out(rt: HostRuntime) -> Result<(), Fail> {
+    let alloc = rt.alloc();
+    let mut beside = Beside::new(alloc, 40, ObjectHasher::default())?;
+    for number in 0..30 {
+        assert!(rt; beside.remove(alloc, 0)?, "{number}");
+        beside.push(alloc, 40 + number)?;
+    }
+    let Beside { mut map, list: _ } = beside;
+    let first = map.keys().next().map(|key| key.as_str() == "k30");
+    assert_eq!(rt; (first, map.keys().count()), (Some(true), 40));
+    if let Some(value) = map.get_mut("k35") {
+        *value = 7;
+    }
+    let last = map.pop().map(|(_, number)| number);
+    let mut sum = 0u64;
+    let mut seen = 0usize;
+    for value in map.values() {
+        sum = sum.wrapping_add(*value % 1000);
+        seen = seen.saturating_add(1);
+    }
+    // 30 + 31 + .. + 68, with 7 for 35
+    assert_eq!(rt; (last, seen, sum), (Some(69), 39, 1883));
+    let mut wanted = 30u64;
+    let mut in_order = 0usize;
+    for (_, number) in map {
+        if number == if wanted == 35 { 7 } else { wanted } {
+            in_order = in_order.saturating_add(1);
+        }
+        wanted = wanted.wrapping_add(1);
+    }
+    assert_eq!(rt; in_order, 39);
+    Ok(())
+}
