@@ -96,6 +96,9 @@ for call in insert insert_hashed get_or_insert; do
   free "present $call 32" $'call: was there, value as before, 32 members\n'
   free "present $call 64" $'call: was there, value as before, 64 members\n'
 done
+for members in 33 64 66; do
+  free "queue $members" $'call: replaced\n'
+done
 for members in 0 32 64; do
   after="$((members + 1)) members"$'\n'
   for call in insert known_insert lookup_or_insert map_insert map_lookup_or_insert; do
@@ -317,6 +320,10 @@ free 'lazy owned change_item' $'call: done, owned [null,"value",2]\n'
 free 'lazy owned remove' $'call: done, owned {}\n'
 free 'lazy owned pop' $'call: done, owned ["key","value"]\n'
 
+# A tape does without the places and tags that it can't keep.
+for parts in items members; do
+  passes_over "tape $parts" $'call: OutOfMemory\nagain found\n' $'call: found\nagain found\n'
+done
 free 'tape new' $'call: made, and refused\n'
 free 'tape reads' $'call: found\n'
 

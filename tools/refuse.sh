@@ -78,6 +78,24 @@ goes_on() {
   count $good "$1"
 }
 
+# passes_over WORDS REFUSED DONE: as goes_on, where the call is done as well without what the later ones
+# of its requests ask for
+passes_over() {
+  local n=1 needed
+  good=no
+  while run $n "$1"; [ "$requests" -ge $n ] && told "$2"; do
+    n=$((n + 1))
+  done
+  needed=$n
+  while [ "$requests" -ge $n ] && told "$3"; do
+    n=$((n + 1))
+    run $n "$1"
+  done
+  told "$3" && [ $needed -gt 1 ] && [ $n -gt $needed ] && [ "$requests" = $((n - 1)) ] && good=yes
+  made "$1"
+  count $good "$1"
+}
+
 # looked_at WORDS REFUSED DONE: as each, of a run that asks for memory once more to look at what the
 # call left, before it tells: refused there, it ends with status 4. requests are then the call's own.
 looked_at() {

@@ -91,6 +91,7 @@ fn run_maps(rt: &(impl Print + AllocGlobal), words: &[String]) -> Result<(), Fau
     match word(words, 0) {
         "insert" => maps::insert(rt, second, third),
         "present" => maps::insert_present(rt, second, third),
+        "queue" => maps::replace_first(rt, second),
         "member" => members::insert_member(rt, second, third),
         "member_present" => members::insert_present(rt, second, third),
         "capacity" => maps::with_capacity(rt),

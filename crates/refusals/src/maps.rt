@@ -234,6 +234,28 @@ pub fn insert_present(
     tell_map(rt, &map, &keys, buckets_at(keys.len()))
 }
 
+/// Takes the first of so many members out and inserts a new key, for which there is room then.
+pub fn replace_first(rt: &(impl Print + AllocGlobal), members: &str) -> Result<(), Fault> {
+    let alloc = rt.alloc();
+    let Ok(members) = members.parse::<u8>() else {
+        return Err(Fault::Usage);
+    };
+    let mut map = numbered(alloc, u64::from(members))?;
+    let key = key_of(alloc, u64::from(members))?;
+    say_call(rt)?;
+    let first = map.remove("k00");
+    let is_inserted = matches!(answer_of(map.insert(key, 7)), Answer::Inserted);
+    let is_done = first == Some(0) && is_inserted && map.len() == usize::from(members);
+    say(
+        rt,
+        if is_done {
+            "replaced\n"
+        } else {
+            "NOT REPLACED\n"
+        },
+    )
+}
+
 /// Tells how many members the map has, if they are as they should be.
 fn tell_map(
     rt: &(impl Print + AllocGlobal),

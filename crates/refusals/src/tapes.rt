@@ -1,10 +1,10 @@
-//! Calls on tapes, none of which asks for memory.
+//! Calls on tapes, none of which asks for memory, and readings of tapes with many items or members.
 
 use crate::documents::read;
 use crate::fault::Fault;
 use crate::say::{say, say_call};
 use crate::texts::text_of;
-use sj_tape::{Node, Tape, Value, to_tape, to_tape_with_spare};
+use sj_tape::{ErrorKind, Node, Tape, Value, to_tape, to_tape_with_spare};
 use sj_text_core::{StaticNode, TypedValue, ValueAsScalar, ValueType};
 
 /// Makes a tape of nodes, or reads one.
@@ -13,6 +13,8 @@ pub fn call(rt: &(impl Print + AllocGlobal), call: &str) -> Result<(), Fault> {
         "new" => make(rt),
         "reads" => reads(rt),
         "spare" => read_into_spare(rt),
+        "items" => read_many(rt, "items"),
+        "members" => read_many(rt, "members"),
         _ => Err(Fault::Usage),
     }
 }
@@ -60,6 +62,62 @@ fn read_into_spare(rt: &(impl Print + AllocGlobal)) -> Result<(), Fault> {
         Err(_) => false,
     };
     say(rt, if is_found { "found\n" } else { "NOT FOUND\n" })
+}
+
+/// Reads the text of that name twice, each time from a fresh copy, and looks each part up.
+fn read_many(rt: &(impl Print + AllocGlobal), text: &str) -> Result<(), Fault> {
+    let alloc = rt.alloc();
+    let mut bytes = text_of(alloc, text)?;
+    let mut copy = text_of(alloc, text)?;
+    say_call(rt)?;
+    tell_many(rt, to_tape(alloc, bytes.as_mut_slice()))?;
+    say(rt, "again ")?;
+    tell_many(rt, to_tape(alloc, copy.as_mut_slice()))
+}
+
+/// Tells whether the tape has 300 items or 1,024 members, of which each is found with its number.
+fn tell_many(
+    rt: &(impl Print + AllocGlobal),
+    read: Result<Tape<'_>, ErrorKind>,
+) -> Result<(), Fault> {
+    match read {
+        Ok(tape) => {
+            let value = tape.as_value();
+            let is_found = found_items(value) == 300 || found_members(value) == 1024;
+            say(rt, if is_found { "found\n" } else { "NOT FOUND\n" })
+        }
+        Err(ErrorKind::OutOfMemory) => say(rt, "OutOfMemory\n"),
+        Err(_) => say(rt, "ANOTHER FAULT\n"),
+    }
+}
+
+/// How many items of an array have their position as the member `n`, up to one that has not.
+fn found_items(value: Value<'_, '_>) -> usize {
+    let Some(array) = value.as_array() else {
+        return 0;
+    };
+    for i in 0..array.len() {
+        match value.get_idx(i) {
+            Some(item) if item.get_usize("n") == Some(i) => {}
+            _ => return i,
+        }
+    }
+    array.len()
+}
+
+/// How many members of an object have their position as the member `n`, up to one that has not.
+fn found_members(value: Value<'_, '_>) -> usize {
+    let Some(object) = value.as_object() else {
+        return 0;
+    };
+    let mut found = 0;
+    for key in object.keys() {
+        match value.get(key) {
+            Some(member) if member.get_usize("n") == Some(found) => found = found.saturating_add(1),
+            _ => return found,
+        }
+    }
+    found
 }
 
 /// Whether it is an object whose one member, `some`, has three items, the texts `key` and `value`

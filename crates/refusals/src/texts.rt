@@ -12,10 +12,34 @@ pub fn text_of(alloc: Global, name: &str) -> Result<Vec<u8>, Fault> {
         "0" => Ok(numbered(alloc, 0, "}")?),
         "32" => Ok(numbered(alloc, 32, "}")?),
         "64" => Ok(numbered(alloc, 64, "}")?),
+        "items" => Ok(records(alloc, 300)?),
+        "members" => Ok(named_records(alloc, 1024)?),
         "escapes" => Ok(b"{\"q\\\"k\":\"a\\/b\\u0041\"}".to_vec(alloc)?),
         "kinds" => Ok(KINDS.as_bytes().to_vec(alloc)?),
         _ => Err(Fault::Usage),
     }
+}
+
+/// An array of so many objects, each with its position as the member `n`.
+fn records(alloc: Global, items: usize) -> Result<Vec<u8>, AllocError> {
+    let mut text = String::from_str(alloc, "[")?;
+    for i in 0..items {
+        let comma = if i == 0 { "" } else { "," };
+        text.push_str(format!(in alloc; "{comma}{{\"n\":{i}}}")?.as_str())?;
+    }
+    text.push(']')?;
+    Ok(text.into_bytes())
+}
+
+/// An object of so many members, each an object with its position as the member `n`.
+fn named_records(alloc: Global, members: usize) -> Result<Vec<u8>, AllocError> {
+    let mut text = String::from_str(alloc, "{")?;
+    for i in 0..members {
+        let comma = if i == 0 { "" } else { "," };
+        text.push_str(format!(in alloc; "{comma}\"key {i}\":{{\"n\":{i}}}")?.as_str())?;
+    }
+    text.push('}')?;
+    Ok(text.into_bytes())
 }
 
 /// An object with a member of each kind.
