@@ -1,13 +1,12 @@
 -- The chains of members by their hashes: what one more member, or one less, does to them.
-use Rattle.std.proofs.Common.{◌≡◌, ◌≢◌, ℕ, zero, suc, ◌+◌, ◌-◌, ◌<◌, ◌≤◌, ◌%◌, nat_le, Bool, true, false, List, [], ◌∷◌, ◌++◌, map, length, take, drop, get_or, set, refl, sym, ap, ◌∙◌, arith, add-one, get_or-set_same, get_or-set_other, below_more, subst, true≢false}
+use Rattle.std.proofs.Common.{◌≡◌, ◌≢◌, ℕ, zero, suc, ◌+◌, ◌-◌, ◌<◌, ◌≤◌, ◌%◌, nat_le, Bool, true, false, List, ◌++◌, map, length, take, drop, get_or, set, refl, sym, ap, ◌∙◌, arith, add-one, get_or-set_same, get_or-set_other, below_more, subst, true≢false}
 use Rattle.std.specs.Bool.{if◌then◌else◌}
-use Rattle.std.specs.Prelude.{◌==◌}
 use Rattle.std.specs.List.{remove}
 use Rattle.std.proofs.lemmas.Bool.Decides.{nat_tests}
-use Rattle.std.proofs.lemmas.List.{take-append-drop, drop-take, get_or-take, get_or-drop, length-drop, length-take-le, length-set, length-replicate, length_push, get_or-replicate, get_or_append_left, length-map}
+use Rattle.std.proofs.lemmas.List.{take-append-drop, drop-take, get_or-take, get_or-drop, length-drop, length-take-le, length-set, length-replicate, get_or-replicate, length-map}
 use Rattle.std.proofs.Math.ListN.{replicate, get_or-map}
 use Rattle.std.proofs.Math.Seq.{take-append_seam, drop-append_seam}
-use Rattle.std.proofs.lemmas.List.Edits.{get_or-remove_below, get_or-remove_above, length-remove, remove-append_right}
+use Rattle.std.proofs.lemmas.List.Edits.{get_or-remove_below, get_or-remove_above, remove-append_right}
 use Rattle.sj_object.specs.Chains.{is_in, last_below, IsLinked, passed, lowered}
 
 module _ (n b : ℕ) where
@@ -103,30 +102,17 @@ IsLinked-none n hs links heads s e = record {
   nexts = λ i l. absurd (omega arith);
 }
 
--- one more hash, whose member stands in no chain yet
-pub IsLinked-push : (n : ℕ) (hs links heads : List ℕ) (h x : ℕ) → IsLinked n hs links heads (length hs) → IsLinked n (hs ++ h ∷ []) (links ++ x ∷ []) heads (length hs)
-IsLinked-push n hs links heads h x k = record {
-  count = k.count;
-  size = length_push links x ∙ ap (λ m. m + 1) k.size ∙ sym (length_push hs h);
-  starts = λ b l. k.starts b l ∙ last_same n b hs (hs ++ h ∷ []) (length hs) (λ j m. sym (get_or_append_left hs (h ∷ []) 0 j m));
-  nexts = λ i l.
-      let within : i < length links = omega (arith, k.size) in
-      get_or_append_left links (x ∷ []) 0 i within ∙ k.nexts i l
-      ∙ (λ j. last_below n (sym (get_or_append_left hs (h ∷ []) 0 i l) j % n) hs i)
-      ∙ last_same n (get_or (hs ++ h ∷ []) i 0 % n) hs (hs ++ h ∷ []) i (λ j m. sym (get_or_append_left hs (h ∷ []) 0 j (omega arith)));
-}
-
 -- a place once the member at position i is taken out, whose link is next
 abbrev renumbered : ℕ → ℕ → ℕ → ℕ
 renumbered i next p = lowered i (passed i next p)
 
-passed_at : (i next p : ℕ) → p ≡ i + 1 → next ≡ passed i next p
+pub passed_at : (i next p : ℕ) → p ≡ i + 1 → next ≡ passed i next p
 passed_at i next p e = grind (arith, nat_tests)
 
-passed_other : (i next p : ℕ) → (p ≡ i + 1 → ⊥) → p ≡ passed i next p
+pub passed_other : (i next p : ℕ) → (p ≡ i + 1 → ⊥) → p ≡ passed i next p
 passed_other i next p e = grind (arith, nat_tests)
 
-passed_low : (i next p : ℕ) → p ≤ i → passed i next p ≡ p
+pub passed_low : (i next p : ℕ) → p ≤ i → passed i next p ≡ p
 passed_low i next p h = grind (arith, nat_tests)
 
 renumbered_low : (i next p : ℕ) → p ≤ i → renumbered i next p ≡ p
@@ -137,9 +123,6 @@ renumbered_at i next h = grind (arith, nat_tests)
 
 renumbered_high : (i next p : ℕ) → i < p → renumbered i next (suc p) ≡ p
 renumbered_high i next p h = grind (arith, nat_tests)
-
-get_or-lowered : (i : ℕ) (xs : List ℕ) (j : ℕ) → get_or (map (lowered i) xs) j 0 ≡ lowered i (get_or xs j 0)
-get_or-lowered i xs j = let e : lowered i 0 ≡ 0 = grind (arith, nat_tests) in ap (λ d. get_or (map (lowered i) xs) j d) (sym e) ∙ get_or-map (lowered i) xs j 0
 
 module _ (n b : ℕ) (hs : List ℕ) (i next : ℕ) (within : i < length hs) (link : is_in n b (get_or hs i 0) ≡ true → next ≡ last_below n b hs i) where
   -- the places below are the same
@@ -172,48 +155,6 @@ module _ (n b : ℕ) (hs : List ℕ) (i next : ℕ) (within : i < length hs) (li
     by_test true e more = let h : i ≤ k = grind (arith, nat_tests) in moved_more k h (more h)
     by_test false e more = let q : i ≡ suc k = grind (arith, nat_tests) in subst Moved q moved_at
 
--- one member less, once its chain passes it over: the links before it stay, and those behind it move down
-pub IsLinked-remove : (n : ℕ) (hs links heads moved passing : List ℕ) (i : ℕ) → i < length hs → IsLinked n hs links heads (length hs)
-    → (m : ℕ) → m ≡ length (remove hs i) → length moved ≡ m
-    → ((j : ℕ) → j < i → get_or moved j 0 ≡ passed i (get_or links i 0) (get_or links j 0))
-    → ((j : ℕ) → i ≤ j → j + 1 < length hs → get_or moved j 0 ≡ renumbered i (get_or links i 0) (get_or links (j + 1) 0))
-    → length passing ≡ length heads
-    → ((b : ℕ) → b < n → get_or passing b 0 ≡ passed i (get_or links i 0) (get_or heads b 0))
-    → IsLinked n (remove hs i) moved (map (lowered i) passing) m
-IsLinked-remove n hs links heads moved passing i w h m q size before behind count heads_passed = record {
-  count = length-map passing (lowered i) ∙ count ∙ h.count;
-  size = size ∙ q;
-  starts = λ b l. get_or-lowered i passing b ∙ ap (lowered i) (heads_passed b l) ∙ ap f (h.starts b l) ∙ at_end b;
-  nexts = λ j l. by_test j (nat_le i j) refl (omega arith);
-} where
-  f : ℕ → ℕ
-  f = renumbered i (get_or links i 0)
-
-  len : length (remove hs i) + 1 ≡ length hs
-  len = length-remove hs i w
-
-  linked : (b : ℕ) → is_in n b (get_or hs i 0) ≡ true → get_or links i 0 ≡ last_below n b hs i
-  linked b e = let p : get_or hs i 0 % n ≡ b = grind (arith, nat_tests) in h.nexts i w ∙ ap (λ x. last_below n x hs i) p
-
-  at_end : (b : ℕ) → f (last_below n b hs (length hs)) ≡ last_below n b (remove hs i) m
-  at_end b = let e : length hs ≡ suc m = omega (arith, len) in ap (λ k. f (last_below n b hs k)) e ∙ last_after n b hs i (get_or links i 0) w (linked b) m (omega (arith, len))
-
-  by_test : (j : ℕ) (c : Bool) → nat_le i j ≡ c → j < length (remove hs i) → get_or moved j 0 ≡ last_below n (get_or (remove hs i) j 0 % n) (remove hs i) j
-  by_test j true e l =
-      let g : i ≤ j = grind (arith, nat_tests) in
-      let v : suc j < length hs = omega (arith, len) in
-      let b : ℕ = get_or hs (suc j) 0 % n in
-      let a : get_or links (j + 1) 0 ≡ get_or links (suc j) 0 = ap (λ k. get_or links k 0) (add-one j) in
-      let d : get_or (remove hs i) j 0 ≡ get_or hs (suc j) 0 = get_or-remove_above hs i 0 j g w ∙ ap (λ k. get_or hs k 0) (add-one j) in
-      behind j g (omega (arith, len)) ∙ ap f (a ∙ h.nexts (suc j) v) ∙ last_after n b hs i (get_or links i 0) w (linked b) j g ∙ ap (λ x. last_below n (x % n) (remove hs i) j) (sym d)
-  by_test j false e l =
-      let g : j < i = grind (arith, nat_tests) in
-      let v : j < length hs = omega arith in
-      let b : ℕ = get_or hs j 0 % n in
-      let d : get_or (remove hs i) j 0 ≡ get_or hs j 0 = get_or-remove_below hs i 0 j g w in
-      let u : last_below n b hs j ≤ i = omega (arith, last_le n b hs j) in
-      before j g ∙ ap (passed i (get_or links i 0)) (h.nexts j v) ∙ passed_low i (get_or links i 0) (last_below n b hs j) u ∙ sym (last_before n b hs i (get_or links i 0) w (linked b) j (omega arith)) ∙ ap (λ x. last_below n (x % n) (remove hs i) j) (sym d)
-
 -- a walk along the chain of the member at position i stands at a place above it
 pub record IsAbove (n : ℕ) (hs : List ℕ) (i place : ℕ) : Type 0 where
   pub within : place ≤ length hs
@@ -226,14 +167,14 @@ module _ (n : ℕ) (hs : List ℕ) (i : ℕ) (w : i < length hs) where
   in_own = grind (arith, nat_tests)
 
   -- only the chain of its own bucket goes to it
-  own_bucket : (b k : ℕ) → last_below n b hs k ≡ i + 1 → get_or hs i 0 % n ≡ b
+  pub own_bucket : (b k : ℕ) → last_below n b hs k ≡ i + 1 → get_or hs i 0 % n ≡ b
   own_bucket b k e =
       let s : last_below n b hs k ≡ suc i = e ∙ add-one i in
       let p : is_in n b (get_or hs i 0) ≡ true = place_in n b hs i (ap (last_below n b hs) (sym s) ∙ last_again n b hs k ∙ s) in
       grind (arith, nat_tests)
 
   -- and only one place of that
-  once : (b k c j : ℕ) → last_below n b hs k ≡ i + 1 → last_below n c hs j ≡ i + 1 → get_or hs j 0 % n ≡ c → j < k → ⊥
+  pub once : (b k c j : ℕ) → last_below n b hs k ≡ i + 1 → last_below n c hs j ≡ i + 1 → get_or hs j 0 % n ≡ c → j < k → ⊥
   once b k c j e d p l =
       let x : get_or hs i 0 % n ≡ b = own_bucket b k e in
       let y : get_or hs i 0 % n ≡ c = own_bucket c j d in
@@ -259,45 +200,6 @@ module _ (n : ℕ) (hs : List ℕ) (i : ℕ) (w : i < length hs) where
 
   pub above_next : (place k p : ℕ) → place ≡ suc k → IsAbove n hs i place → p ≡ last_below n (get_or hs k 0 % n) hs k → (p ≡ i + 1 → ⊥) → IsAbove n hs i p
   above_next place k p s h e ne = above_from k p (omega (arith, h.above)) (omega (arith, h.within)) (e ∙ ap (λ b. last_below n b hs k) (above_in place k s h)) ne
-
-  module _ (links heads : List ℕ) (h : IsLinked n hs links heads (length hs)) (next : ℕ) where
-    -- where the head of its bucket goes to it, nothing else does
-    pub head_passed : (b c : ℕ) → b < n → get_or heads b 0 ≡ i + 1 → c < n → get_or (set heads b next) c 0 ≡ passed i next (get_or heads c 0)
-    head_passed b c l e m = by_test (c == b) refl where
-      by_test : (t : Bool) → (c == b) ≡ t → get_or (set heads b next) c 0 ≡ passed i next (get_or heads c 0)
-      by_test true t =
-          let q : b ≡ c = grind (arith, nat_tests) in
-          let v : c < length heads = omega (arith, m, h.count) in
-          ap (λ x. get_or (set heads x next) c 0) q ∙ get_or-set_same heads c next 0 v ∙ passed_at i next (get_or heads c 0) (ap (λ x. get_or heads x 0) (sym q) ∙ e)
-      by_test false t =
-          let q : c ≢ b = grind (arith, nat_tests) in
-          get_or-set_other heads b c next 0 q ∙ passed_other i next (get_or heads c 0) (λ y. q (sym (own_bucket c (length hs) (sym (h.starts c m) ∙ y)) ∙ own_bucket b (length hs) (sym (h.starts b l) ∙ e)))
-
-    pub links_same : (b : ℕ) → b < n → get_or heads b 0 ≡ i + 1 → (j : ℕ) → j < length hs → get_or links j 0 ≡ passed i next (get_or links j 0)
-    links_same b l e j m = passed_other i next (get_or links j 0) (λ y. once b (length hs) (get_or hs j 0 % n) j (sym (h.starts b l) ∙ e) (sym (h.nexts j m) ∙ y) refl m)
-
-    -- where the link of a member goes to it, nothing else does
-    pub link_passed : (k j : ℕ) → k < length hs → get_or links k 0 ≡ i + 1 → j < length hs → get_or (set links k next) j 0 ≡ passed i next (get_or links j 0)
-    link_passed k j l e m = by_test (j == k) (nat_le j k) refl refl where
-      to : (x : ℕ) → x < length hs → get_or links x 0 ≡ i + 1 → last_below n (get_or hs x 0 % n) hs x ≡ i + 1
-      to x v y = sym (h.nexts x v) ∙ y
-
-      by_test : (t u : Bool) → (j == k) ≡ t → nat_le j k ≡ u → get_or (set links k next) j 0 ≡ passed i next (get_or links j 0)
-      by_test true u t o =
-          let q : k ≡ j = grind (arith, nat_tests) in
-          let v : j < length links = omega (arith, m, h.size) in
-          ap (λ x. get_or (set links x next) j 0) q ∙ get_or-set_same links j next 0 v ∙ passed_at i next (get_or links j 0) (ap (λ x. get_or links x 0) (sym q) ∙ e)
-      by_test false true t o =
-          let q : j ≢ k = grind (arith, nat_tests) in
-          let v : j < k = grind (arith, nat_tests) in
-          get_or-set_other links k j next 0 q ∙ passed_other i next (get_or links j 0) (λ y. once (get_or hs k 0 % n) k (get_or hs j 0 % n) j (to k l e) (to j m y) refl v)
-      by_test false false t o =
-          let q : j ≢ k = grind (arith, nat_tests) in
-          let v : k < j = grind (arith, nat_tests) in
-          get_or-set_other links k j next 0 q ∙ passed_other i next (get_or links j 0) (λ y. once (get_or hs j 0 % n) j (get_or hs k 0 % n) k (to j m y) (to k l e) refl v)
-
-    pub heads_same : (k : ℕ) → k < length hs → get_or links k 0 ≡ i + 1 → (b : ℕ) → b < n → get_or heads b 0 ≡ passed i next (get_or heads b 0)
-    heads_same k l e b m = passed_other i next (get_or heads b 0) (λ y. once b (length hs) (get_or hs k 0 % n) k (sym (h.starts b m) ∙ y) (sym (h.nexts k l) ∙ e) refl l)
 
 -- the last member is gone: it was the head of its chain
 module _ (n : ℕ) (hs links heads : List ℕ) (m : ℕ) (p : 0 < n) (e : m + 1 ≡ length hs) (h : IsLinked n hs links heads (length hs)) where
@@ -337,7 +239,7 @@ module _ (n : ℕ) (hs : List ℕ) (g : ℕ) where
   pub get_or-less : (xs : List ℕ) (i : ℕ) → get_or (map (λ p. p - g) xs) i 0 ≡ get_or xs i 0 - g
   get_or-less xs i = ap (λ d. get_or (map (λ p. p - g) xs) i d) (sym less_zero) ∙ get_or-map (λ p. p - g) xs i 0
 
-  last_dropped : (b k : ℕ) → last_below n b (drop g hs) k ≡ last_below n b hs (g + k) - g
+  pub last_dropped : (b k : ℕ) → last_below n b (drop g hs) k ≡ last_below n b hs (g + k) - g
   unfolding last_below
   last_dropped b zero = omega (arith, last_le n b hs (g + 0))
   last_dropped b (suc k) = by_test (is_in n b (get_or (drop g hs) k 0)) refl (last_dropped b k) where

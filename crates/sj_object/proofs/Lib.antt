@@ -3,6 +3,9 @@ pub mod Position
 pub mod Places
 pub mod Lent
 pub mod Chains
+pub mod Holes
+pub mod Chained
+pub mod Tables
 pub mod Walked
 pub mod Hashed
 pub mod Stored

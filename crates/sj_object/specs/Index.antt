@@ -5,20 +5,27 @@ use Rattle.std.proofs.Common.{arith}
 use Rattle.std.proofs.lemmas.Bool.Decides.{nat_tests}
 use denote.Struct.Props.{props}
 use Rattle.sj_object.specs.declared.map.index.Table.{Table}
-use Rattle.sj_object.specs.Chains.{IsLinked}
+use Rattle.sj_object.specs.Holes.{without, AreHoles, IsChained}
 
--- the hashes of the members that are there: those of members that left at the front, and are not forgotten, stand before them
+-- the hashes of the members that are there, and of those in front that left at the front
+abbrev pub kept : Table → List ℕ
+kept t = without t.holes.items t.hashes.items
+
+-- the hashes of the members that are there
 abbrev pub hashes_in : Table → List ℕ
-hashes_in t = drop t.gone t.hashes.items
+hashes_in t = drop t.gone (kept t)
 
--- the members whose hashes t keeps stand in their chains, those that are gone too. There is room for a quarter more than there are buckets
+-- the members whose hashes t keeps stand in their chains, those that left at the front too. There is room for a quarter more than there are buckets
 pub record IsTable (t : Table) : Type 0 where
   pub bits : t.bits < 64
-  pub gone : t.gone ≤ length t.hashes.items
-  pub few : t.gone ≤ length t.heads.items / 4
+  pub some : 64 ≤ length t.heads.items
+  pub most : (length t.holes.items ≤ 8) × (8 ≤ vec_capacity t.holes)
+  pub holes : AreHoles t.gone t.holes.items (length t.hashes.items)
+  pub gone : t.gone ≤ length (kept t)
+  pub few : t.gone + length t.holes.items ≤ length t.heads.items / 4
   pub space : (length t.heads.items + length t.heads.items / 4 ≤ vec_capacity t.hashes) × (length t.heads.items + length t.heads.items / 4 ≤ vec_capacity t.links)
   pub room : length (hashes_in t) ≤ 2 ^ t.bits
-  pub linked : IsLinked (2 ^ t.bits) t.hashes.items t.links.items t.heads.items (length t.hashes.items)
+  pub linked : IsChained (2 ^ t.bits) t.holes.items t.hashes.items t.links.items t.heads.items
 
 -- t is the table of members with those hashes
 pub record IsTableOf (hashes : List ℕ) (t : Table) : Type 0 where

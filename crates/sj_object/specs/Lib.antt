@@ -6,6 +6,7 @@ pub mod Members
 pub mod Edits
 pub mod Steps
 pub mod Chains
+pub mod Holes
 pub mod Index
 pub mod Stored
 pub mod Lends

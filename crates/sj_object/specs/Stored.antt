@@ -5,6 +5,7 @@ use Rattle.std.specs.VecDeque.{deque_len, deque_capacity}
 use denote.Struct.Props.{props}
 use Rattle.sj_object.specs.declared.map.store.Store.{Store}
 use Rattle.sj_object.specs.declared.map.store.Store.TheVariants.{Plain, Hashed}
+use Rattle.sj_object.specs.Holes.{AreHoles-prop}
 use Rattle.sj_object.specs.Index.{IsTable, IsTableOf, hashes_in}
 
 module _ {K V : Type 0} where
@@ -35,4 +36,4 @@ module _ {K V : Type 0} where
 
   pub IsIndexOf-prop : (hashes : List ℕ) (s : Store K V) → IsProp (IsIndexOf hashes s)
   IsIndexOf-prop hashes (Plain v) = hlevel props
-  IsIndexOf-prop hashes (Hashed b) = hlevel props
+  IsIndexOf-prop hashes (Hashed b) = hlevel (props, AreHoles-prop)

@@ -9,6 +9,7 @@ ghost use Rattle.sj_object.specs.Stored.{pairs_of, buckets_of};
 mod chain;
 mod debug;
 mod get;
+mod holes;
 mod index;
 mod insert;
 mod iter;

@@ -1,23 +1,27 @@
 //! The index of a map's members by their hashes.
 
-ghost use Rattle.std.specs.Prelude.{◌≡◌, ◌+◌, ◌-◌, ◌<◌, ◌≤◌, ◌∷◌, ◌++◌, [], length, take, drop, Some, IfOk, OnOk, OnErr};
+ghost use Rattle.std.specs.Prelude.{◌≡◌, ◌+◌, ◌-◌, ◌/◌, ◌<◌, ◌≤◌, ◌∷◌, ◌++◌, [], length, take, Some, IfOk, OnOk, OnErr};
 ghost use Rattle.std.specs.List.{remove};
 ghost use Rattle.std.specs.Vec.{vec_capacity};
 ghost use Rattle.sj_object.specs.Index.{buckets_for, hashes_in, IsTable};
 
-use super::chain::{bucket_of, close_up, link, lower_all, lower_by, pass_over};
+use super::chain::{bucket_of, link, pass_over};
+use super::holes::{HOLES, close};
 use std::alloc::{AllocError, Global};
 
 /// The hash of each member, the link to the next one in its chain, and where the chains begin, one
 /// for each bucket.
 ///
-/// The hashes and links of members that leave at the front stay before the others, so that no
-/// place changes, until they are as many as a quarter of the buckets. A chain ends at them. There
-/// is room for all.
+/// The hashes and links of members that are taken out by key stay where they are, so that no place
+/// changes: of those taken from the front, while there is no hole, a chain ends at them; of the
+/// others, each place is a hole, which its chain passes over. All are forgotten by the removal behind
+/// the eighth hole, or behind as many of both as a quarter of the buckets, by a doubling of the
+/// buckets, and holes by a pop. There is room for all.
 #[derive(Drop)]
 pub struct Table {
     pub(super) bits: u32,
     pub(super) gone: usize,
+    pub(super) holes: Vec<usize>,
     pub(super) hashes: Vec<u64>,
     pub(super) links: Vec<usize>,
     pub(super) heads: Vec<usize>,
@@ -39,17 +43,27 @@ impl Table {
         ensures table { IfOk result IsTable }
         ensures buckets { IfOk result (λ i. length i.heads.items ≡ 64) }
     {
+        let holes = Vec::with_capacity(alloc, HOLES)?;
         let mut links = vec![in alloc; 0; 80]?;
         links.truncate(hashes.len());
         let mut heads = vec![in alloc; 0; 64]?;
-        link(6, &hashes, 0, &mut links, &mut heads);
+        link(6, &hashes, &mut links, &mut heads);
         Ok(Table {
             bits: 6,
             gone: 0,
+            holes,
             hashes,
             links,
             heads,
         })
+    }
+
+    /// How many members there are.
+    fn len(&self) -> usize
+        requires { IsTable self.now }
+        ensures { result ≡ length (hashes_in self.now) }
+    {
+        self.hashes.len() - self.holes.len() - self.gone
     }
 
     /// Puts one more hash last, where there are buckets: twice as many once each has a member. Only
@@ -62,19 +76,13 @@ impl Table {
         ensures refused { OnErr result (hashes_in self.new ≡ hashes_in self.old) }
         ensures refused_buckets { OnErr result (self.new.heads.items ≡ self.old.heads.items) }
     {
-        let last = self.hashes.len();
-        if last - self.gone == self.heads.len() {
+        if self.len() == self.heads.len() {
             return self.grow(alloc, hash);
         }
+        let bucket = bucket_of(hash, self.bits);
+        self.links.push_reserved(self.heads[bucket]);
         self.hashes.push_reserved(hash);
-        self.links.push_reserved(0);
-        link(
-            self.bits,
-            &self.hashes,
-            last,
-            &mut self.links,
-            &mut self.heads,
-        );
+        self.heads[bucket] = self.hashes.len();
         Ok(())
     }
 
@@ -92,14 +100,15 @@ impl Table {
             return Err(AllocError);
         };
         let mut heads = vec![in alloc; 0; buckets]?;
-        // A quarter more, for those that will be gone.
+        // A quarter more, for those that will have left.
         let more = heads.len() + heads.len() / 4 - self.hashes.len();
         self.hashes.reserve(more)?;
         self.links.reserve(more)?;
+        self.forget();
         self.hashes.push_reserved(hash);
         self.links.push_reserved(0);
         self.bits += 1;
-        link(self.bits, &self.hashes, 0, &mut self.links, &mut heads);
+        link(self.bits, &self.hashes, &mut self.links, &mut heads);
         self.heads = heads;
         Ok(())
     }
@@ -112,77 +121,116 @@ impl Table {
         ensures buckets { length self.new.heads.items ≡ length self.old.heads.items }
         ensures table { IsTable self.new }
     {
-        if position == 0 {
-            self.remove_first();
-        } else {
-            self.close_up(self.gone + position);
-        }
-    }
-
-    /// Takes the first hash out. It is the end of its chain, so that no link or head changes but
-    /// where those that are gone are forgotten.
-    fn remove_first(&mut self)
-        requires within { 0 < length (hashes_in self.old) }
-        requires table { IsTable self.old }
-        ensures hashes { hashes_in self.new ≡ drop 1 (hashes_in self.old) }
-        ensures buckets { length self.new.heads.items ≡ length self.old.heads.items }
-        ensures table { IsTable self.new }
-    {
-        if self.gone < self.heads.len() / 4 {
+        self.make_room_to_leave();
+        if position == 0 && self.holes.is_empty() {
+            // The first is the end of its chain, so that no link or head changes.
             self.gone += 1;
         } else {
-            self.forget(self.gone + 1);
+            self.leave_hole(position);
         }
     }
 
-    /// Forgets the first hashes, so many. They take those with them that are gone.
-    fn forget(&mut self, first: usize)
-        requires within { self.old.gone ≤ first × first ≤ length self.old.hashes.items }
-        requires table { IsTable self.old }
-        ensures hashes { hashes_in self.new ≡ drop first self.old.hashes.items }
-        ensures buckets { length self.new.heads.items ≡ length self.old.heads.items }
-        ensures table { IsTable self.new }
+    /// How many can leave before the table is linked anew.
+    fn spare(&self) -> usize
+        requires { IsTable self.now }
+        ensures holes { result + length self.now.holes.items ≤ 8 }
+        ensures few { self.now.gone + length self.now.holes.items + result ≤ length self.now.heads.items / 4 }
     {
-        let left = self.hashes.len() - first;
-        self.hashes.copy_within(first.., 0);
-        self.hashes.truncate(left);
-        self.links.copy_within(first.., 0);
-        self.links.truncate(left);
-        lower_by(&mut self.links, first);
-        lower_by(&mut self.heads, first);
-        self.gone = 0;
+        let left = self.gone + self.holes.len();
+        usize::min(HOLES - self.holes.len(), self.heads.len() / 4 - left)
     }
 
-    /// Takes the hash at a place out, those gone counted with the others from 0, and closes the
-    /// rest up.
-    fn close_up(&mut self, place: usize)
-        requires there { self.old.gone ≤ place }
-        requires within { place < length self.old.hashes.items }
+    /// Forgets those that left where no other can leave before.
+    fn make_room_to_leave(&mut self)
+        requires { IsTable self.old }
+        ensures hashes { hashes_in self.new ≡ hashes_in self.old }
+        ensures buckets { length self.new.heads.items ≡ length self.old.heads.items }
+        ensures table { IsTable self.new }
+        ensures room { length self.new.holes.items < 8 }
+        ensures few { self.new.gone + length self.new.holes.items < length self.new.heads.items / 4 }
+    {
+        if self.spare() > 0 {
+            return;
+        }
+        self.settle();
+    }
+
+    /// Takes the hash at a position out. Its place is a hole then.
+    fn leave_hole(&mut self, position: usize)
+        requires within { position < length (hashes_in self.old) }
         requires table { IsTable self.old }
-        ensures hashes { hashes_in self.new ≡ drop self.old.gone (remove self.old.hashes.items place) }
+        requires few { self.old.gone + length self.old.holes.items < length self.old.heads.items / 4 }
+        requires room { length self.old.holes.items < 8 }
+        ensures hashes { hashes_in self.new ≡ remove (hashes_in self.old) position }
         ensures buckets { length self.new.heads.items ≡ length self.old.heads.items }
         ensures table { IsTable self.new }
     {
-        let last = self.hashes.len() - 1;
-        // Its chain passes the member over first, so that no place is tested for it below.
+        let position = self.gone + position;
         pass_over(
             self.bits,
+            &self.holes,
+            position,
             &self.hashes,
-            place,
             &mut self.links,
             &mut self.heads,
         );
-        self.hashes.remove(place);
-        // Links go to lower places, so only those behind the member change.
-        close_up(&mut self.links, place);
-        self.links.truncate(last);
-        lower_all(&mut self.heads, place);
+        self.holes.push_reserved(position);
     }
 
-    /// Takes the last hash out. Its member heads a chain, so no other link changes.
+    /// Forgets the members that left, and links the others anew.
+    fn settle(&mut self)
+        requires { IsTable self.old }
+        ensures hashes { hashes_in self.new ≡ hashes_in self.old }
+        ensures buckets { length self.new.heads.items ≡ length self.old.heads.items }
+        ensures table { IsTable self.new }
+        ensures none { (self.new.gone ≡ 0) × (self.new.holes.items ≡ []) }
+    {
+        self.forget();
+        self.heads.fill(0);
+        link(self.bits, &self.hashes, &mut self.links, &mut self.heads);
+    }
+
+    /// Forgets the members that left. The others are in no chain then.
+    fn forget(&mut self)
+        requires { IsTable self.old }
+        ensures hashes { self.new.hashes.items ≡ hashes_in self.old }
+        ensures links { length self.new.links.items ≡ length self.new.hashes.items }
+        ensures none { (self.new.gone ≡ 0) × (self.new.holes.items ≡ []) }
+        ensures space { (vec_capacity self.new.hashes ≡ vec_capacity self.old.hashes) × (vec_capacity self.new.links ≡ vec_capacity self.old.links) }
+        ensures holes { vec_capacity self.new.holes ≡ vec_capacity self.old.holes }
+        ensures rest { (self.new.bits ≡ self.old.bits) × (self.new.heads ≡ self.old.heads) }
+    {
+        close(&self.holes, &mut self.hashes);
+        self.holes.clear();
+        let left = self.hashes.len() - self.gone;
+        self.hashes.copy_within(self.gone.., 0);
+        self.hashes.truncate(left);
+        self.links.truncate(left);
+        self.gone = 0;
+    }
+
+    /// Takes the last hash out, once holes are forgotten: behind a removal that left one, the others
+    /// are linked anew once.
     pub fn pop(&mut self)
         requires within { 0 < length (hashes_in self.old) }
         requires table { IsTable self.old }
+        ensures hashes { hashes_in self.new ≡ take (length (hashes_in self.old) - 1) (hashes_in self.old) }
+        ensures buckets { length self.new.heads.items ≡ length self.old.heads.items }
+        ensures table { IsTable self.new }
+    {
+        if self.holes.is_empty() {
+            return self.take_last();
+        }
+        self.settle();
+        self.take_last();
+    }
+
+    /// Takes the last hash out, where there is no hole. Its member heads a chain, so no other link
+    /// changes.
+    fn take_last(&mut self)
+        requires within { 0 < length (hashes_in self.old) }
+        requires table { IsTable self.old }
+        requires none { self.old.holes.items ≡ [] }
         ensures hashes { hashes_in self.new ≡ take (length (hashes_in self.old) - 1) (hashes_in self.old) }
         ensures buckets { length self.new.heads.items ≡ length self.old.heads.items }
         ensures table { IsTable self.new }

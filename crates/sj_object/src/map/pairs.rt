@@ -26,6 +26,7 @@ impl<'a, K, V> Model for Pairs<'a, K, V> {
 }
 
 impl<'a, K, V> Pairs<'a, K, V> {
+    /// All members.
     pub fn new(store: &'a Store<K, V>) -> Self
         ensures { result ≡ pairs_of store.now }
     {

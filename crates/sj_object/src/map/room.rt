@@ -99,8 +99,7 @@ impl<K, V> Store<K, V> {
     }
 }
 
-/// Puts the hash of one more member last, where there are buckets or will be some: before it stand
-/// at least 32 members.
+/// Puts the hash of one more member last, where there are buckets, or will be some for the 33rd.
 #[inline(never)]
 fn add_hash<K: KeyText, V, S: KeyHasher>(
     store: &mut Store<K, V>,

@@ -1,6 +1,6 @@
 //! Where a key stands among the members.
 
-ghost use Rattle.std.specs.Prelude.{◌≡◌, ◌+◌, ◌<◌, ◌%◌, ◌^◌, ◌&&◌, ◌∷◌, ◌++◌, [], true, map, length, slice_index_or, IsSome, bytes_eq};
+ghost use Rattle.std.specs.Prelude.{◌≡◌, ◌+◌, ◌<◌, ◌%◌, ◌^◌, ◌∷◌, ◌++◌, [], true, map, length, slice_index_or, IsSome, bytes_eq};
 ghost use Rattle.std.specs.List.{position_from};
 ghost use Rattle.sj_object.specs.Entries.{entries_of, texts};
 ghost use Rattle.sj_object.specs.Texts.{no_repeats};
@@ -9,6 +9,7 @@ ghost use Rattle.sj_object.specs.Index.{IsTableOf};
 ghost use Rattle.sj_object.specs.Stored.{pairs_of, buckets_of, IsIndexOf};
 
 use super::chain::bucket_of;
+use super::holes::lower;
 use super::index::Table;
 use super::store::{Hashed, Store};
 use crate::hasher::KeyHasher;
@@ -17,15 +18,14 @@ use sj_text_core::{Steps, are_same_bytes};
 use std::marker::Brand;
 use std::sync::ledger::{Blank, Ledger};
 
-/// Compares a key, which is one step; where its hash is known to differ, by the hash alone.
-/// No other look-up in a map compares keys.
+/// Compares a key, which is one step. No other look-up in a map compares keys.
 #[inline]
-fn is_key<K: KeyText, L: Ledger>(may_be: bool, key: &K, text: &[u8], steps: &mut Steps<L>) -> bool
-    ensures answer { result ≡ may_be && bytes_eq text.now (K.text_of key.now) }
+fn is_key<K: KeyText, L: Ledger>(key: &K, text: &[u8], steps: &mut Steps<L>) -> bool
+    ensures answer { result ≡ bytes_eq text.now (K.text_of key.now) }
     ensures step { steps.new ≡ steps.old + 1 }
 {
     steps.tick();
-    may_be && are_same_bytes(text, key.text().as_bytes())
+    are_same_bytes(text, key.text().as_bytes())
 }
 
 /// The position of the first pair whose key has the text.
@@ -38,7 +38,7 @@ fn position_in_list<K: KeyText, V, L: Ledger>(
     ensures exact { steps.new ≡ steps.old + visited text.now (entries_of K.text_of pairs.now) }
 {
     for (i, pair) in pairs.iter().enumerate() {
-        if is_key(true, &pair.0, text, steps) {
+        if is_key(&pair.0, text, steps) {
             return Some(i);
         }
     }
@@ -78,17 +78,21 @@ fn position_in_parts<K: KeyText, V, S: KeyHasher, L: Ledger>(
 {
     let mut place = table.heads[bucket_of(hash, table.bits)];
     while place > table.gone {
-        let may_be = table.hashes[place - 1] == hash;
-        let i = place - 1 - table.gone;
-        if is_key(may_be, &pair_at(front, back, i).0, text, steps) {
-            return Some(i);
+        if table.hashes[place - 1] == hash {
+            let i = lower(&table.holes, place) - 1 - table.gone;
+            if is_key(&pair_at(front, back, i).0, text, steps) {
+                return Some(i);
+            }
+        } else {
+            // A key of another hash is passed by that alone, which is one step as well.
+            Steps::tick(steps);
         }
         place = table.links[place - 1];
     }
     None
 }
 
-/// The same, apart from its callers: few rings have come round.
+/// The same, apart from its callers, whose rings have mostly not come round.
 #[inline(never)]
 fn position_in_two<K: KeyText, V, S: KeyHasher, L: Ledger>(
     front: &[(K, V)],

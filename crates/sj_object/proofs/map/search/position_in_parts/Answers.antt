@@ -1,67 +1,135 @@
-use Rattle.std.proofs.Common.{◌≡◌, ℕ, map, ◌<◌, ◌+◌, ◌-◌, ◌%◌, ◌^◌, ◌++◌, Some, true, false, [], length, get_or, drop, bytes_eq, nat_eq, arith, sym, ap, ◌∙◌, subst}
+use Rattle.std.proofs.Common.{◌≡◌, ℕ, suc, ◌<◌, ◌≤◌, ◌+◌, ◌-◌, ◌%◌, ◌^◌, ◌++◌, Some, Bool, true, false, [], length, get_or, drop, bytes_eq, nat_le, arith, refl, sym, ap, ◌∙◌, subst}
+use Rattle.std.proofs.lemmas.Bool.Decides.{nat_tests}
 use Rattle.std.proofs.lemmas.List.{get_or_default, get_or-drop, length-drop}
 use Rattle.std.proofs.lemmas.Nat.{pow_pos}
 use Rattle.sj_text_core.specs.Keep.{is_seen}
 use Rattle.sj_object.specs.Entries.{texts, entries_of}
 use Rattle.sj_object.specs.Steps.{walk}
-use Rattle.sj_object.specs.Index.{hashes_in, IsTable}
+use Rattle.sj_object.specs.Index.{kept, hashes_in, IsTable}
 use Rattle.sj_object.specs.declared.map.index.Table.{Table}
-use Rattle.sj_object.specs.Chains.{last_below, IsLinked}
-use Rattle.sj_object.proofs.Chains.{last_le, get_or-less, IsLinked-dropped}
+use Rattle.sj_object.specs.Chains.{last_below}
+use Rattle.sj_object.specs.Holes.{raised_by, lowered_by}
+use Rattle.sj_object.proofs.Chains.{last_le, last_dropped}
+use Rattle.sj_object.proofs.Holes.{lowered_raised_by, raised_by_ge, raised_by_less, raised_by-first, raised_by-within, get_or-without}
+use Rattle.sj_object.proofs.Tables.{length-kept}
 use Rattle.sj_object.proofs.Walked.{count, at_start, at_next, at_member}
 use Rattle.sj_object.proofs.Position.{found_at, absent_at}
-use Rattle.sj_object.proofs.Hashed.{agrees, text_at, texts-length, compared_true, compared_false, walk_found, walk_absent}
+use Rattle.sj_object.proofs.Hashed.{agrees, text_at, texts-length, walk_found, walk_absent}
 use Rattle.sj_object.proofs.map.search.position_in_parts.Goals as goal
+use Rattle.sj_object.proofs.map.search.position_in_parts.Goals.{then-index-hash+else-is_key, else-index-hash}
 
 -- the places and links of the members that are there
 module _ (T : Table) (q : IsTable T) where
   abbrev n : ℕ
   n = 2 ^ T.bits
 
-  abbrev linked : IsLinked n (hashes_in T) (map (λ p. p - T.gone) (drop T.gone T.links.items)) (map (λ p. p - T.gone) T.heads.items) (length (hashes_in T))
-  linked = IsLinked-dropped n T.hashes.items T.gone T.links.items T.heads.items q.gone q.linked
+  abbrev low : ℕ → ℕ
+  low p = lowered_by T.holes.items p
 
-  begins : (b h : ℕ) → b < n → h ≡ get_or T.heads.items b h → h - T.gone ≡ last_below n b (hashes_in T) (length (hashes_in T))
+  abbrev Is : ℕ → Type 0
+  Is p = (p ≤ length T.hashes.items) × (p ≡ raised_by T.holes.items (low p))
+
+  is_there : (p m : ℕ) → p ≡ raised_by T.holes.items m → m ≤ length (kept T) → Is p × (low p ≡ m)
+  is_there p m e l =
+      let s : low p ≡ m = ap low e ∙ lowered_raised_by T.holes.items m in
+      ((omega (arith, e, raised_by-within T.gone T.holes.items (length T.hashes.items) (length (kept T)) m q.holes (length-kept T q) l), e ∙ ap (raised_by T.holes.items) (sym s)), s)
+
+  begins : (b h : ℕ) → b < n → h ≡ get_or T.heads.items b h → Is h × (low h - T.gone ≡ last_below n b (hashes_in T) (length (hashes_in T)))
   begins b h l e =
-      ap (λ p. p - T.gone) (e ∙ get_or_default T.heads.items b h 0 (omega (arith, l, q.linked.count)))
-      ∙ sym (get_or-less n T.hashes.items T.gone T.heads.items b) ∙ linked.starts b l
+      let m = last_below n b (kept T) (length (kept T)) in
+      let s = is_there h m (e ∙ get_or_default T.heads.items b h 0 (omega (arith, l, q.linked.count)) ∙ q.linked.starts b l) (last_le n b (kept T) (length (kept T))) in
+      let whole : length (kept T) ≡ T.gone + length (hashes_in T) = omega (arith, length-drop T.gone (kept T), q.gone) in
+      (s.0, ap (λ p. p - T.gone) (s.1 ∙ ap (last_below n b (kept T)) whole) ∙ sym (last_dropped n (kept T) T.gone b (length (hashes_in T))))
 
-  goes_on : (place i x : ℕ) → place - 1 ≡ T.gone + i → i < length (hashes_in T) → x ≡ get_or T.links.items (place - 1) x → x - T.gone ≡ last_below n (get_or (hashes_in T) i 0 % n) (hashes_in T) i
-  goes_on place i x s l e =
-      let w : place - 1 < length T.links.items = omega (arith, s, l, q.linked.size, length-drop T.gone T.hashes.items) in
-      ap (λ p. p - T.gone) (e ∙ get_or_default T.links.items (place - 1) x 0 w ∙ ap (λ j. get_or T.links.items j 0) s ∙ sym (get_or-drop T.gone T.links.items i 0))
-      ∙ sym (get_or-less n T.hashes.items T.gone (drop T.gone T.links.items) i) ∙ linked.nexts i l
+  -- a place behind those that left at the front
+  at : (p : ℕ) → Is p → T.gone < p → T.gone < low p
+  at p s l = by_test (nat_le (low p) T.gone) refl where
+    by_test : (c : Bool) → nat_le (low p) T.gone ≡ c → T.gone < low p
+    by_test true e =
+        let f : low p ≤ T.gone = grind (arith, nat_tests) in
+        absurd (omega (arith, s.1, l, f, raised_by-first T.gone T.holes.items (length T.hashes.items) (low p) q.holes f))
+    by_test false e = grind (arith, nat_tests)
 
-  hash_there : (place i h : ℕ) → place - 1 ≡ T.gone + i → i < length (hashes_in T) → h ≡ get_or T.hashes.items (place - 1) h → h ≡ get_or (hashes_in T) i 0
-  hash_there place i h s l e =
-      let w : place - 1 < length T.hashes.items = omega (arith, s, l, length-drop T.gone T.hashes.items) in
-      e ∙ get_or_default T.hashes.items (place - 1) h 0 w ∙ ap (λ j. get_or T.hashes.items j 0) s ∙ sym (get_or-drop T.gone T.hashes.items i 0)
+  past : (p : ℕ) → Is p → p ≤ T.gone → low p - T.gone ≡ 0
+  past p s l = omega (arith, s.1, l, raised_by_ge T.holes.items (low p))
+
+  module _ (p i : ℕ) (s : Is p) (e : low p ≡ suc (T.gone + i)) (l : i < length (hashes_in T)) where
+    within : T.gone + i < length (kept T)
+    within = omega (arith, l, length-drop T.gone (kept T))
+
+    raises : suc (p - 1) ≡ raised_by T.holes.items (suc (T.gone + i))
+    raises = omega (arith, s.1, ap (raised_by T.holes.items) e, raised_by_ge T.holes.items (suc (T.gone + i)))
+
+    some : 0 < p
+    some = omega (arith, s.1, ap (raised_by T.holes.items) e, raised_by_ge T.holes.items (suc (T.gone + i)))
+
+    goes_on : (x : ℕ) → x ≡ get_or T.links.items (p - 1) x → Is x × ((low x - T.gone ≡ last_below n (get_or (hashes_in T) i 0 % n) (hashes_in T) i) × (x < p))
+    goes_on x f =
+        let w : p - 1 < length T.links.items = omega (arith, some, s.0, q.linked.size) in
+        let b = get_or (kept T) (T.gone + i) 0 % n in
+        let m = last_below n b (kept T) (T.gone + i) in
+        let h : x ≡ raised_by T.holes.items m = f ∙ get_or_default T.links.items (p - 1) x 0 w ∙ q.linked.nexts (T.gone + i) (p - 1) within raises in
+        let le = last_le n b (kept T) (T.gone + i) in
+        let r = is_there x m h (omega (arith, le, within)) in (
+          r.0,
+          (
+            ap (λ j. j - T.gone) r.1 ∙ sym (last_dropped n (kept T) T.gone b i) ∙ ap (λ z. last_below n (z % n) (hashes_in T) i) (sym (get_or-drop T.gone (kept T) i 0)),
+            omega (arith, h, some, raises, raised_by_less T.holes.items m (suc (T.gone + i)) (omega (arith, le))),
+          ),
+        )
+
+    hash_there : (h : ℕ) → h ≡ get_or T.hashes.items (p - 1) h → h ≡ get_or (hashes_in T) i 0
+    hash_there h f =
+        let w : p - 1 < length T.hashes.items = omega (arith, some, s.0) in
+        f ∙ get_or_default T.hashes.items (p - 1) h 0 w ∙ sym (get_or-without T.gone T.holes.items T.hashes.items (length T.hashes.items) 0 (T.gone + i) (p - 1) refl q.holes raises) ∙ sym (get_or-drop T.gone (kept T) i 0)
 
 pub loop-place-init : goal.loop-place-init
 loop-place-init g c =
     let T = c.args.table.now in
     let x = c.args.hash in
     let hs = hashes_in T in
+    let p = c.index-place.result.now in
     let a = agrees g.K.KeyText.text_of (g.S.KeyHasher.hash_of c.args._hasher.now) c.args.text.now (c.args.front.now ++ c.args.back.now) hs x c.requires.table.same c.requires.hash in
     let l : x % 2 ^ T.bits < 2 ^ T.bits = omega (arith, pow_pos T.bits) in
-    let e = begins T c.requires.table.table (x % 2 ^ T.bits) c.index-place.result.now l (c.index-place.ensures ∙ ap (λ b. get_or T.heads.items b c.index-place.result.now) c.bucket_of.ensures) in
-    let s = at_start (2 ^ T.bits) x c.args.text.now hs (texts (entries_of g.K.KeyText.text_of (c.args.front.now ++ c.args.back.now))) a (c.index-place.result.now - T.gone) e in
-    record { stands = s.0; counted = omega (arith, s.1) }
+    let e = begins T c.requires.table.table (x % 2 ^ T.bits) p l (c.index-place.ensures ∙ ap (λ b. get_or T.heads.items b p) c.bucket_of.ensures) in
+    let s = at_start (2 ^ T.bits) x c.args.text.now hs (texts (entries_of g.K.KeyText.text_of (c.args.front.now ++ c.args.back.now))) a (lowered_by T.holes.items p - T.gone) e.1 in
+    record { within = e.0.0; there = e.0.1; stands = s.0; counted = omega (arith, s.1) }
+
+-- the position of the member at the place of a walk
+place : (T : Table) (q : IsTable T) (p : ℕ) → Is T q p → T.gone < p → lowered_by T.holes.items p ≡ suc (T.gone + (lowered_by T.holes.items p - 1 - T.gone))
+place T q p s l = let m = at T q p s l in omega (arith, m)
+
+pub overflow_sub-i : goal.overflow_sub-i
+overflow_sub-i g c =
+    let T = c.args.table.now in
+    let v = c.loop-place.invariant in
+    omega (arith, c.lower.ensures, ap (λ qs. lowered_by qs c.loop-place.place) c.deref.ensures.value, at T c.requires.table.table c.loop-place.place (v.within, v.there) c.loop-place-test.true)
+
+pub overflow_sub-i-then-index-hash : goal.overflow_sub-i-then-index-hash
+overflow_sub-i-then-index-hash g c =
+    let T = c.args.table.now in
+    let v = c.loop-place.invariant in
+    omega (arith, c.lower.ensures, ap (λ qs. lowered_by qs c.loop-place.place) c.deref.ensures.value, at T c.requires.table.table c.loop-place.place (v.within, v.there) c.loop-place-test.true)
 
 pub pair_at-requires : goal.pair_at-requires
-pair_at-requires g c = omega (arith, texts-length g.K.KeyText.text_of (c.args.front.now ++ c.args.back.now), c.loop-place.invariant.stands.within)
+pair_at-requires g c =
+    let T = c.args.table.now in
+    let v = c.loop-place.invariant in
+    omega (arith, c.lower.ensures, ap (λ qs. lowered_by qs c.loop-place.place) c.deref.ensures.value, at T c.requires.table.table c.loop-place.place (v.within, v.there) c.loop-place-test.true, texts-length g.K.KeyText.text_of (c.args.front.now ++ c.args.back.now), v.stands.within)
 
 pub returns-then-is_key-clause-found : goal.returns-then-is_key-clause-found
 returns-then-is_key-clause-found g c =
     let t = g.K.KeyText.text_of in
     let k = c.args.text.now in
     let ps = (c.args.front.now ++ c.args.back.now) in
-    let i = c.loop-place.place - 1 - c.args.table.now.gone in
+    let i = c.lower.result - 1 - c.args.table.now.gone in
     let r = c.pair_at.result.now in
     let there : r ≡ get_or ps i r = c.pair_at.ensures in
-    let l : i < length ps = omega (arith, texts-length t ps, c.loop-place.invariant.stands.within) in
-    let e = compared_true (nat_eq c.index.result.now c.args.hash) (bytes_eq k (t r.0)) (sym c.is_key.ensures.answer ∙ c.if-is_key.true) in
-    let f = found_at t k ps i r c.requires.distinct l there e in
+    let T = c.args.table.now in
+    let v = c.loop-place.invariant in
+    let y : c.lower.result ≡ lowered_by T.holes.items c.loop-place.place = c.lower.ensures ∙ ap (λ qs. lowered_by qs c.loop-place.place) c.deref.ensures.value in
+    let l : i < length ps = omega (arith, y, at T c.requires.table.table c.loop-place.place (v.within, v.there) c.loop-place-test.true, texts-length t ps, v.stands.within) in
+    let f = found_at t k ps i r c.requires.distinct l there (sym c.is_key.ensures.answer ∙ c.if-is_key.true) in
     sym (f.place 0 ∙ (let h : 0 + i ≡ i = omega arith in ap (λ m. Some m) h))
 
 pub returns-then-is_key-clause-exact : goal.returns-then-is_key-clause-exact
@@ -71,34 +139,41 @@ returns-then-is_key-clause-exact g c =
     let k = c.args.text.now in
     let ps = (c.args.front.now ++ c.args.back.now) in
     let T = c.args.table.now in
-    let i = c.loop-place.place - 1 - T.gone in
+    let v = c.loop-place.invariant in
+    let p = lowered_by T.holes.items c.loop-place.place in
+    let y : c.lower.result ≡ p = c.lower.ensures ∙ ap (λ qs. lowered_by qs c.loop-place.place) c.deref.ensures.value in
+    let i = c.lower.result - 1 - T.gone in
     let r = c.pair_at.result.now in
     let there : r ≡ get_or ps i r = c.pair_at.ensures in
-    let q = c.requires.table.table in
     let n = 2 ^ T.bits in
     let x = c.args.hash in
     let hs = hashes_in T in
     let d = c.requires.table.same in
     let a = agrees t H k ps hs x d c.requires.hash in
-    let l : i < length ps = omega (arith, texts-length t ps, c.loop-place.invariant.stands.within) in
-    let e = compared_true (nat_eq c.index.result.now c.args.hash) (bytes_eq k (t r.0)) (sym c.is_key.ensures.answer ∙ c.if-is_key.true) in
-    let f = found_at t k ps i r c.requires.distinct l there e in
-    let w = ap (λ m. walk H m k (entries_of t ps)) q.linked.count ∙ walk_found t H k n i x ps hs f d c.requires.hash in
-    let m = at_member n x k hs (texts (entries_of t ps)) a (c.loop-place.place - T.gone) i (omega arith) c.loop-place.invariant.stands in
-    omega (arith, w, m, c.is_key.ensures.step, c.loop-place.invariant.counted)
+    let z = at T c.requires.table.table c.loop-place.place (v.within, v.there) c.loop-place-test.true in
+    let l : i < length ps = omega (arith, y, z, texts-length t ps, v.stands.within) in
+    let f = found_at t k ps i r c.requires.distinct l there (sym c.is_key.ensures.answer ∙ c.if-is_key.true) in
+    let w = ap (λ m. walk H m k (entries_of t ps)) c.requires.table.table.linked.count ∙ walk_found t H k n i x ps hs f d c.requires.hash in
+    let m = at_member n x k hs (texts (entries_of t ps)) a (p - T.gone) i (omega (arith, y, z)) v.stands in
+    omega (arith, w, m, c.is_key.ensures.step, v.counted)
+
+-- a test that can't be true
+fails : (b : Bool) → (b ≡ true → ⊥) → b ≡ false
+fails false f = refl
+fails true f = absurd (f refl)
 
 pub loop-place-smaller : goal.loop-place-smaller
 loop-place-smaller g c =
     let T = c.args.table.now in
-    let n = 2 ^ T.bits in
-    let hs = hashes_in T in
-    let i = c.loop-place.place - 1 - T.gone in
-    let p = c.index-place-in-loop-place.result.now in
-    let a = agrees g.K.KeyText.text_of (g.S.KeyHasher.hash_of c.args._hasher.now) c.args.text.now (c.args.front.now ++ c.args.back.now) hs c.args.hash c.requires.table.same c.requires.hash in
-    let s : c.loop-place.place - 1 ≡ T.gone + i = omega arith in
-    let v : i < length hs = omega (arith, a.size, c.loop-place.invariant.stands.within) in
-    let e = goes_on T c.requires.table.table c.loop-place.place i p s v c.index-place-in-loop-place.ensures in
-    omega (arith, e, last_le n (get_or hs i 0 % n) hs i)
+    let q = c.requires.table.table in
+    let v = c.loop-place.invariant in
+    let o = c.loop-place.place in
+    let p = lowered_by T.holes.items o in
+    let i : ℕ = p - 1 - T.gone in
+    let a = agrees g.K.KeyText.text_of (g.S.KeyHasher.hash_of c.args._hasher.now) c.args.text.now (c.args.front.now ++ c.args.back.now) (hashes_in T) c.args.hash c.requires.table.same c.requires.hash in
+    let e = place T q o (v.within, v.there) c.loop-place-test.true in
+    let l : i < length (hashes_in T) = omega (arith, a.size, v.stands.within, e) in
+    (goes_on T q o i (v.within, v.there) e l c.index-place-in-loop-place.result.now c.index-place-in-loop-place.ensures).1.1
 
 pub loop-place-preserved : goal.loop-place-preserved
 loop-place-preserved g c =
@@ -107,30 +182,37 @@ loop-place-preserved g c =
     let k = c.args.text.now in
     let ps = (c.args.front.now ++ c.args.back.now) in
     let T = c.args.table.now in
-    let i = c.loop-place.place - 1 - T.gone in
-    let r = c.pair_at.result.now in
-    let there : r ≡ get_or ps i r = c.pair_at.ensures in
     let q = c.requires.table.table in
+    let v = c.loop-place.invariant in
+    let o = c.loop-place.place in
+    let p = lowered_by T.holes.items o in
+    let i : ℕ = p - 1 - T.gone in
     let n = 2 ^ T.bits in
     let x = c.args.hash in
     let hs = hashes_in T in
+    let ts = texts (entries_of t ps) in
     let a = agrees t H k ps hs x c.requires.table.same c.requires.hash in
-    let p = c.index-place-in-loop-place.result.now in
-    let s : c.loop-place.place - 1 ≡ T.gone + i = omega arith in
-    let v : i < length hs = omega (arith, a.size, c.loop-place.invariant.stands.within) in
-    let e = goes_on T q c.loop-place.place i p s v c.index-place-in-loop-place.ensures in
-    let l : i < length ps = omega (arith, texts-length t ps, c.loop-place.invariant.stands.within) in
-    let o : get_or (texts (entries_of t ps)) i [] ≡ t r.0 = text_at t ps i r l there in
-    let same : bytes_eq k (t r.0) ≡ true → c.index.result.now ≡ x = λ y. hash_there T q c.loop-place.place i c.index.result.now s v c.index.ensures ∙ a.same i (omega (arith, a.size)) (ap (bytes_eq k) o ∙ y) in
-    let b : bytes_eq k (get_or (texts (entries_of t ps)) i []) ≡ false = ap (bytes_eq k) o ∙ compared_false c.index.result.now x (bytes_eq k (t r.0)) (sym c.is_key.ensures.answer ∙ c.if-is_key.false) same in
-    let m = at_next n x k hs (texts (entries_of t ps)) a (c.loop-place.place - T.gone) i (p - T.gone) (omega arith) c.loop-place.invariant.stands b e in
-    record { stands = m.0; counted = omega (arith, m.1, c.is_key.ensures.step, c.loop-place.invariant.counted) }
+    let e = place T q o (v.within, v.there) c.loop-place-test.true in
+    let l : i < length hs = omega (arith, a.size, v.stands.within, e) in
+    let j : i < length ps = omega (arith, a.size, texts-length t ps, l) in
+    let s = goes_on T q o i (v.within, v.there) e l c.index-place-in-loop-place.result.now c.index-place-in-loop-place.ensures in
+    let step : c.if-index-hash.steps ≡ c.loop-place.steps + 1 = elim c.if-index-hash.branch [ then-index-hash+else-is_key w ↦ w.steps-is ∙ w.is_key.ensures.step | else-index-hash w ↦ w.steps-is ∙ w.tick.ensures ] in
+    let b : bytes_eq k (get_or ts i []) ≡ false = elim c.if-index-hash.branch [
+      | then-index-hash+else-is_key w ↦
+          let y : w.lower.result - 1 - T.gone ≡ i = ap (λ r. r - 1 - T.gone) (w.lower.ensures ∙ ap (λ qs. lowered_by qs o) w.deref.ensures.value) in
+          ap (bytes_eq k) (text_at t ps i w.pair_at.result.now j (w.pair_at.ensures ∙ ap (λ m. get_or ps m w.pair_at.result.now) y)) ∙ sym w.is_key.ensures.answer ∙ w.if-is_key.false
+      | else-index-hash w ↦ fails (bytes_eq k (get_or ts i [])) (λ y. w.if-index-hash.false (hash_there T q o i (v.within, v.there) e l c.index.result.now c.index.ensures ∙ a.same i (omega (arith, a.size, l)) y))
+    ] in
+    let m = at_next n x k hs ts a (p - T.gone) i (lowered_by T.holes.items c.index-place-in-loop-place.result.now - T.gone) (omega (arith, e)) v.stands b s.1.0 in
+    record { within = s.0.0; there = s.0.1; stands = m.0; counted = omega (arith, m.1, step, v.counted) }
 
 pub returns-clause-found : goal.returns-clause-found
 returns-clause-found g c =
+    let T = c.args.table.now in
+    let v = c.loop-place.invariant in
     let ts = texts (entries_of g.K.KeyText.text_of (c.args.front.now ++ c.args.back.now)) in
-    let z : c.loop-place.place - c.args.table.now.gone ≡ 0 = omega arith in
-    let u : is_seen c.args.text.now ts ≡ false = subst (λ m. is_seen c.args.text.now (drop m ts) ≡ false) z c.loop-place.invariant.stands.unseen in
+    let z = past T c.requires.table.table c.loop-place.place (v.within, v.there) (omega (arith, c.loop-place-test.false)) in
+    let u : is_seen c.args.text.now ts ≡ false = subst (λ m. is_seen c.args.text.now (drop m ts) ≡ false) z v.stands.unseen in
     sym ((absent_at g.K.KeyText.text_of c.args.text.now (c.args.front.now ++ c.args.back.now) u).placeless 0)
 
 pub returns-clause-exact : goal.returns-clause-exact
@@ -140,11 +222,12 @@ returns-clause-exact g c =
     let k = c.args.text.now in
     let ps = (c.args.front.now ++ c.args.back.now) in
     let T = c.args.table.now in
+    let v = c.loop-place.invariant in
     let n = 2 ^ T.bits in
     let x = c.args.hash in
     let hs = hashes_in T in
-    let z : c.loop-place.place - T.gone ≡ 0 = omega arith in
-    let u : is_seen k (texts (entries_of t ps)) ≡ false = subst (λ m. is_seen k (drop m (texts (entries_of t ps))) ≡ false) z c.loop-place.invariant.stands.unseen in
+    let z = past T c.requires.table.table c.loop-place.place (v.within, v.there) (omega (arith, c.loop-place-test.false)) in
+    let u : is_seen k (texts (entries_of t ps)) ≡ false = subst (λ m. is_seen k (drop m (texts (entries_of t ps))) ≡ false) z v.stands.unseen in
     let w = ap (λ m. walk H m k (entries_of t ps)) c.requires.table.table.linked.count ∙ walk_absent t H k n x ps hs u c.requires.table.same c.requires.hash in
-    let d : count n (x % n) hs (c.loop-place.place - T.gone) ≡ count n (x % n) hs 0 = ap (count n (x % n) hs) z in
-    omega (arith, w, d, c.loop-place.invariant.counted)
+    let d : count n (x % n) hs (lowered_by T.holes.items c.loop-place.place - T.gone) ≡ count n (x % n) hs 0 = ap (count n (x % n) hs) z in
+    omega (arith, w, d, v.counted)

@@ -1,0 +1,140 @@
+-- Holes in a table: what places and members are beside them.
+use Rattle.std.proofs.Common.{◌≡◌, ℕ, zero, suc, ◌+◌, ◌-◌, ◌<◌, ◌≤◌, nat_le, Bool, true, false, List, [], ◌∷◌, ◌++◌, length, get_or, refl, sym, ap, ◌∙◌, arith, add-one}
+use Rattle.std.specs.Bool.{if◌then◌else◌}
+use Rattle.std.specs.Prelude.{◌==◌}
+use Rattle.std.specs.List.{remove}
+use Rattle.std.proofs.lemmas.Bool.Decides.{nat_tests}
+use Rattle.std.proofs.lemmas.List.Edits.{get_or-remove_below, get_or-remove_above, length-remove, remove-append_left}
+use Rattle.sj_object.specs.Chains.{lowered, passed}
+use Rattle.sj_object.specs.Holes.{raised, raised_by, lowered_by, without, AreHoles}
+
+pub lowered_raised : (i p : ℕ) → lowered i (raised i p) ≡ p
+lowered_raised i p = grind (arith, nat_tests)
+
+pub raised_lowered : (i p : ℕ) → (p ≡ i + 1 → ⊥) → raised i (lowered i p) ≡ p
+raised_lowered i p e = grind (arith, nat_tests)
+
+raised_less : (i p r : ℕ) → p < r → raised i p < raised i r
+raised_less i p r l = grind (arith, nat_tests)
+
+raised_ge : (i p : ℕ) → p ≤ raised i p
+raised_ge i p = grind (arith, nat_tests)
+
+pub raised_le : (i p : ℕ) → raised i p ≤ suc p
+raised_le i p = grind (arith, nat_tests)
+
+pub raised_low : (i p : ℕ) → p ≤ i → raised i p ≡ p
+raised_low i p l = grind (arith, nat_tests)
+
+pub raised_high : (i p : ℕ) → i < p → raised i p ≡ suc p
+raised_high i p l = grind (arith, nat_tests)
+
+pub lowered_raised_by : (qs : List ℕ) (p : ℕ) → lowered_by qs (raised_by qs p) ≡ p
+lowered_raised_by [] p = refl
+lowered_raised_by (q ∷ qs) p = ap (lowered_by qs) (lowered_raised q (raised_by qs p)) ∙ lowered_raised_by qs p
+
+pub raised_by_less : (qs : List ℕ) (p r : ℕ) → p < r → raised_by qs p < raised_by qs r
+raised_by_less [] p r l = l
+raised_by_less (q ∷ qs) p r l = raised_less q (raised_by qs p) (raised_by qs r) (raised_by_less qs p r l)
+
+pub raised_by_ge : (qs : List ℕ) (p : ℕ) → p ≤ raised_by qs p
+raised_by_ge [] p = omega arith
+raised_by_ge (q ∷ qs) p = omega (arith, raised_by_ge qs p, raised_ge q (raised_by qs p))
+
+pub raised_by_same : (qs : List ℕ) (p r : ℕ) → raised_by qs p ≡ raised_by qs r → p ≡ r
+raised_by_same qs p r e = sym (lowered_raised_by qs p) ∙ ap (lowered_by qs) e ∙ lowered_raised_by qs r
+
+-- one more hole
+module _ (q : ℕ) where
+  pub raised_by-last : (qs : List ℕ) (p : ℕ) → raised_by (qs ++ q ∷ []) p ≡ raised_by qs (raised q p)
+  raised_by-last [] p = refl
+  raised_by-last (r ∷ qs) p = ap (raised r) (raised_by-last qs p)
+
+  pub lowered_by-last : (qs : List ℕ) (p : ℕ) → lowered_by (qs ++ q ∷ []) p ≡ lowered q (lowered_by qs p)
+  lowered_by-last [] p = refl
+  lowered_by-last (r ∷ qs) p = lowered_by-last qs (lowered r p)
+
+  pub without-last : {X : Type 0} (qs : List ℕ) (xs : List X) → without (qs ++ q ∷ []) xs ≡ remove (without qs xs) q
+  without-last [] xs = refl
+  without-last (r ∷ qs) xs = without-last qs (remove xs r)
+
+  pub AreHoles-last : (g : ℕ) (qs : List ℕ) (n : ℕ) → AreHoles g qs n → g ≤ q → q + length qs < n → AreHoles g (qs ++ q ∷ []) n
+  AreHoles-last g [] n h l w = (l, (omega (arith, w), tt))
+  AreHoles-last g (r ∷ qs) n h l w = (h.0, (h.1.0, AreHoles-last g qs (n - 1) h.1.1 l (omega (arith, w))))
+
+pub AreHoles-none : (g : ℕ) (qs : List ℕ) (n : ℕ) → length qs ≡ 0 → AreHoles g qs n
+AreHoles-none g [] n e = tt
+AreHoles-none g (q ∷ qs) n e = absurd (omega (arith, e))
+
+pub AreHoles-more : (g : ℕ) (qs : List ℕ) (n m : ℕ) → n ≤ m → AreHoles g qs n → AreHoles g qs m
+AreHoles-more g [] n m l h = tt
+AreHoles-more g (q ∷ qs) n m l h = (h.0, (omega (arith, h.1.0), AreHoles-more g qs (n - 1) (m - 1) (omega (arith, l)) h.1.1))
+
+pub AreHoles-any : (g : ℕ) (qs : List ℕ) (n : ℕ) → AreHoles g qs n → AreHoles 0 qs n
+AreHoles-any g [] n h = tt
+AreHoles-any g (q ∷ qs) n h = (omega arith, (h.1.0, AreHoles-any g qs (n - 1) h.1.1))
+
+pub length-without : {X : Type 0} (g : ℕ) (qs : List ℕ) (xs : List X) (n : ℕ) → n ≡ length xs → AreHoles g qs n → length (without qs xs) + length qs ≡ n
+length-without g [] xs n e h = omega (arith, e)
+length-without g (q ∷ qs) xs n e h =
+    let r = length-remove xs q (omega (arith, h.1.0, e)) in
+    let m = length-without g qs (remove xs q) (n - 1) (omega (arith, r, e)) h.1.1 in
+    omega (arith, m, h.1.0)
+
+pub without-append : {X : Type 0} (g : ℕ) (qs : List ℕ) (xs ys : List X) (n : ℕ) → n ≡ length xs → AreHoles g qs n → without qs (xs ++ ys) ≡ without qs xs ++ ys
+without-append g [] xs ys n e h = refl
+without-append g (q ∷ qs) xs ys n e h =
+    let l : q < length xs = omega (arith, h.1.0, e) in
+    ap (without qs) (remove-append_left xs ys q l) ∙ without-append g qs (remove xs q) ys (n - 1) (omega (arith, length-remove xs q l, e)) h.1.1
+
+-- a place of a member that is there has it
+pub get_or-without : {X : Type 0} (g : ℕ) (qs : List ℕ) (xs : List X) (n : ℕ) (d : X) (i s : ℕ) → n ≡ length xs → AreHoles g qs n → suc s ≡ raised_by qs (suc i) → get_or (without qs xs) i d ≡ get_or xs s d
+get_or-without g [] xs n d i s e h z = let y : s ≡ i = omega (arith, z) in ap (λ k. get_or xs k d) (sym y)
+get_or-without {X} g (q ∷ qs) xs n d i s e h z = by_place (raised_by qs (suc i)) refl (λ j. get_or-without g qs (remove xs q) (n - 1) d i j less h.1.1) where
+  l : q < length xs
+  l = omega (arith, h.1.0, e)
+
+  less : n - 1 ≡ length (remove xs q)
+  less = omega (arith, length-remove xs q l, e)
+
+  by_test : (j : ℕ) (c : Bool) → nat_le (suc j) q ≡ c → suc j ≡ raised_by qs (suc i) → suc s ≡ (if c then suc j else suc (suc j)) → get_or (remove xs q) j d ≡ get_or xs s d
+  by_test j true t y z = let w : j < q = grind (arith, nat_tests) in let k : s ≡ j = omega (arith, z) in get_or-remove_below xs q d j w l ∙ ap (λ m. get_or xs m d) (sym k)
+  by_test j false t y z = let w : q ≤ j = grind (arith, nat_tests) in let k : s ≡ j + 1 = omega (arith, z) in get_or-remove_above xs q d j w l ∙ ap (λ m. get_or xs m d) (sym k)
+
+  by_place : (r : ℕ) → raised_by qs (suc i) ≡ r → ((j : ℕ) → suc j ≡ raised_by qs (suc i) → get_or (without qs (remove xs q)) i d ≡ get_or (remove xs q) j d) → get_or (without qs (remove xs q)) i d ≡ get_or xs s d
+  by_place zero y more = absurd (omega (arith, y, raised_by_ge qs (suc i)))
+  by_place (suc j) y more =
+      more j (sym y)
+      ∙ by_test j (nat_le (suc j) q) refl (sym y) (z ∙ ap (raised q) y)
+
+-- behind the last member there is no hole
+pub raised_by-past : (g : ℕ) (qs : List ℕ) (n m : ℕ) → AreHoles g qs n → m + length qs ≡ n → raised_by qs (suc m) ≡ suc n
+raised_by-past g [] n m h e = omega (arith, e)
+raised_by-past g (q ∷ qs) n m h e =
+    let y : raised_by qs (suc m) ≡ suc (n - 1) = raised_by-past g qs (n - 1) m h.1.1 (omega (arith, e)) in
+    let l : q < suc (n - 1) = omega (arith, h.1.0) in
+    let z : suc (suc (n - 1)) ≡ suc n = omega (arith, h.1.0) in
+    ap (raised q) y ∙ raised_high q (suc (n - 1)) l ∙ z
+
+pub raised_by-within : (g : ℕ) (qs : List ℕ) (n m p : ℕ) → AreHoles g qs n → m + length qs ≡ n → p ≤ m → raised_by qs p ≤ n
+raised_by-within g qs n m p h e l = omega (arith, raised_by_less qs p (suc m) (omega (arith, l)), raised_by-past g qs n m h e)
+
+-- nor is there one among the first
+pub raised_by-first : (g : ℕ) (qs : List ℕ) (n p : ℕ) → AreHoles g qs n → p ≤ g → raised_by qs p ≡ p
+raised_by-first g [] n p h l = refl
+raised_by-first g (q ∷ qs) n p h l = ap (raised q) (raised_by-first g qs (n - 1) p h.1.1 l) ∙ raised_low q p (omega (arith, h.0, l))
+
+-- what goes to the member at a place goes on to its link
+pub passed_raised : (qs : List ℕ) (q s a p : ℕ) → suc s ≡ raised_by qs (suc q) → passed s (raised_by qs a) (raised_by qs p) ≡ raised_by qs (passed q a p)
+passed_raised qs q s a p e = by_test (p == q + 1) (raised_by qs p == s + 1) refl refl where
+  by_test : (c d : Bool) → (p == q + 1) ≡ c → (raised_by qs p == s + 1) ≡ d → (if d then raised_by qs a else raised_by qs p) ≡ raised_by qs (if c then a else p)
+  by_test true true t u = refl
+  by_test false false t u = refl
+  by_test true false t u =
+      let y : p ≡ suc q = grind (arith, nat_tests) in
+      let z : raised_by qs p ≡ s + 1 = ap (raised_by qs) y ∙ sym e ∙ sym (add-one s) in
+      absurd (grind (arith, nat_tests))
+  by_test false true t u =
+      let z : raised_by qs p ≡ s + 1 = grind (arith, nat_tests) in
+      let y : p ≡ suc q = raised_by_same qs p (suc q) (z ∙ add-one s ∙ e) in
+      absurd (grind (arith, nat_tests))
