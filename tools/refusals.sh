@@ -98,6 +98,7 @@ for call in insert insert_hashed get_or_insert; do
 done
 for members in 33 64 66; do
   free "queue $members" $'call: replaced\n'
+  free "thin $members" $'call: thinned\n'
 done
 for members in 0 32 64; do
   after="$((members + 1)) members"$'\n'

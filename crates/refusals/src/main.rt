@@ -92,6 +92,7 @@ fn run_maps(rt: &(impl Print + AllocGlobal), words: &[String]) -> Result<(), Fau
         "insert" => maps::insert(rt, second, third),
         "present" => maps::insert_present(rt, second, third),
         "queue" => maps::replace_first(rt, second),
+        "thin" => maps::thin(rt, second),
         "member" => members::insert_member(rt, second, third),
         "member_present" => members::insert_present(rt, second, third),
         "capacity" => maps::with_capacity(rt),

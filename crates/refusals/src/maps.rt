@@ -256,6 +256,37 @@ pub fn replace_first(rt: &(impl Print + AllocGlobal), members: &str) -> Result<(
     )
 }
 
+/// What leaves in the middle, one more than are kept until the index is made anew.
+const MIDDLE: [&str; 9] = [
+    "k10", "k11", "k12", "k13", "k14", "k15", "k16", "k17", "k18",
+];
+
+/// Takes nine of so many members out of the middle, and then two at the end.
+pub fn thin(rt: &(impl Print + AllocGlobal), members: &str) -> Result<(), Fault> {
+    let alloc = rt.alloc();
+    let Ok(members) = members.parse::<u8>() else {
+        return Err(Fault::Usage);
+    };
+    let mut map = numbered(alloc, u64::from(members))?;
+    say_call(rt)?;
+    let mut left = 0usize;
+    for name in MIDDLE {
+        if map.remove(name).is_some() {
+            left = left.saturating_add(1);
+        }
+    }
+    let are_last = map.pop().is_some() && map.pop().is_some();
+    let is_done = left == 9 && are_last && map.len().saturating_add(11) == usize::from(members);
+    say(
+        rt,
+        if is_done {
+            "thinned\n"
+        } else {
+            "NOT THINNED\n"
+        },
+    )
+}
+
 /// Tells how many members the map has, if they are as they should be.
 fn tell_map(
     rt: &(impl Print + AllocGlobal),

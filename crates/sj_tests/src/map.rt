@@ -1,6 +1,7 @@
 ghost use Rattle.std.specs.Prelude.{◌≡◌, ◌<◌};
 
 mod hashed;
+mod holes;
 mod ring;
 
 use sj_object::*;

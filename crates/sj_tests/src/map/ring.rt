@@ -8,14 +8,14 @@ use std::test::Fail;
 
 /// A map, and the numbers of its members as a plain list.
 #[derive(Drop)]
-struct Beside<S: KeyHasher> {
-    map: HashMap<String, u64, S>,
-    list: Vec<u64>,
+pub(super) struct Beside<S: KeyHasher> {
+    pub(super) map: HashMap<String, u64, S>,
+    pub(super) list: Vec<u64>,
 }
 
 impl<S: KeyHasher + Drop> Beside<S> {
     /// The members `k00`, `k01` and so on.
-    fn new(alloc: Global, members: u64, hasher: S) -> Result<Self, Fail> {
+    pub(super) fn new(alloc: Global, members: u64, hasher: S) -> Result<Self, Fail> {
         let mut list = Vec::new(alloc);
         for number in 0..members {
             list.push(number)?;
@@ -27,7 +27,7 @@ impl<S: KeyHasher + Drop> Beside<S> {
     }
 
     /// Takes the member at a position out; whether it was there.
-    fn remove(&mut self, alloc: Global, position: usize) -> Result<bool, Fail> {
+    pub(super) fn remove(&mut self, alloc: Global, position: usize) -> Result<bool, Fail> {
         if position >= self.list.len() {
             return Ok(false);
         }
@@ -37,7 +37,7 @@ impl<S: KeyHasher + Drop> Beside<S> {
     }
 
     /// Puts a member last.
-    fn push(&mut self, alloc: Global, number: u64) -> Result<(), Fail> {
+    pub(super) fn push(&mut self, alloc: Global, number: u64) -> Result<(), Fail> {
         self.list.push(number)?;
         let key = format!(in alloc; "k{number:02}")?;
         self.map.insert(key, number)?;
@@ -45,7 +45,7 @@ impl<S: KeyHasher + Drop> Beside<S> {
     }
 
     /// How many members are where the list has them, found by their keys, in the order of the list.
-    fn agreeing(&self, alloc: Global) -> Result<usize, Fail> {
+    pub(super) fn agreeing(&self, alloc: Global) -> Result<usize, Fail> {
         let mut agreeing = 0usize;
         let mut members = self.map.iter();
         for (position, number) in self.list.iter().enumerate() {
