@@ -8,12 +8,12 @@ use Rattle.sj_object.specs.declared.map.index.Table.{Table}
 use Rattle.sj_object.specs.Holes.{without, AreHoles, IsChained}
 
 -- the hashes of the members that are there, and of those in front that left at the front
-abbrev pub kept : Table → List ℕ
-kept t = without t.holes.items t.hashes.items
+abbrev pub hashes_beside : Table → List ℕ
+hashes_beside t = without t.holes.items t.hashes.items
 
 -- the hashes of the members that are there
 abbrev pub hashes_in : Table → List ℕ
-hashes_in t = drop t.gone (kept t)
+hashes_in t = drop t.gone (hashes_beside t)
 
 -- the members whose hashes t keeps stand in their chains, those that left at the front too. There is room for a quarter more than there are buckets
 pub record IsTable (t : Table) : Type 0 where
@@ -21,7 +21,7 @@ pub record IsTable (t : Table) : Type 0 where
   pub some : 64 ≤ length t.heads.items
   pub most : (length t.holes.items ≤ 8) × (8 ≤ vec_capacity t.holes)
   pub holes : AreHoles t.gone t.holes.items (length t.hashes.items)
-  pub gone : t.gone ≤ length (kept t)
+  pub gone : t.gone ≤ length (hashes_beside t)
   pub few : t.gone + length t.holes.items ≤ length t.heads.items / 4
   pub space : (length t.heads.items + length t.heads.items / 4 ≤ vec_capacity t.hashes) × (length t.heads.items + length t.heads.items / 4 ≤ vec_capacity t.links)
   pub room : length (hashes_in t) ≤ 2 ^ t.bits

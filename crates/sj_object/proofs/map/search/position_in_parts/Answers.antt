@@ -5,13 +5,13 @@ use Rattle.std.proofs.lemmas.Nat.{pow_pos}
 use Rattle.sj_text_core.specs.Keep.{is_seen}
 use Rattle.sj_object.specs.Entries.{texts, entries_of}
 use Rattle.sj_object.specs.Steps.{walk}
-use Rattle.sj_object.specs.Index.{kept, hashes_in, IsTable}
+use Rattle.sj_object.specs.Index.{hashes_beside, hashes_in, IsTable}
 use Rattle.sj_object.specs.declared.map.index.Table.{Table}
 use Rattle.sj_object.specs.Chains.{last_below}
 use Rattle.sj_object.specs.Holes.{raised_by, lowered_by}
 use Rattle.sj_object.proofs.Chains.{last_le, last_dropped}
 use Rattle.sj_object.proofs.Holes.{lowered_raised_by, raised_by_ge, raised_by_less, raised_by-first, raised_by-within, get_or-without}
-use Rattle.sj_object.proofs.Tables.{length-kept}
+use Rattle.sj_object.proofs.Tables.{length-beside}
 use Rattle.sj_object.proofs.Walked.{count, at_start, at_next, at_member}
 use Rattle.sj_object.proofs.Position.{found_at, absent_at}
 use Rattle.sj_object.proofs.Hashed.{agrees, text_at, texts-length, walk_found, walk_absent}
@@ -29,17 +29,17 @@ module _ (T : Table) (q : IsTable T) where
   abbrev Is : ℕ → Type 0
   Is p = (p ≤ length T.hashes.items) × (p ≡ raised_by T.holes.items (low p))
 
-  is_there : (p m : ℕ) → p ≡ raised_by T.holes.items m → m ≤ length (kept T) → Is p × (low p ≡ m)
+  is_there : (p m : ℕ) → p ≡ raised_by T.holes.items m → m ≤ length (hashes_beside T) → Is p × (low p ≡ m)
   is_there p m e l =
       let s : low p ≡ m = ap low e ∙ lowered_raised_by T.holes.items m in
-      ((omega (arith, e, raised_by-within T.gone T.holes.items (length T.hashes.items) (length (kept T)) m q.holes (length-kept T q) l), e ∙ ap (raised_by T.holes.items) (sym s)), s)
+      ((omega (arith, e, raised_by-within T.gone T.holes.items (length T.hashes.items) (length (hashes_beside T)) m q.holes (length-beside T q) l), e ∙ ap (raised_by T.holes.items) (sym s)), s)
 
   begins : (b h : ℕ) → b < n → h ≡ get_or T.heads.items b h → Is h × (low h - T.gone ≡ last_below n b (hashes_in T) (length (hashes_in T)))
   begins b h l e =
-      let m = last_below n b (kept T) (length (kept T)) in
-      let s = is_there h m (e ∙ get_or_default T.heads.items b h 0 (omega (arith, l, q.linked.count)) ∙ q.linked.starts b l) (last_le n b (kept T) (length (kept T))) in
-      let whole : length (kept T) ≡ T.gone + length (hashes_in T) = omega (arith, length-drop T.gone (kept T), q.gone) in
-      (s.0, ap (λ p. p - T.gone) (s.1 ∙ ap (last_below n b (kept T)) whole) ∙ sym (last_dropped n (kept T) T.gone b (length (hashes_in T))))
+      let m = last_below n b (hashes_beside T) (length (hashes_beside T)) in
+      let s = is_there h m (e ∙ get_or_default T.heads.items b h 0 (omega (arith, l, q.linked.count)) ∙ q.linked.starts b l) (last_le n b (hashes_beside T) (length (hashes_beside T))) in
+      let whole : length (hashes_beside T) ≡ T.gone + length (hashes_in T) = omega (arith, length-drop T.gone (hashes_beside T), q.gone) in
+      (s.0, ap (λ p. p - T.gone) (s.1 ∙ ap (last_below n b (hashes_beside T)) whole) ∙ sym (last_dropped n (hashes_beside T) T.gone b (length (hashes_in T))))
 
   -- a place behind those that left at the front
   at : (p : ℕ) → Is p → T.gone < p → T.gone < low p
@@ -54,8 +54,8 @@ module _ (T : Table) (q : IsTable T) where
   past p s l = omega (arith, s.1, l, raised_by_ge T.holes.items (low p))
 
   module _ (p i : ℕ) (s : Is p) (e : low p ≡ suc (T.gone + i)) (l : i < length (hashes_in T)) where
-    within : T.gone + i < length (kept T)
-    within = omega (arith, l, length-drop T.gone (kept T))
+    within : T.gone + i < length (hashes_beside T)
+    within = omega (arith, l, length-drop T.gone (hashes_beside T))
 
     raises : suc (p - 1) ≡ raised_by T.holes.items (suc (T.gone + i))
     raises = omega (arith, s.1, ap (raised_by T.holes.items) e, raised_by_ge T.holes.items (suc (T.gone + i)))
@@ -66,14 +66,14 @@ module _ (T : Table) (q : IsTable T) where
     goes_on : (x : ℕ) → x ≡ get_or T.links.items (p - 1) x → Is x × ((low x - T.gone ≡ last_below n (get_or (hashes_in T) i 0 % n) (hashes_in T) i) × (x < p))
     goes_on x f =
         let w : p - 1 < length T.links.items = omega (arith, some, s.0, q.linked.size) in
-        let b = get_or (kept T) (T.gone + i) 0 % n in
-        let m = last_below n b (kept T) (T.gone + i) in
+        let b = get_or (hashes_beside T) (T.gone + i) 0 % n in
+        let m = last_below n b (hashes_beside T) (T.gone + i) in
         let h : x ≡ raised_by T.holes.items m = f ∙ get_or_default T.links.items (p - 1) x 0 w ∙ q.linked.nexts (T.gone + i) (p - 1) within raises in
-        let le = last_le n b (kept T) (T.gone + i) in
+        let le = last_le n b (hashes_beside T) (T.gone + i) in
         let r = is_there x m h (omega (arith, le, within)) in (
           r.0,
           (
-            ap (λ j. j - T.gone) r.1 ∙ sym (last_dropped n (kept T) T.gone b i) ∙ ap (λ z. last_below n (z % n) (hashes_in T) i) (sym (get_or-drop T.gone (kept T) i 0)),
+            ap (λ j. j - T.gone) r.1 ∙ sym (last_dropped n (hashes_beside T) T.gone b i) ∙ ap (λ z. last_below n (z % n) (hashes_in T) i) (sym (get_or-drop T.gone (hashes_beside T) i 0)),
             omega (arith, h, some, raises, raised_by_less T.holes.items m (suc (T.gone + i)) (omega (arith, le))),
           ),
         )
@@ -81,7 +81,7 @@ module _ (T : Table) (q : IsTable T) where
     hash_there : (h : ℕ) → h ≡ get_or T.hashes.items (p - 1) h → h ≡ get_or (hashes_in T) i 0
     hash_there h f =
         let w : p - 1 < length T.hashes.items = omega (arith, some, s.0) in
-        f ∙ get_or_default T.hashes.items (p - 1) h 0 w ∙ sym (get_or-without T.gone T.holes.items T.hashes.items (length T.hashes.items) 0 (T.gone + i) (p - 1) refl q.holes raises) ∙ sym (get_or-drop T.gone (kept T) i 0)
+        f ∙ get_or_default T.hashes.items (p - 1) h 0 w ∙ sym (get_or-without T.gone T.holes.items T.hashes.items (length T.hashes.items) 0 (T.gone + i) (p - 1) refl q.holes raises) ∙ sym (get_or-drop T.gone (hashes_beside T) i 0)
 
 pub loop-place-init : goal.loop-place-init
 loop-place-init g c =

@@ -4,7 +4,7 @@ use Rattle.std.proofs.lemmas.List.{length-drop, length-take-le, take_all}
 use Rattle.std.proofs.lemmas.List.Edits.{take-paste}
 use Rattle.sj_object.specs.Holes.{AreHoles, without}
 use Rattle.sj_object.proofs.Holes.{AreHoles-any}
-use Rattle.sj_object.proofs.Tables.{length-kept}
+use Rattle.sj_object.proofs.Tables.{length-beside}
 use Rattle.sj_object.proofs.map.index.Table.forget.Goals as goal
 
 -- what is left of a list once its end is copied to its front, and what stands behind that is cut off
@@ -22,7 +22,7 @@ close-requires c =
 pub returns-clause-links : goal.returns-clause-links
 returns-clause-links c =
     let t = c.args.self.now in
-    let v = length-kept t c.requires in
+    let v = length-beside t c.requires in
     let x : c.close.new.hashes.items ≡ without t.holes.items t.hashes.items = c.close.ensures.hashes ∙ ap (λ qs. without qs t.hashes.items) c.deref.ensures.value in
     let m : ℕ = c.len.result - t.gone in
     let y : m ≤ length t.links.items = omega (arith, c.len.ensures, c.close.new.hashes.ok.0, ap length x, v, c.requires.linked.size) in

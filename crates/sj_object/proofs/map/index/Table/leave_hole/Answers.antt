@@ -2,11 +2,11 @@ use Rattle.std.proofs.Common.{◌≡◌, ◌+◌, ◌<◌, ◌^◌, ◌++◌, �
 use Rattle.std.specs.List.{remove}
 use Rattle.std.proofs.lemmas.List.{length-drop, length_push}
 use Rattle.std.proofs.lemmas.List.Edits.{length-remove}
-use Rattle.sj_object.specs.Index.{kept}
+use Rattle.sj_object.specs.Index.{hashes_beside}
 use Rattle.sj_object.specs.Holes.{AreHoles, without, IsChained}
 use Rattle.sj_object.proofs.Chains.{drop-remove, refilled}
 use Rattle.sj_object.proofs.Holes.{AreHoles-any, AreHoles-last, without-last}
-use Rattle.sj_object.proofs.Tables.{length-kept}
+use Rattle.sj_object.proofs.Tables.{length-beside}
 use Rattle.sj_object.proofs.map.index.Table.leave_hole.Goals as goal
 
 pub pass_over-requires-clause-holes : goal.pass_over-requires-clause-holes
@@ -18,18 +18,18 @@ pub returns-clause-hashes : goal.returns-clause-hashes
 returns-clause-hashes c =
     let t = c.args.self.now in
     let q = t.gone + c.args.position in
-    ap (λ qs. drop t.gone (without qs t.hashes.items)) c.push_reserved.ensures.items ∙ ap (drop t.gone) (without-last q t.holes.items t.hashes.items) ∙ drop-remove (kept t) t.gone c.args.position c.requires.table.gone
+    ap (λ qs. drop t.gone (without qs t.hashes.items)) c.push_reserved.ensures.items ∙ ap (drop t.gone) (without-last q t.holes.items t.hashes.items) ∙ drop-remove (hashes_beside t) t.gone c.args.position c.requires.table.gone
 
 pub returns-clause-table : goal.returns-clause-table
 returns-clause-table c =
     let t = c.args.self.now in
     let h = c.requires.table in
     let q = t.gone + c.args.position in
-    let v = length-kept t h in
-    let w : q < length (kept t) = omega (arith, c.requires.within, length-drop t.gone (kept t), h.gone) in
+    let v = length-beside t h in
+    let w : q < length (hashes_beside t) = omega (arith, c.requires.within, length-drop t.gone (hashes_beside t), h.gone) in
     let e : c.push_reserved.new.self.items ≡ t.holes.items ++ q ∷ [] = c.push_reserved.ensures.items in
-    let k : without c.push_reserved.new.self.items t.hashes.items ≡ remove (kept t) q = ap (λ qs. without qs t.hashes.items) e ∙ without-last q t.holes.items t.hashes.items in
-    let z : length (remove (kept t) q) + 1 ≡ length (kept t) = length-remove (kept t) q w in
+    let k : without c.push_reserved.new.self.items t.hashes.items ≡ remove (hashes_beside t) q = ap (λ qs. without qs t.hashes.items) e ∙ without-last q t.holes.items t.hashes.items in
+    let z : length (remove (hashes_beside t) q) + 1 ≡ length (hashes_beside t) = length-remove (hashes_beside t) q w in
     let ls = c.pass_over.new.links in
     let hs = c.pass_over.new.heads in
     let x = refilled t.links.len ls t.links.items (omega (arith, c.pass_over.auto.links, c.deref_mut.ensures.len)) in
@@ -43,6 +43,6 @@ returns-clause-table c =
       gone = omega (arith, ap length k, z, w);
       few = omega (arith, c.requires.few, ap length e, length_push t.holes.items q, u, ap length y);
       space = (omega (arith, h.space.0, u, ap length y), omega (arith, h.space.1, u, ap length y));
-      room = omega (arith, h.room, ap (λ xs. length (drop t.gone xs)) k, length-drop t.gone (remove (kept t) q), length-drop t.gone (kept t), z);
+      room = omega (arith, h.room, ap (λ xs. length (drop t.gone xs)) k, length-drop t.gone (remove (hashes_beside t) q), length-drop t.gone (hashes_beside t), z);
       linked = subst (λ (p : List ℕ × (List ℕ × (List ℕ × List ℕ))). IsChained (2 ^ t.bits) p.0 p.1.0 p.1.1.0 p.1.1.1) (λ j. ((ap (λ qs. qs ++ q ∷ []) c.deref.ensures.value ∙ sym e) j, (c.deref-2.ensures.value j, (sym x j, sym y j)))) c.pass_over.ensures;
     }

@@ -1,7 +1,7 @@
 use Rattle.std.proofs.Common.{◌≡◌, ◌^◌, ◌%◌, ◌<◌, ◌≤◌, ◌+◌, ◌++◌, ◌∷◌, [], List, ℕ, Some, length, drop, get_or, set, arith, refl, sym, ap, ◌∙◌, subst}
 use Rattle.std.proofs.lemmas.List.{drop-append-le, get_or_default, length-set, length_push}
 use Rattle.std.proofs.lemmas.Nat.{pow_pos}
-use Rattle.sj_object.specs.Index.{kept, hashes_in}
+use Rattle.sj_object.specs.Index.{hashes_beside, hashes_in}
 use Rattle.sj_object.specs.Holes.{without, IsChained}
 use Rattle.sj_object.proofs.Holes.{AreHoles-more, without-append}
 use Rattle.sj_object.proofs.Chained.{IsChained-push}
@@ -25,7 +25,7 @@ returns-clause-hashes c =
     let h = c.args.hash in
     ap (λ xs. drop t.gone (without t.holes.items xs)) c.push_reserved-2.ensures.items
     ∙ ap (drop t.gone) (without-append t.gone t.holes.items t.hashes.items (h ∷ []) (length t.hashes.items) refl c.requires.holes)
-    ∙ drop-append-le t.gone (kept t) (h ∷ []) c.requires.gone
+    ∙ drop-append-le t.gone (hashes_beside t) (h ∷ []) c.requires.gone
 
 pub returns-clause-buckets : goal.returns-clause-buckets
 returns-clause-buckets c =
@@ -51,13 +51,13 @@ returns-clause-table c =
     let m : c.len-3.result ≡ length t.hashes.items + 1 = omega (arith, c.len-3.ensures, c.push_reserved-2.new.self.ok.0, ap length hs, length_push t.hashes.items h) in
     let es : set t.heads.items c.bucket_of-bucket.result c.len-3.result ≡ set t.heads.items (h % n) (length t.hashes.items + 1) = λ j. set t.heads.items (b j) (m j) in
     let z : length (set t.heads.items c.bucket_of-bucket.result c.len-3.result) ≡ length t.heads.items = length-set t.heads.items c.bucket_of-bucket.result c.len-3.result in
-    let k : without t.holes.items c.push_reserved-2.new.self.items ≡ kept t ++ h ∷ [] = ap (without t.holes.items) hs ∙ without-append t.gone t.holes.items t.hashes.items (h ∷ []) (length t.hashes.items) refl v.holes in
+    let k : without t.holes.items c.push_reserved-2.new.self.items ≡ hashes_beside t ++ h ∷ [] = ap (without t.holes.items) hs ∙ without-append t.gone t.holes.items t.hashes.items (h ∷ []) (length t.hashes.items) refl v.holes in
     record {
       bits = v.bits;
       some = omega (arith, v.some, z);
       most = v.most;
       holes = AreHoles-more t.gone t.holes.items (length t.hashes.items) (length c.push_reserved-2.new.self.items) (omega (arith, ap length hs, length_push t.hashes.items h)) v.holes;
-      gone = omega (arith, ap length k, length_push (kept t) h, v.gone);
+      gone = omega (arith, ap length k, length_push (hashes_beside t) h, v.gone);
       few = omega (arith, v.few, z);
       space = (omega (arith, v.space.0, z, c.push_reserved-2.ensures.capacity), omega (arith, v.space.1, z, c.push_reserved.ensures.capacity));
       room = omega (arith, ap length (returns-clause-hashes c), length_push (hashes_in t) h, c.if-len.false, c.len.ensures, c.len-2.ensures, t.heads.ok.0, v.room, v.linked.count);

@@ -1,7 +1,7 @@
 use Rattle.std.proofs.Common.{◌≡◌, ◌+◌, ◌-◌, ◌%◌, ◌<◌, ◌^◌, [], List, ℕ, length, take, drop, get_or, set, arith, sym, ap, ◌∙◌, subst}
 use Rattle.std.proofs.lemmas.List.{get_or_default, length-take-le, length-drop, length-set}
 use Rattle.std.proofs.lemmas.Nat.{pow_pos}
-use Rattle.sj_object.specs.Index.{kept}
+use Rattle.sj_object.specs.Index.{hashes_beside}
 use Rattle.sj_object.specs.Holes.{without, IsChained}
 use Rattle.sj_object.proofs.Chains.{IsLinked-pop, drop-pop}
 use Rattle.sj_object.proofs.Chained.{IsChained-linked, IsLinked-chained}
@@ -13,8 +13,8 @@ returns-clause-hashes c =
     let t = c.args.self.now in
     let hs = t.hashes.items in
     let e : t.holes.items ≡ [] = c.requires.none in
-    let k : kept t ≡ hs = ap (λ qs. without qs hs) e in
-    let l : t.gone < length hs = omega (arith, c.requires.within, length-drop t.gone (kept t), ap length k) in
+    let k : hashes_beside t ≡ hs = ap (λ qs. without qs hs) e in
+    let l : t.gone < length hs = omega (arith, c.requires.within, length-drop t.gone (hashes_beside t), ap length k) in
     let m : c.len-last.result - 1 ≡ length hs - 1 = omega (arith, c.len-last.ensures, t.hashes.ok.0) in
     ap (λ qs. drop t.gone (without qs c.truncate.new.self.items)) e
     ∙ ap (drop t.gone) (c.truncate.ensures.items ∙ ap (λ n. take n hs) m) ∙ drop-pop hs t.gone l
@@ -28,9 +28,9 @@ returns-clause-table c =
     let n : ℕ = 2 ^ t.bits in
     let o : t.holes.items ≡ [] = c.requires.none in
     let z : length t.holes.items ≡ 0 = ap length o in
-    let k : kept t ≡ hs = ap (λ qs. without qs hs) o in
+    let k : hashes_beside t ≡ hs = ap (λ qs. without qs hs) o in
     let q = IsLinked-chained n t.holes.items hs t.links.items t.heads.items o v.linked in
-    let w : t.gone < length hs = omega (arith, c.requires.within, length-drop t.gone (kept t), ap length k) in
+    let w : t.gone < length hs = omega (arith, c.requires.within, length-drop t.gone (hashes_beside t), ap length k) in
     let m : ℕ = c.len-last.result - 1 in
     let e : m + 1 ≡ length hs = omega (arith, c.len-last.ensures, t.hashes.ok.0, w) in
     let s : m < length t.links.items = omega (arith, e, q.size) in
