@@ -1,10 +1,11 @@
 -- The chains of a table beside its holes: what one more member, or one less, does to them.
-use Rattle.std.proofs.Common.{◌≡◌, ◌≢◌, ℕ, suc, ◌+◌, ◌<◌, ◌≤◌, ◌%◌, nat_le, Bool, true, false, List, [], ◌∷◌, ◌++◌, length, get_or, set, refl, sym, ap, ◌∙◌, arith, add-one, get_or-set_same, get_or-set_other, subst}
+use Rattle.std.proofs.Common.{◌≡◌, ◌≢◌, ℕ, suc, ◌+◌, ◌<◌, ◌≤◌, ◌%◌, nat_le, Bool, true, false, List, [], ◌∷◌, ◌++◌, length, get_or, set, take, append-nil, refl, sym, ap, ◌∙◌, arith, add-one, get_or-set_same, get_or-set_other, subst}
 use Rattle.std.specs.Bool.{if◌then◌else◌}
 use Rattle.std.specs.Prelude.{◌==◌}
 use Rattle.std.specs.List.{remove}
 use Rattle.std.proofs.lemmas.Bool.Decides.{nat_tests}
-use Rattle.std.proofs.lemmas.List.{length-set, length_push, get_or_append_left, get_or_push}
+use Rattle.std.proofs.lemmas.List.{length-set, length_push, get_or_append_left, get_or_push, length-take-le, get_or-take, take_all, drop_all}
+use Rattle.std.proofs.Math.Seq.{take-suc}
 use Rattle.std.proofs.lemmas.List.Edits.{get_or-remove_below, get_or-remove_above, length-remove}
 use Rattle.sj_object.specs.Chains.{is_in, last_below, IsLinked, passed, lowered}
 use Rattle.sj_object.specs.Holes.{raised, raised_by, without, AreHoles, IsChained}
@@ -227,3 +228,98 @@ module _ (n g : ℕ) (qs hs links heads : List ℕ) (q s : ℕ) (a : AreHoles g 
 -- without holes the chains are of all members
 pub IsLinked-chained : (n : ℕ) (qs hs links heads : List ℕ) → qs ≡ [] → IsChained n qs hs links heads → IsLinked n hs links heads (length hs)
 IsLinked-chained n qs hs links heads e k = let h = subst (λ rs. IsChained n rs hs links heads) e k in record { count = h.count; size = h.size; starts = h.starts; nexts = λ i l. h.nexts i i l refl }
+
+-- the same chains by other holes, which raise each place alike and leave the same members
+pub IsChained-same : (n : ℕ) (qs rs hs links heads : List ℕ) → ((p : ℕ) → raised_by rs p ≡ raised_by qs p) → without rs hs ≡ without qs hs → IsChained n qs hs links heads → IsChained n rs hs links heads
+IsChained-same n qs rs hs links heads e w k = record {
+  count = k.count;
+  size = k.size;
+  starts = λ b l. k.starts b l ∙ ap (λ zs. raised_by qs (last_below n b zs (length zs))) (sym w) ∙ sym (e (last_below n b (without rs hs) (length (without rs hs))));
+  nexts = λ i s l z.
+      k.nexts i s (omega (arith, l, ap length w)) (z ∙ e (suc i))
+      ∙ ap (λ zs. raised_by qs (last_below n (get_or zs i 0 % n) zs i)) (sym w) ∙ sym (e (last_below n (get_or (without rs hs) i 0 % n) (without rs hs) i));
+}
+
+-- a hole that stands last is cut off
+module _ (n g q : ℕ) (qs hs links heads : List ℕ) (a : AreHoles g (q ∷ qs) (length hs)) (e : q + 1 ≡ length hs) (k : IsChained n (q ∷ qs) hs links heads) where
+  pub remove-end : remove hs q ≡ take q hs
+  remove-end = ap (λ ys. take q hs ++ ys) (drop_all (suc q) hs (omega (arith, e))) ∙ append-nil (take q hs)
+
+  abbrev es : List ℕ
+  es = without qs (take q hs)
+
+  cut_length : q ≡ length (take q hs)
+  cut_length = sym (length-take-le q hs (omega (arith, e)))
+
+  cut_whole : length es + length qs ≡ q
+  cut_whole = Holes.length-without g qs (take q hs) q cut_length a.1.1
+
+  low : (p : ℕ) → p ≤ length es → raised q (raised_by qs p) ≡ raised_by qs p
+  low p l = Holes.raised_low q (raised_by qs p) (Holes.raised_by-within g qs q (length es) p a.1.1 cut_whole l)
+
+  pub IsChained-cut : IsChained n qs (take q hs) (take q links) heads
+  IsChained-cut = record {
+    count = k.count;
+    size = length-take-le q links (omega (arith, e, k.size)) ∙ cut_length;
+    starts = λ b l. k.starts b l ∙ ap (λ zs. raised q (raised_by qs (last_below n b (without qs zs) (length (without qs zs))))) remove-end ∙ low (last_below n b es (length es)) (last_le n b es (length es));
+    nexts = λ i s l z.
+        let y : suc s ≡ raised q (raised_by qs (suc i)) = z ∙ sym (low (suc i) (omega (arith, l))) in
+        let v : s < q = omega (arith, z, Holes.raised_by-within g qs q (length es) (suc i) a.1.1 cut_whole (omega (arith, l))) in
+        let w : i < length (without qs (remove hs q)) = omega (arith, l, ap (λ zs. length (without qs zs)) remove-end) in
+        get_or-take q links s 0 v ∙ k.nexts i s w y ∙ ap (λ zs. raised q (raised_by qs (last_below n (get_or (without qs zs) i 0 % n) (without qs zs) i))) remove-end
+        ∙ low (last_below n (get_or es i 0 % n) es i) (omega (arith, l, last_le n (get_or es i 0 % n) es i));
+  }
+
+-- the last member is gone, behind which there is no hole: it was the head of its chain
+module _ (n g m : ℕ) (qs hs links heads : List ℕ) (p : 0 < n) (e : m + 1 ≡ length hs) (a : AreHoles g qs m) (k : IsChained n qs hs links heads) where
+  abbrev ps : List ℕ
+  ps = without qs (take m hs)
+
+  abbrev last : ℕ
+  last = get_or hs m 0
+
+  taken : m ≡ length (take m hs)
+  taken = sym (length-take-le m hs (omega (arith, e)))
+
+  whole_taken : hs ≡ take m hs ++ last ∷ []
+  whole_taken = sym (take_all (suc m) hs (omega (arith, e))) ∙ take-suc hs m 0 (omega (arith, e))
+
+  pub without-pop : without qs hs ≡ ps ++ last ∷ []
+  without-pop = ap (without qs) whole_taken ∙ Holes.without-append g qs (take m hs) (last ∷ []) m taken a
+
+  pop_whole : length ps + length qs ≡ m
+  pop_whole = Holes.length-without g qs (take m hs) m taken a
+
+  pub length-pop : length (without qs hs) ≡ length ps + 1
+  length-pop = ap length without-pop ∙ length_push ps last
+
+  pop_starts : (b : ℕ) → b < n → get_or (set heads (last % n) (get_or links m 0)) b 0 ≡ raised_by qs (last_below n b ps (length ps))
+  pop_starts b l = by_test (is_in n b last) refl where
+    by_test : (c : Bool) → is_in n b last ≡ c → get_or (set heads (last % n) (get_or links m 0)) b 0 ≡ raised_by qs (last_below n b ps (length ps))
+    by_test true t =
+        let d : last % n ≡ b = grind (arith, nat_tests) in
+        let w : b < length heads = omega (arith, l, k.count) in
+        let at : suc m ≡ raised_by qs (suc (length ps)) = sym (Holes.raised_by-past g qs m (length ps) a pop_whole) in
+        ap (λ z. get_or (set heads z (get_or links m 0)) b 0) d ∙ get_or-set_same heads b (get_or links m 0) 0 w
+        ∙ k.nexts (length ps) m (omega (arith, length-pop)) at
+        ∙ ap (λ zs. raised_by qs (last_below n (get_or zs (length ps) 0 % n) zs (length ps))) without-pop
+        ∙ ap (λ z. raised_by qs (last_below n (z % n) (ps ++ last ∷ []) (length ps))) (get_or_push ps last 0 (length ps) refl)
+        ∙ ap (λ z. raised_by qs (last_below n z (ps ++ last ∷ []) (length ps))) d
+        ∙ ap (raised_by qs) (last_push_same n b last ps (length ps) (omega arith))
+    by_test false t =
+        let d : b ≢ last % n = grind (arith, nat_tests) in
+        get_or-set_other heads (last % n) b (get_or links m 0) 0 d ∙ k.starts b l
+        ∙ ap (λ zs. raised_by qs (last_below n b zs (length zs))) without-pop ∙ ap (raised_by qs) (last_push_out n b last ps t)
+
+  pub IsChained-pop : IsChained n qs (take m hs) (take m links) (set heads (last % n) (get_or links m 0))
+  IsChained-pop = record {
+    count = length-set heads (last % n) (get_or links m 0) ∙ k.count;
+    size = length-take-le m links (omega (arith, e, k.size)) ∙ taken;
+    starts = pop_starts;
+    nexts = λ i s l z.
+        let v : s < m = omega (arith, z, Holes.raised_by-within g qs m (length ps) (suc i) a pop_whole (omega (arith, l))) in
+        get_or-take m links s 0 v ∙ k.nexts i s (omega (arith, l, length-pop)) z
+        ∙ ap (λ zs. raised_by qs (last_below n (get_or zs i 0 % n) zs i)) without-pop
+        ∙ ap (λ y. raised_by qs (last_below n (y % n) (ps ++ last ∷ []) i)) (get_or_append_left ps (last ∷ []) 0 i l)
+        ∙ ap (raised_by qs) (last_push_same n (get_or ps i 0 % n) last ps i (omega (arith, l)));
+  }

@@ -6,7 +6,7 @@ use Rattle.std.specs.List.{remove}
 use Rattle.std.proofs.lemmas.Bool.Decides.{nat_tests}
 use Rattle.std.proofs.lemmas.List.Edits.{get_or-remove_below, get_or-remove_above, length-remove, remove-append_left}
 use Rattle.sj_object.specs.Chains.{lowered, passed}
-use Rattle.sj_object.specs.Holes.{raised, raised_by, lowered_by, without, AreHoles}
+use Rattle.sj_object.specs.Holes.{raised, raised_by, lowered_by, without, AreHoles, with_hole}
 
 pub lowered_raised : (i p : ℕ) → lowered i (raised i p) ≡ p
 lowered_raised i p = grind (arith, nat_tests)
@@ -58,39 +58,47 @@ module _ (q : ℕ) where
   without-last [] xs = refl
   without-last (r ∷ qs) xs = without-last qs (remove xs r)
 
-  pub AreHoles-last : (g : ℕ) (qs : List ℕ) (n : ℕ) → AreHoles g qs n → g ≤ q → q + length qs < n → AreHoles g (qs ++ q ∷ []) n
-  AreHoles-last g [] n h l w = (l, (omega (arith, w), tt))
-  AreHoles-last g (r ∷ qs) n h l w = (h.0, (h.1.0, AreHoles-last g qs (n - 1) h.1.1 l (omega (arith, w))))
-
 pub AreHoles-none : (g : ℕ) (qs : List ℕ) (n : ℕ) → length qs ≡ 0 → AreHoles g qs n
 AreHoles-none g [] n e = tt
 AreHoles-none g (q ∷ qs) n e = absurd (omega (arith, e))
 
 pub AreHoles-more : (g : ℕ) (qs : List ℕ) (n m : ℕ) → n ≤ m → AreHoles g qs n → AreHoles g qs m
 AreHoles-more g [] n m l h = tt
-AreHoles-more g (q ∷ qs) n m l h = (h.0, (omega (arith, h.1.0), AreHoles-more g qs (n - 1) (m - 1) (omega (arith, l)) h.1.1))
+AreHoles-more g (q ∷ qs) n m l h = (h.0, (omega (arith, l, h.1.0), h.1.1))
+
+-- the others, once the first is taken out
+pub AreHoles-rest : (g q : ℕ) (qs : List ℕ) (n : ℕ) → AreHoles g (q ∷ qs) n → AreHoles g qs (n - 1)
+AreHoles-rest g q qs n h = AreHoles-more g qs q (n - 1) (omega (arith, h.1.0)) h.1.1
+
+-- where the last place is none
+pub AreHoles-end : (g : ℕ) (qs : List ℕ) (n : ℕ) → AreHoles g qs n → (get_or qs 0 0 + 1 ≡ n → ⊥) → AreHoles g qs (n - 1)
+AreHoles-end g [] n h e = tt
+AreHoles-end g (q ∷ qs) n h e = (h.0, (by_test (q + 1 == n) refl, h.1.1)) where
+  by_test : (c : Bool) → (q + 1 == n) ≡ c → q < n - 1
+  by_test true t = absurd (e (grind (arith, nat_tests)))
+  by_test false t = grind (arith, nat_tests, h.1.0)
 
 pub AreHoles-any : (g : ℕ) (qs : List ℕ) (n : ℕ) → AreHoles g qs n → AreHoles 0 qs n
 AreHoles-any g [] n h = tt
-AreHoles-any g (q ∷ qs) n h = (omega arith, (h.1.0, AreHoles-any g qs (n - 1) h.1.1))
+AreHoles-any g (q ∷ qs) n h = (omega arith, (h.1.0, AreHoles-any g qs q h.1.1))
 
 pub length-without : {X : Type 0} (g : ℕ) (qs : List ℕ) (xs : List X) (n : ℕ) → n ≡ length xs → AreHoles g qs n → length (without qs xs) + length qs ≡ n
 length-without g [] xs n e h = omega (arith, e)
 length-without g (q ∷ qs) xs n e h =
     let r = length-remove xs q (omega (arith, h.1.0, e)) in
-    let m = length-without g qs (remove xs q) (n - 1) (omega (arith, r, e)) h.1.1 in
+    let m = length-without g qs (remove xs q) (n - 1) (omega (arith, r, e)) (AreHoles-rest g q qs n h) in
     omega (arith, m, h.1.0)
 
 pub without-append : {X : Type 0} (g : ℕ) (qs : List ℕ) (xs ys : List X) (n : ℕ) → n ≡ length xs → AreHoles g qs n → without qs (xs ++ ys) ≡ without qs xs ++ ys
 without-append g [] xs ys n e h = refl
 without-append g (q ∷ qs) xs ys n e h =
     let l : q < length xs = omega (arith, h.1.0, e) in
-    ap (without qs) (remove-append_left xs ys q l) ∙ without-append g qs (remove xs q) ys (n - 1) (omega (arith, length-remove xs q l, e)) h.1.1
+    ap (without qs) (remove-append_left xs ys q l) ∙ without-append g qs (remove xs q) ys (n - 1) (omega (arith, length-remove xs q l, e)) (AreHoles-rest g q qs n h)
 
 -- a place of a member that is there has it
 pub get_or-without : {X : Type 0} (g : ℕ) (qs : List ℕ) (xs : List X) (n : ℕ) (d : X) (i s : ℕ) → n ≡ length xs → AreHoles g qs n → suc s ≡ raised_by qs (suc i) → get_or (without qs xs) i d ≡ get_or xs s d
 get_or-without g [] xs n d i s e h z = let y : s ≡ i = omega (arith, z) in ap (λ k. get_or xs k d) (sym y)
-get_or-without {X} g (q ∷ qs) xs n d i s e h z = by_place (raised_by qs (suc i)) refl (λ j. get_or-without g qs (remove xs q) (n - 1) d i j less h.1.1) where
+get_or-without {X} g (q ∷ qs) xs n d i s e h z = by_place (raised_by qs (suc i)) refl (λ j. get_or-without g qs (remove xs q) (n - 1) d i j less (AreHoles-rest g q qs n h)) where
   l : q < length xs
   l = omega (arith, h.1.0, e)
 
@@ -111,7 +119,7 @@ get_or-without {X} g (q ∷ qs) xs n d i s e h z = by_place (raised_by qs (suc i
 pub raised_by-past : (g : ℕ) (qs : List ℕ) (n m : ℕ) → AreHoles g qs n → m + length qs ≡ n → raised_by qs (suc m) ≡ suc n
 raised_by-past g [] n m h e = omega (arith, e)
 raised_by-past g (q ∷ qs) n m h e =
-    let y : raised_by qs (suc m) ≡ suc (n - 1) = raised_by-past g qs (n - 1) m h.1.1 (omega (arith, e)) in
+    let y : raised_by qs (suc m) ≡ suc (n - 1) = raised_by-past g qs (n - 1) m (AreHoles-rest g q qs n h) (omega (arith, e)) in
     let l : q < suc (n - 1) = omega (arith, h.1.0) in
     let z : suc (suc (n - 1)) ≡ suc n = omega (arith, h.1.0) in
     ap (raised q) y ∙ raised_high q (suc (n - 1)) l ∙ z
@@ -122,7 +130,7 @@ raised_by-within g qs n m p h e l = omega (arith, raised_by_less qs p (suc m) (o
 -- nor is there one among the first
 pub raised_by-first : (g : ℕ) (qs : List ℕ) (n p : ℕ) → AreHoles g qs n → p ≤ g → raised_by qs p ≡ p
 raised_by-first g [] n p h l = refl
-raised_by-first g (q ∷ qs) n p h l = ap (raised q) (raised_by-first g qs (n - 1) p h.1.1 l) ∙ raised_low q p (omega (arith, h.0, l))
+raised_by-first g (q ∷ qs) n p h l = ap (raised q) (raised_by-first g qs (n - 1) p (AreHoles-rest g q qs n h) l) ∙ raised_low q p (omega (arith, h.0, l))
 
 -- what goes to the member at a place goes on to its link
 pub passed_raised : (qs : List ℕ) (q s a p : ℕ) → suc s ≡ raised_by qs (suc q) → passed s (raised_by qs a) (raised_by qs p) ≡ raised_by qs (passed q a p)
@@ -138,3 +146,101 @@ passed_raised qs q s a p e = by_test (p == q + 1) (raised_by qs p == s + 1) refl
       let z : raised_by qs p ≡ s + 1 = grind (arith, nat_tests) in
       let y : p ≡ suc q = raised_by_same qs p (suc q) (z ∙ add-one s ∙ e) in
       absurd (grind (arith, nat_tests))
+
+-- what a hole is among the others, and what it is once the first of them is passed
+under : (q s r : ℕ) → suc s ≡ raised q r → s ≤ q → (r ≡ suc s) × (s < q)
+under q s r e l = by_test (nat_le r q) refl where
+  by_test : (c : Bool) → nat_le r q ≡ c → (r ≡ suc s) × (s < q)
+  by_test true t = grind (arith, nat_tests)
+  by_test false t = grind (arith, nat_tests)
+
+over : (q s r : ℕ) → suc s ≡ raised q r → q < s → (r ≡ s) × (q < r)
+over q s r e l = by_test (nat_le r q) refl where
+  by_test : (c : Bool) → nat_le r q ≡ c → (r ≡ s) × (q < r)
+  by_test true t = grind (arith, nat_tests)
+  by_test false t = grind (arith, nat_tests)
+
+-- two holes, in each order
+raised-raised : (q s p : ℕ) → q ≤ s → raised (suc s) (raised q p) ≡ raised q (raised s p)
+raised-raised q s p l = grind (arith, nat_tests)
+
+remove-remove : {X : Type 0} (xs : List X) (q s : ℕ) → q ≤ s → remove (remove xs (suc s)) q ≡ remove (remove xs q) s
+remove-remove [] zero zero l = refl
+remove-remove [] zero (suc s) l = refl
+remove-remove [] (suc q) zero l = refl
+remove-remove [] (suc q) (suc s) l = refl
+remove-remove (x ∷ xs) zero s l = refl
+remove-remove (x ∷ xs) (suc q) zero l = absurd (omega (arith, l))
+remove-remove (x ∷ xs) (suc q) (suc s) l = ap (λ ys. x ∷ ys) (remove-remove xs q s (omega (arith, l)))
+
+-- one more that is behind all the others
+with_hole-first : (g : ℕ) (qs : List ℕ) (n s : ℕ) → AreHoles g qs n → n ≤ s → with_hole s qs ≡ s ∷ qs
+with_hole-first g [] n s h l = refl
+with_hole-first g (q ∷ qs) n s h l = by_test (nat_le s q) refl where
+  by_test : (c : Bool) → nat_le s q ≡ c → (if c then q ∷ with_hole s qs else s ∷ q ∷ qs) ≡ s ∷ q ∷ qs
+  by_test true e = absurd (grind (arith, nat_tests, h.1.0, l))
+  by_test false e = refl
+
+pub length-with_hole : (s : ℕ) (qs : List ℕ) → length (with_hole s qs) ≡ suc (length qs)
+length-with_hole s [] = refl
+length-with_hole s (q ∷ qs) = by_test (nat_le s q) (length-with_hole s qs) where
+  by_test : (c : Bool) → length (with_hole s qs) ≡ suc (length qs) → length (if c then q ∷ with_hole s qs else s ∷ q ∷ qs) ≡ suc (suc (length qs))
+  by_test true h = ap suc h
+  by_test false h = refl
+
+-- the holes with one more, at the place of the member at a position beside the others
+module _ (i : ℕ) where
+  pub raised_by-with : (g : ℕ) (qs : List ℕ) (n s p : ℕ) → AreHoles g qs n → suc s ≡ raised_by qs (suc i) → raised_by (with_hole s qs) p ≡ raised_by qs (raised i p)
+  raised_by-with g [] n s p h e = let y : s ≡ i = omega (arith, e) in ap (λ j. raised j p) y
+  raised_by-with g (q ∷ qs) n s p h e = by_test (nat_le s q) refl (λ m. raised_by-with g qs q m p h.1.1) where
+    r : ℕ
+    r = raised_by qs (suc i)
+
+    by_test : (c : Bool) → nat_le s q ≡ c → ((m : ℕ) → suc m ≡ raised_by qs (suc i) → raised_by (with_hole m qs) p ≡ raised_by qs (raised i p)) → raised_by (if c then q ∷ with_hole s qs else s ∷ q ∷ qs) p ≡ raised q (raised_by qs (raised i p))
+    by_test true t more =
+        let l : s ≤ q = grind (arith, nat_tests) in
+        ap (raised q) (more s (sym (under q s r e l).0))
+    by_test false t more =
+        let l : q < s = grind (arith, nat_tests) in
+        let v = over q s r e l in
+        let m : ℕ = s - 1 in
+        let o : s ≡ suc m = omega (arith, l) in
+        let y : suc m ≡ r = omega (arith, v.0, o) in
+        let w : q ≤ m = omega (arith, l) in
+        ap (λ j. raised j (raised q (raised_by qs p))) o ∙ raised-raised q m (raised_by qs p) w
+        ∙ ap (raised q) (sym (ap (λ rs. raised_by rs p) (with_hole-first g qs q m h.1.1 w)) ∙ more m y)
+
+  pub without-with : {X : Type 0} (g : ℕ) (qs : List ℕ) (n s : ℕ) (xs : List X) → AreHoles g qs n → suc s ≡ raised_by qs (suc i) → without (with_hole s qs) xs ≡ remove (without qs xs) i
+  without-with g [] n s xs h e = let y : s ≡ i = omega (arith, e) in ap (remove xs) y
+  without-with {X} g (q ∷ qs) n s xs h e = by_test (nat_le s q) refl (λ m. without-with g qs q m (remove xs q) h.1.1) where
+    r : ℕ
+    r = raised_by qs (suc i)
+
+    by_test : (c : Bool) → nat_le s q ≡ c → ((m : ℕ) → suc m ≡ raised_by qs (suc i) → without (with_hole m qs) (remove xs q) ≡ remove (without qs (remove xs q)) i) → without (if c then q ∷ with_hole s qs else s ∷ q ∷ qs) xs ≡ remove (without qs (remove xs q)) i
+    by_test true t more =
+        let l : s ≤ q = grind (arith, nat_tests) in
+        more s (sym (under q s r e l).0)
+    by_test false t more =
+        let l : q < s = grind (arith, nat_tests) in
+        let v = over q s r e l in
+        let m : ℕ = s - 1 in
+        let o : s ≡ suc m = omega (arith, l) in
+        let y : suc m ≡ r = omega (arith, v.0, o) in
+        let w : q ≤ m = omega (arith, l) in
+        ap (λ j. without qs (remove (remove xs j) q)) o ∙ ap (without qs) (remove-remove xs q m w)
+        ∙ sym (ap (λ rs. without rs (remove xs q)) (with_hole-first g qs q m h.1.1 w)) ∙ more m y
+
+  pub AreHoles-with : (g : ℕ) (qs : List ℕ) (n s : ℕ) → AreHoles g qs n → suc s ≡ raised_by qs (suc i) → g ≤ s → s < n → AreHoles g (with_hole s qs) n
+  AreHoles-with g [] n s h e l w = (l, (w, tt))
+  AreHoles-with g (q ∷ qs) n s h e l w = by_test (nat_le s q) refl (λ y. AreHoles-with g qs q s h.1.1 y l) where
+    r : ℕ
+    r = raised_by qs (suc i)
+
+    by_test : (c : Bool) → nat_le s q ≡ c → (suc s ≡ raised_by qs (suc i) → s < q → AreHoles g (with_hole s qs) q) → AreHoles g (if c then q ∷ with_hole s qs else s ∷ q ∷ qs) n
+    by_test true t more =
+        let z : s ≤ q = grind (arith, nat_tests) in
+        let u = under q s r e z in
+        (h.0, (h.1.0, more (sym u.0) u.1))
+    by_test false t more =
+        let z : q < s = grind (arith, nat_tests) in
+        (l, (w, (h.0, (z, h.1.1))))

@@ -1,4 +1,4 @@
--- Holes in a table, whose members were taken out: each is the position that its member had when it left, those counted with the others that left at the front before. Only private clauses cite it, and the invariant of a map.
+-- Holes in a table, whose members were taken out: each is the position of its place, and they fall, so that the places behind a hole are as they were once it is passed. Only private clauses cite it, and the invariant of a map.
 use Rattle.std.specs.Prelude.{◌≡◌, ◌<◌, ◌≤◌, ◌-◌, ◌%◌, ℕ, suc, List, [], ◌∷◌, length, slice_index, if◌then◌else◌, nat_le, ⊤}
 use Rattle.std.specs.List.{remove}
 use denote.Struct.Props.{props}
@@ -23,14 +23,19 @@ abbrev pub without : {X : Type 0} → List ℕ → List X → List X
 without [] xs = xs
 without (q ∷ qs) xs = without qs (remove xs q)
 
--- each is a position among those of n that were there when it left, behind the first g
+-- each is a position among n, behind the first g, and they fall
 abbrev pub AreHoles : ℕ → List ℕ → ℕ → Type 0
 AreHoles g [] n = ⊤
-AreHoles g (q ∷ qs) n = (g ≤ q) × ((q < n) × AreHoles g qs (n - 1))
+AreHoles g (q ∷ qs) n = (g ≤ q) × ((q < n) × AreHoles g qs q)
 
 pub AreHoles-prop : (g : ℕ) (qs : List ℕ) (n : ℕ) → IsProp (AreHoles g qs n)
 AreHoles-prop g [] n = hlevel props
-AreHoles-prop g (q ∷ qs) n = hlevel (props, AreHoles-prop g qs (n - 1))
+AreHoles-prop g (q ∷ qs) n = hlevel (props, AreHoles-prop g qs q)
+
+-- one more among them
+abbrev pub with_hole : ℕ → List ℕ → List ℕ
+with_hole s [] = s ∷ []
+with_hole s (q ∷ qs) = if nat_le s q then q ∷ with_hole s qs else s ∷ q ∷ qs
 
 -- the members that are there stand in their chains: a head for each bucket, and for each member the link to the next one, all as places in the table
 pub record IsChained (n : ℕ) (qs hs links heads : List ℕ) : Type 0 where

@@ -4,9 +4,9 @@
 //! its highest place, and each link goes to a lower one. Members that left keep their places until
 //! they are forgotten: a chain ends at those that left at the front, and passes the others over.
 
-ghost use Rattle.std.specs.Prelude.{◌≡◌, ◌<◌, ◌%◌, ◌^◌, [], ◌∷◌, ◌++◌, length};
+ghost use Rattle.std.specs.Prelude.{◌≡◌, ◌+◌, ◌<◌, ◌%◌, ◌^◌, [], ◌∷◌, ◌++◌, length};
 ghost use Rattle.sj_object.specs.Chains.{IsLinked};
-ghost use Rattle.sj_object.specs.Holes.{without, AreHoles, IsChained};
+ghost use Rattle.sj_object.specs.Holes.{raised_by, without, AreHoles, IsChained};
 
 use super::holes::raise;
 
@@ -33,7 +33,7 @@ pub fn link(bits: u32, hashes: &[u64], links: &mut [usize], heads: &mut [usize])
 }
 
 /// Lets the chain of the member at a position pass it over: what goes to its place goes on to its
-/// link. The place is a hole then.
+/// link. The place is a hole then, which is answered.
 pub fn pass_over(
     bits: u32,
     holes: &[usize],
@@ -41,12 +41,13 @@ pub fn pass_over(
     hashes: &[u64],
     links: &mut [usize],
     heads: &mut [usize],
-)
+) -> usize
     requires bits { bits < 64 }
     requires holes { AreHoles 0 holes.now (length hashes.now) }
     requires within { position < length (without holes.now hashes.now) }
     requires chained { IsChained (2 ^ bits) holes.now hashes.now links.old heads.old }
-    ensures { IsChained (2 ^ bits) (holes.now ++ position ∷ []) hashes.now links.new heads.new }
+    ensures hole { result + 1 ≡ raised_by holes.now (position + 1) }
+    ensures chained { IsChained (2 ^ bits) (holes.now ++ position ∷ []) hashes.now links.new heads.new }
 {
     let place = raise(holes, position + 1);
     let next = links[place - 1];
@@ -54,10 +55,11 @@ pub fn pass_over(
     let mut above = heads[bucket];
     if above == place {
         heads[bucket] = next;
-        return;
+        return place - 1;
     }
     while links[above - 1] != place {
         above = links[above - 1];
     }
     links[above - 1] = next;
+    place - 1
 }

@@ -1,12 +1,11 @@
 //! Holes in a table: places of members that were taken out, which chains pass over.
 //!
-//! A hole is the position that its member had when it left, those counted with the others that left
-//! at the front before. So the place of a member follows from its position, and back, through the
-//! holes in their order.
+//! A hole is the position of its place in the table, and the holes fall: the last place comes first.
+//! So the place of a member follows from its position, and back, through the holes in their order.
 
 ghost use Rattle.std.specs.Prelude.{◌≡◌, ◌+◌, ◌<◌, ◌≤◌, ◌^◌, length, drop};
 ghost use Rattle.std.specs.Vec.{vec_capacity};
-ghost use Rattle.sj_object.specs.Holes.{raised_by, lowered_by, without, AreHoles};
+ghost use Rattle.sj_object.specs.Holes.{raised_by, lowered_by, without, with_hole, AreHoles};
 
 /// How many a table has at most: so few that a step of a look-up passes them without a loop.
 pub const HOLES: usize = 8;
@@ -68,6 +67,19 @@ pub fn raise(holes: &[usize], place: usize) -> usize
         raised += usize::from(raised > holes[i]);
     }
     raised
+}
+
+/// Puts a hole among the others, for which there is room.
+pub fn put_hole(holes: &mut Vec<usize>, hole: usize)
+    requires { length holes.old.items < vec_capacity holes.old }
+    ensures holes { holes.new.items ≡ with_hole hole holes.old.items }
+    ensures capacity { vec_capacity holes.new ≡ vec_capacity holes.old }
+{
+    let mut i = 0;
+    while i < holes.len() && hole <= holes[i] {
+        i += 1;
+    }
+    let _ = holes.insert(i, hole);
 }
 
 /// Takes the hashes in the holes out.

@@ -1,12 +1,13 @@
 //! The index of a map's members by their hashes.
 
-ghost use Rattle.std.specs.Prelude.{◌≡◌, ◌+◌, ◌-◌, ◌/◌, ◌<◌, ◌≤◌, ◌∷◌, ◌++◌, [], length, take, Some, IfOk, OnOk, OnErr};
+ghost use Rattle.std.specs.Prelude.{◌≡◌, ◌+◌, ◌-◌, ◌/◌, ◌<◌, ◌≤◌, ◌∷◌, ◌++◌, [], length, take, slice_index, Some, IfOk, OnOk, OnErr};
 ghost use Rattle.std.specs.List.{remove};
 ghost use Rattle.std.specs.Vec.{vec_capacity};
+ghost use Rattle.sj_object.specs.Holes.{AreHoles};
 ghost use Rattle.sj_object.specs.Index.{buckets_for, hashes_in, IsTable};
 
 use super::chain::{bucket_of, link, pass_over};
-use super::holes::{HOLES, close};
+use super::holes::{HOLES, close, put_hole};
 use std::alloc::{AllocError, Global};
 
 /// The hash of each member, the link to the next one in its chain, and where the chains begin, one
@@ -15,8 +16,8 @@ use std::alloc::{AllocError, Global};
 /// The hashes and links of members that are taken out by key stay where they are, so that no place
 /// changes: of those taken from the front, while there is no hole, a chain ends at them; of the
 /// others, each place is a hole, which its chain passes over. All are forgotten by the removal behind
-/// the eighth hole, or behind as many of both as a quarter of the buckets, by a doubling of the
-/// buckets, and holes by a pop. There is room for all.
+/// the eighth hole, or behind as many of both as a quarter of the buckets, and by a doubling of the
+/// buckets, and a hole that stands last by a pop. There is room for all.
 #[derive(Drop)]
 pub struct Table {
     pub(super) bits: u32,
@@ -166,7 +167,7 @@ impl Table {
         ensures table { IsTable self.new }
     {
         let position = self.gone + position;
-        pass_over(
+        let hole = pass_over(
             self.bits,
             &self.holes,
             position,
@@ -174,7 +175,7 @@ impl Table {
             &mut self.links,
             &mut self.heads,
         );
-        self.holes.push_reserved(position);
+        put_hole(&mut self.holes, hole);
     }
 
     /// Forgets the members that left, and links the others anew.
@@ -209,8 +210,7 @@ impl Table {
         self.gone = 0;
     }
 
-    /// Takes the last hash out, once holes are forgotten: behind a removal that left one, the others
-    /// are linked anew once.
+    /// Takes the last hash out, once holes behind it are cut off.
     pub fn pop(&mut self)
         requires within { 0 < length (hashes_in self.old) }
         requires table { IsTable self.old }
@@ -218,19 +218,44 @@ impl Table {
         ensures buckets { length self.new.heads.items ≡ length self.old.heads.items }
         ensures table { IsTable self.new }
     {
-        if self.holes.is_empty() {
-            return self.take_last();
-        }
-        self.settle();
+        self.cut_holes();
         self.take_last();
     }
 
-    /// Takes the last hash out, where there is no hole. Its member heads a chain, so no other link
-    /// changes.
+    /// Cuts off the holes that stand last.
+    fn cut_holes(&mut self)
+        requires { IsTable self.old }
+        ensures hashes { hashes_in self.new ≡ hashes_in self.old }
+        ensures buckets { length self.new.heads.items ≡ length self.old.heads.items }
+        ensures table { IsTable self.new }
+        ensures last { AreHoles self.new.gone self.new.holes.items (length self.new.hashes.items - 1) }
+    {
+        while !self.holes.is_empty() && self.holes[0] + 1 == self.hashes.len() {
+            self.cut_hole();
+        }
+    }
+
+    /// Cuts off a hole that stands last.
+    fn cut_hole(&mut self)
+        requires table { IsTable self.old }
+        requires some { 0 < length self.old.holes.items }
+        requires last { slice_index self.old.holes.items 0 + 1 ≡ length self.old.hashes.items }
+        ensures hashes { hashes_in self.new ≡ hashes_in self.old }
+        ensures buckets { length self.new.heads.items ≡ length self.old.heads.items }
+        ensures table { IsTable self.new }
+        ensures fewer { length self.new.holes.items < length self.old.holes.items }
+    {
+        let last = self.holes.remove(0);
+        self.hashes.truncate(last);
+        self.links.truncate(last);
+    }
+
+    /// Takes the last hash out, behind which there is no hole. Its member heads a chain, so no other
+    /// link changes.
     fn take_last(&mut self)
         requires within { 0 < length (hashes_in self.old) }
         requires table { IsTable self.old }
-        requires none { self.old.holes.items ≡ [] }
+        requires last { AreHoles self.old.gone self.old.holes.items (length self.old.hashes.items - 1) }
         ensures hashes { hashes_in self.new ≡ take (length (hashes_in self.old) - 1) (hashes_in self.old) }
         ensures buckets { length self.new.heads.items ≡ length self.old.heads.items }
         ensures table { IsTable self.new }

@@ -78,6 +78,18 @@ offset_bounds-links-place c = omega (arith, place_within c.args.holes.now c.args
 pub bounds-links-place : goal.bounds-links-place
 bounds-links-place c = omega (arith, place_within c.args.holes.now c.args.hashes.now c.requires.holes c.args.position c.raise-place.result c.requires.within c.raise-place.ensures, c.requires.chained.size)
 
+pub overflow_sub-result : goal.overflow_sub-result
+overflow_sub-result c = (place_within c.args.holes.now c.args.hashes.now c.requires.holes c.args.position c.raise-place.result c.requires.within c.raise-place.ensures).0
+
+pub overflow_sub-result-2 : goal.overflow_sub-result-2
+overflow_sub-result-2 c = (place_within c.args.holes.now c.args.hashes.now c.requires.holes c.args.position c.raise-place.result c.requires.within c.raise-place.ensures).0
+
+pub returns-then-above-place-clause-hole : goal.returns-then-above-place-clause-hole
+returns-then-above-place-clause-hole c = omega (arith, c.raise-place.ensures, place_within c.args.holes.now c.args.hashes.now c.requires.holes c.args.position c.raise-place.result c.requires.within c.raise-place.ensures)
+
+pub returns-clause-hole : goal.returns-clause-hole
+returns-clause-hole c = omega (arith, c.raise-place.ensures, place_within c.args.holes.now c.args.hashes.now c.requires.holes c.args.position c.raise-place.result c.requires.within c.raise-place.ensures)
+
 pub overflow_sub-place : goal.overflow_sub-place
 overflow_sub-place c = (place_within c.args.holes.now c.args.hashes.now c.requires.holes c.args.position c.raise-place.result c.requires.within c.raise-place.ensures).0
 
@@ -93,8 +105,8 @@ own n qs hs q p b a w e h =
     let z : suc (p - 1) ≡ raised_by qs (suc q) = omega (arith, e, ap (raised_by qs) (add-one q), (place_within qs hs a q p w e).0) in
     h ∙ ap (λ x. x % n) (sym (get_or-without 0 qs hs (length hs) 0 q (p - 1) refl a z))
 
-pub returns-then-above-place : goal.returns-then-above-place
-returns-then-above-place c =
+pub returns-then-above-place-clause-chained : goal.returns-then-above-place-clause-chained
+returns-then-above-place-clause-chained c =
     let qs = c.args.holes.now in
     let hs = c.args.hashes.now in
     let q = c.args.position in
@@ -127,8 +139,8 @@ loop-above-preserved c =
     let h = next c.args.holes.now c.args.hashes.now c.requires.holes (2 ^ c.args.bits) c.args.links.now c.args.heads.now c.requires.chained c.args.position c.requires.within c.loop-above.above (get_or c.args.links.now (c.loop-above.above - 1) 0) c.raise-place.result (v.some, (v.within, (v.there, v.stands))) refl c.raise-place.ensures c.loop-above-test.true in
     record { some = h.0; within = h.1.0; there = h.1.1.0; stands = h.1.1.1 }
 
-pub returns : goal.returns
-returns c =
+pub returns-clause-chained : goal.returns-clause-chained
+returns-clause-chained c =
     let qs = c.args.holes.now in
     let hs = c.args.hashes.now in
     let q = c.args.position in

@@ -4,6 +4,7 @@ use Rattle.std.proofs.Math.Seq.{drop-cons}
 use Rattle.std.proofs.lemmas.List.{drop_all}
 use Rattle.std.proofs.lemmas.List.Edits.{length-remove}
 use Rattle.sj_object.specs.Holes.{without, AreHoles}
+use Rattle.sj_object.proofs.Holes.{AreHoles-rest}
 use Rattle.sj_object.proofs.map.holes.close.Goals as goal
 
 pub remove-requires : goal.remove-requires
@@ -25,7 +26,7 @@ loop-hole-preserved c =
     let n : length xs - 1 ≡ length c.remove.new.self.items = omega (arith, ap length e, length-remove xs q h.1.0) in
     record {
       same = (λ j. without (drop (add-one i j) qs) (e j)) ∙ ap (λ rs. without rs xs) (sym d) ∙ c.loop-hole.invariant.same;
-      holes = subst (λ m. AreHoles 0 (drop m qs) (length c.remove.new.self.items)) (sym (add-one i)) (subst (AreHoles 0 (drop (suc i) qs)) n h.1.1);
+      holes = subst (λ m. AreHoles 0 (drop m qs) (length c.remove.new.self.items)) (sym (add-one i)) (subst (AreHoles 0 (drop (suc i) qs)) n (AreHoles-rest 0 q (drop (suc i) qs) (length xs) h));
       capacity = c.remove.ensures.capacity ∙ c.loop-hole.invariant.capacity;
     }
 
