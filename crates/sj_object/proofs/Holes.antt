@@ -1,5 +1,5 @@
 -- Holes in a table: what places and members are beside them.
-use Rattle.std.proofs.Common.{◌≡◌, ℕ, zero, suc, ◌+◌, ◌-◌, ◌<◌, ◌≤◌, nat_le, Bool, true, false, List, [], ◌∷◌, ◌++◌, length, get_or, refl, sym, ap, ◌∙◌, arith, add-one}
+use Rattle.std.proofs.Common.{◌≡◌, ℕ, zero, suc, ◌+◌, ◌-◌, ◌<◌, ◌≤◌, nat_le, Bool, true, false, List, [], ◌∷◌, ◌++◌, length, get_or, drop, refl, sym, ap, ◌∙◌, arith, add-one}
 use Rattle.std.specs.Bool.{if◌then◌else◌}
 use Rattle.std.specs.Prelude.{◌==◌}
 use Rattle.std.specs.List.{remove}
@@ -77,6 +77,12 @@ AreHoles-end g (q ∷ qs) n h e = (h.0, (by_test (q + 1 == n) refl, h.1.1)) wher
   by_test : (c : Bool) → (q + 1 == n) ≡ c → q < n - 1
   by_test true t = absurd (e (grind (arith, nat_tests)))
   by_test false t = grind (arith, nat_tests, h.1.0)
+
+-- those behind some of them
+pub AreHoles-drop : (g i : ℕ) (qs : List ℕ) (n : ℕ) → AreHoles g qs n → AreHoles g (drop i qs) n
+AreHoles-drop g zero qs n h = h
+AreHoles-drop g (suc i) [] n h = tt
+AreHoles-drop g (suc i) (q ∷ qs) n h = AreHoles-more g (drop i qs) q n (omega (arith, h.1.0)) (AreHoles-drop g i qs q h.1.1)
 
 pub AreHoles-any : (g : ℕ) (qs : List ℕ) (n : ℕ) → AreHoles g qs n → AreHoles 0 qs n
 AreHoles-any g [] n h = tt
@@ -244,3 +250,16 @@ module _ (i : ℕ) where
     by_test false t more =
         let z : q < s = grind (arith, nat_tests) in
         (l, (w, (h.0, (z, h.1.1))))
+
+-- a place behind all holes
+pub lowered_by-past : (g : ℕ) (qs : List ℕ) (n p : ℕ) → AreHoles g qs n → n ≤ p → lowered_by qs p + length qs ≡ p
+lowered_by-past g [] n p h l = omega arith
+lowered_by-past g (q ∷ qs) n p h l =
+    let e : lowered q p ≡ p - 1 = lowered_high q p (omega (arith, h.1.0, l)) in
+    let r = lowered_by-past g qs q (p - 1) h.1.1 (omega (arith, h.1.0, l)) in
+    omega (arith, ap (lowered_by qs) e, r, h.1.0, l) where
+      lowered_high : (i j : ℕ) → i < j → lowered i j ≡ j - 1
+      lowered_high i j m = grind (arith, nat_tests)
+
+pub lowered_low : (i p : ℕ) → p ≤ i → lowered i p ≡ p
+lowered_low i p l = grind (arith, nat_tests)

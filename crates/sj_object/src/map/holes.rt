@@ -3,56 +3,29 @@
 //! A hole is the position of its place in the table, and the holes fall: the last place comes first.
 //! So the place of a member follows from its position, and back, through the holes in their order.
 
-ghost use Rattle.std.specs.Prelude.{◌≡◌, ◌+◌, ◌<◌, ◌≤◌, ◌^◌, length, drop};
+ghost use Rattle.std.specs.Prelude.{◌≡◌, ◌+◌, ◌-◌, ◌<◌, ◌≤◌, ◌^◌, ℕ, length, drop};
 ghost use Rattle.std.specs.Vec.{vec_capacity};
 ghost use Rattle.sj_object.specs.Holes.{raised_by, lowered_by, without, with_hole, AreHoles};
 
-/// How many a table has at most: so few that a step of a look-up passes them without a loop.
+/// How many a table has at most.
 pub const HOLES: usize = 8;
 
-/// A place once the hole at a position in the list, if there is one, is passed.
+/// How many of the holes a place does not lie behind, of which so many were passed by a place that
+/// lies no lower. As the places of a chain fall, a look-up passes each hole once.
 #[inline(always)]
-fn lower_by(holes: &[usize], i: usize, place: usize) -> usize
-    ensures { lowered_by (drop (i + 1) holes.now) result ≡ lowered_by (drop i holes.now) place }
+pub fn pass(holes: &[usize], passed: usize, place: usize) -> usize
+    requires holes { AreHoles 0 holes.now (2 ^ 64) }
+    requires within { passed ≤ length holes.now }
+    requires passed { (p : ℕ) → p ≤ place → lowered_by (drop passed holes.now) p ≡ lowered_by holes.now p }
+    ensures within { result ≤ length holes.now }
+    ensures passed { (p : ℕ) → p ≤ place → lowered_by (drop result holes.now) p ≡ lowered_by holes.now p }
+    ensures place { lowered_by holes.now place + (length holes.now - result) ≡ place }
 {
-    if i < holes.len() {
-        place - usize::from(place > holes[i])
-    } else {
-        place
+    let mut passed = passed;
+    while passed < holes.len() && holes[passed] >= place {
+        passed += 1;
     }
-}
-
-/// A place once four holes are passed, as far as they are there.
-#[inline(always)]
-fn lower_by_four(holes: &[usize], i: usize, place: usize) -> usize
-    requires { i < 5 }
-    ensures { lowered_by (drop (i + 4) holes.now) result ≡ lowered_by (drop i holes.now) place }
-{
-    let place = lower_by(holes, i, place);
-    let place = lower_by(holes, i + 1, place);
-    let place = lower_by(holes, i + 2, place);
-    lower_by(holes, i + 3, place)
-}
-
-/// A place once all holes are passed. It stays apart from a look-up's loop: few tables have any.
-#[inline(never)]
-fn lower_by_all(holes: &[usize], place: usize) -> usize
-    requires { length holes.now ≤ 8 }
-    ensures { result ≡ lowered_by holes.now place }
-{
-    lower_by_four(holes, 4, lower_by_four(holes, 0, place))
-}
-
-/// The place beside the holes of a place in the table, which is none.
-#[inline(always)]
-pub fn lower(holes: &[usize], place: usize) -> usize
-    requires { length holes.now ≤ 8 }
-    ensures { result ≡ lowered_by holes.now place }
-{
-    if holes.is_empty() {
-        return place;
-    }
-    lower_by_all(holes, place)
+    passed
 }
 
 /// The place in the table of a place beside the holes.

@@ -9,7 +9,7 @@ ghost use Rattle.sj_object.specs.Index.{IsTableOf};
 ghost use Rattle.sj_object.specs.Stored.{pairs_of, buckets_of, IsIndexOf};
 
 use super::chain::bucket_of;
-use super::holes::lower;
+use super::holes::pass;
 use super::index::Table;
 use super::store::{Hashed, Store};
 use crate::hasher::KeyHasher;
@@ -77,9 +77,11 @@ fn position_in_parts<K: KeyText, V, S: KeyHasher, L: Ledger>(
     ensures exact { steps.new ≡ steps.old + walk (S.hash_of _hasher.now) (length table.now.heads.items) text.now (entries_of K.text_of (front.now ++ back.now)) }
 {
     let mut place = table.heads[bucket_of(hash, table.bits)];
+    let mut passed = 0;
     while place > table.gone {
         if table.hashes[place - 1] == hash {
-            let i = lower(&table.holes, place) - 1 - table.gone;
+            passed = pass(&table.holes, passed, place);
+            let i = place - (table.holes.len() - passed) - 1 - table.gone;
             if is_key(&pair_at(front, back, i).0, text, steps) {
                 return Some(i);
             }

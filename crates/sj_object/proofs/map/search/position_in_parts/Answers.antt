@@ -1,4 +1,4 @@
-use Rattle.std.proofs.Common.{◌≡◌, ℕ, suc, ◌<◌, ◌≤◌, ◌+◌, ◌-◌, ◌%◌, ◌^◌, ◌++◌, Some, Bool, true, false, [], length, get_or, drop, bytes_eq, nat_le, arith, refl, sym, ap, ◌∙◌, subst}
+use Rattle.std.proofs.Common.{◌≡◌, ℕ, List, suc, ◌<◌, ◌≤◌, ◌+◌, ◌-◌, ◌%◌, ◌^◌, ◌++◌, Some, Bool, true, false, [], length, get_or, drop, bytes_eq, nat_le, arith, refl, sym, ap, ◌∙◌, subst}
 use Rattle.std.proofs.lemmas.Bool.Decides.{nat_tests}
 use Rattle.std.proofs.lemmas.List.{get_or_default, get_or-drop, length-drop}
 use Rattle.std.proofs.lemmas.Nat.{pow_pos}
@@ -8,9 +8,9 @@ use Rattle.sj_object.specs.Steps.{walk}
 use Rattle.sj_object.specs.Index.{hashes_beside, hashes_in, IsTable}
 use Rattle.sj_object.specs.declared.map.index.Table.{Table}
 use Rattle.sj_object.specs.Chains.{last_below}
-use Rattle.sj_object.specs.Holes.{raised_by, lowered_by}
+use Rattle.sj_object.specs.Holes.{raised_by, lowered_by, AreHoles}
 use Rattle.sj_object.proofs.Chains.{last_le, last_dropped}
-use Rattle.sj_object.proofs.Holes.{lowered_raised_by, raised_by_ge, raised_by_less, raised_by-first, raised_by-within, get_or-without}
+use Rattle.sj_object.proofs.Holes.{AreHoles-any, AreHoles-more, lowered_raised_by, raised_by_ge, raised_by_less, raised_by-first, raised_by-within, get_or-without}
 use Rattle.sj_object.proofs.Tables.{length-beside}
 use Rattle.sj_object.proofs.Walked.{count, at_start, at_next, at_member}
 use Rattle.sj_object.proofs.Position.{found_at, absent_at}
@@ -93,41 +93,57 @@ loop-place-init g c =
     let l : x % 2 ^ T.bits < 2 ^ T.bits = omega (arith, pow_pos T.bits) in
     let e = begins T c.requires.table.table (x % 2 ^ T.bits) p l (c.index-place.ensures ∙ ap (λ b. get_or T.heads.items b p) c.bucket_of.ensures) in
     let s = at_start (2 ^ T.bits) x c.args.text.now hs (texts (entries_of g.K.KeyText.text_of (c.args.front.now ++ c.args.back.now))) a (lowered_by T.holes.items p - T.gone) e.1 in
-    record { within = e.0.0; there = e.0.1; stands = s.0; counted = omega (arith, s.1) }
+    record { within = e.0.0; passed = omega arith; beside = λ o m. refl; there = e.0.1; stands = s.0; counted = omega (arith, s.1) }
 
 -- the position of the member at the place of a walk
 place : (T : Table) (q : IsTable T) (p : ℕ) → Is T q p → T.gone < p → lowered_by T.holes.items p ≡ suc (T.gone + (lowered_by T.holes.items p - 1 - T.gone))
 place T q p s l = let m = at T q p s l in omega (arith, m)
 
-pub overflow_sub-i : goal.overflow_sub-i
-overflow_sub-i g c =
-    let T = c.args.table.now in
-    let v = c.loop-place.invariant in
-    omega (arith, c.lower.ensures, ap (λ qs. lowered_by qs c.loop-place.place) c.deref.ensures.value, at T c.requires.table.table c.loop-place.place (v.within, v.there) c.loop-place-test.true)
+-- a place beside the holes, of which a walk passed so many
+lower : (T : Table) (p x : ℕ) (qs : List ℕ) → qs ≡ T.holes.items → (n : ℕ) → n ≡ length T.holes.items → lowered_by qs p + (length qs - x) ≡ p → p - (n - x) ≡ lowered_by T.holes.items p
+lower T p x qs e n l h = omega (arith, h, ap (λ rs. lowered_by rs p + (length rs - x)) e, l)
 
-pub overflow_sub-i-then-index-hash : goal.overflow_sub-i-then-index-hash
-overflow_sub-i-then-index-hash g c =
+-- what a step leaves passed
+kept_by : (T : Table) (o x y : ℕ) (qs : List ℕ) → qs ≡ T.holes.items → x ≡ y → y ≤ length qs → ((r : ℕ) → r ≤ o → lowered_by (drop y qs) r ≡ lowered_by qs r) → (x ≤ length T.holes.items) × ((r : ℕ) → r ≤ o → lowered_by (drop x T.holes.items) r ≡ lowered_by T.holes.items r)
+kept_by T o x y qs e l w h = (omega (arith, w, l, ap length e), λ r m. (λ i. lowered_by (drop (l i) (sym e i)) r) ∙ h r m ∙ ap (λ rs. lowered_by rs r) e)
+
+-- the holes of a table fall, and are in the range of a place
+are_holes : (T : Table) (q : IsTable T) (qs : List ℕ) → qs ≡ T.holes.items → AreHoles 0 qs (2 ^ 64)
+are_holes T q qs e = subst (λ rs. AreHoles 0 rs (2 ^ 64)) (sym e) (AreHoles-more 0 T.holes.items (length T.hashes.items) (2 ^ 64) (omega (arith, T.hashes.ok.0)) (AreHoles-any T.gone T.holes.items (length T.hashes.items) q.holes))
+
+pub pass-passed-requires-clause-holes : goal.pass-passed-requires-clause-holes
+pass-passed-requires-clause-holes g c = are_holes c.args.table.now c.requires.table.table c.deref.result.now c.deref.ensures.value
+
+pub overflow_sub-i-then-index-hash-2 : goal.overflow_sub-i-then-index-hash-2
+overflow_sub-i-then-index-hash-2 g c =
     let T = c.args.table.now in
     let v = c.loop-place.invariant in
-    omega (arith, c.lower.ensures, ap (λ qs. lowered_by qs c.loop-place.place) c.deref.ensures.value, at T c.requires.table.table c.loop-place.place (v.within, v.there) c.loop-place-test.true)
+    omega (arith, lower T c.loop-place.place c.pass-passed.result c.deref.result.now c.deref.ensures.value c.len.result (c.len.ensures ∙ T.holes.ok.0) c.pass-passed.ensures.place, at T c.requires.table.table c.loop-place.place (v.within, v.there) c.loop-place-test.true)
+
+pub overflow_sub-i-then-index-hash-3 : goal.overflow_sub-i-then-index-hash-3
+overflow_sub-i-then-index-hash-3 g c =
+    let T = c.args.table.now in
+    let v = c.loop-place.invariant in
+    omega (arith, lower T c.loop-place.place c.pass-passed.result c.deref.result.now c.deref.ensures.value c.len.result (c.len.ensures ∙ T.holes.ok.0) c.pass-passed.ensures.place, at T c.requires.table.table c.loop-place.place (v.within, v.there) c.loop-place-test.true)
 
 pub pair_at-requires : goal.pair_at-requires
 pair_at-requires g c =
     let T = c.args.table.now in
     let v = c.loop-place.invariant in
-    omega (arith, c.lower.ensures, ap (λ qs. lowered_by qs c.loop-place.place) c.deref.ensures.value, at T c.requires.table.table c.loop-place.place (v.within, v.there) c.loop-place-test.true, texts-length g.K.KeyText.text_of (c.args.front.now ++ c.args.back.now), v.stands.within)
+    omega (arith, c.pass-passed.ensures.place, ap (λ qs. lowered_by qs c.loop-place.place + length qs) c.deref.ensures.value, c.len.ensures, T.holes.ok.0, at T c.requires.table.table c.loop-place.place (v.within, v.there) c.loop-place-test.true, texts-length g.K.KeyText.text_of (c.args.front.now ++ c.args.back.now), v.stands.within)
 
 pub returns-then-is_key-clause-found : goal.returns-then-is_key-clause-found
 returns-then-is_key-clause-found g c =
     let t = g.K.KeyText.text_of in
     let k = c.args.text.now in
     let ps = (c.args.front.now ++ c.args.back.now) in
-    let i = c.lower.result - 1 - c.args.table.now.gone in
+    let low : ℕ = c.loop-place.place - (c.len.result - c.pass-passed.result) in
+    let i = low - 1 - c.args.table.now.gone in
     let r = c.pair_at.result.now in
     let there : r ≡ get_or ps i r = c.pair_at.ensures in
     let T = c.args.table.now in
     let v = c.loop-place.invariant in
-    let y : c.lower.result ≡ lowered_by T.holes.items c.loop-place.place = c.lower.ensures ∙ ap (λ qs. lowered_by qs c.loop-place.place) c.deref.ensures.value in
+    let y : low ≡ lowered_by T.holes.items c.loop-place.place = lower T c.loop-place.place c.pass-passed.result c.deref.result.now c.deref.ensures.value c.len.result (c.len.ensures ∙ T.holes.ok.0) c.pass-passed.ensures.place in
     let l : i < length ps = omega (arith, y, at T c.requires.table.table c.loop-place.place (v.within, v.there) c.loop-place-test.true, texts-length t ps, v.stands.within) in
     let f = found_at t k ps i r c.requires.distinct l there (sym c.is_key.ensures.answer ∙ c.if-is_key.true) in
     sym (f.place 0 ∙ (let h : 0 + i ≡ i = omega arith in ap (λ m. Some m) h))
@@ -141,8 +157,9 @@ returns-then-is_key-clause-exact g c =
     let T = c.args.table.now in
     let v = c.loop-place.invariant in
     let p = lowered_by T.holes.items c.loop-place.place in
-    let y : c.lower.result ≡ p = c.lower.ensures ∙ ap (λ qs. lowered_by qs c.loop-place.place) c.deref.ensures.value in
-    let i = c.lower.result - 1 - T.gone in
+    let low : ℕ = c.loop-place.place - (c.len.result - c.pass-passed.result) in
+    let y : low ≡ p = lower T c.loop-place.place c.pass-passed.result c.deref.result.now c.deref.ensures.value c.len.result (c.len.ensures ∙ T.holes.ok.0) c.pass-passed.ensures.place in
+    let i = low - 1 - T.gone in
     let r = c.pair_at.result.now in
     let there : r ≡ get_or ps i r = c.pair_at.ensures in
     let n = 2 ^ T.bits in
@@ -199,12 +216,16 @@ loop-place-preserved g c =
     let step : c.if-index-hash.steps ≡ c.loop-place.steps + 1 = elim c.if-index-hash.branch [ then-index-hash+else-is_key w ↦ w.steps-is ∙ w.is_key.ensures.step | else-index-hash w ↦ w.steps-is ∙ w.tick.ensures ] in
     let b : bytes_eq k (get_or ts i []) ≡ false = elim c.if-index-hash.branch [
       | then-index-hash+else-is_key w ↦
-          let y : w.lower.result - 1 - T.gone ≡ i = ap (λ r. r - 1 - T.gone) (w.lower.ensures ∙ ap (λ qs. lowered_by qs o) w.deref.ensures.value) in
+          let y : o - (w.len.result - w.pass-passed.result) - 1 - T.gone ≡ i = ap (λ r. r - 1 - T.gone) (lower T o w.pass-passed.result w.deref.result.now w.deref.ensures.value w.len.result (w.len.ensures ∙ T.holes.ok.0) w.pass-passed.ensures.place) in
           ap (bytes_eq k) (text_at t ps i w.pair_at.result.now j (w.pair_at.ensures ∙ ap (λ m. get_or ps m w.pair_at.result.now) y)) ∙ sym w.is_key.ensures.answer ∙ w.if-is_key.false
       | else-index-hash w ↦ fails (bytes_eq k (get_or ts i [])) (λ y. w.if-index-hash.false (hash_there T q o i (v.within, v.there) e l c.index.result.now c.index.ensures ∙ a.same i (omega (arith, a.size, l)) y))
     ] in
     let m = at_next n x k hs ts a (p - T.gone) i (lowered_by T.holes.items c.index-place-in-loop-place.result.now - T.gone) (omega (arith, e)) v.stands b s.1.0 in
-    record { within = s.0.0; there = s.0.1; stands = m.0; counted = omega (arith, m.1, step, v.counted) }
+    let kept : (c.if-index-hash.passed ≤ length T.holes.items) × ((r : ℕ) → r ≤ o → lowered_by (drop c.if-index-hash.passed T.holes.items) r ≡ lowered_by T.holes.items r) = elim c.if-index-hash.branch [
+      | then-index-hash+else-is_key w ↦ kept_by T o c.if-index-hash.passed w.pass-passed.result w.deref.result.now w.deref.ensures.value w.passed-is w.pass-passed.ensures.within w.pass-passed.ensures.passed
+      | else-index-hash w ↦ kept_by T o c.if-index-hash.passed c.loop-place.passed T.holes.items refl w.passed-is v.passed v.beside
+    ] in
+    record { within = s.0.0; passed = kept.0; beside = λ r m2. kept.1 r (omega (arith, m2, s.1.1)); there = s.0.1; stands = m.0; counted = omega (arith, m.1, step, v.counted) }
 
 pub returns-clause-found : goal.returns-clause-found
 returns-clause-found g c =
