@@ -1,10 +1,11 @@
 -- Holes in a table: what places and members are beside them.
-use Rattle.std.proofs.Common.{◌≡◌, ℕ, zero, suc, ◌+◌, ◌-◌, ◌<◌, ◌≤◌, nat_le, Bool, true, false, List, [], ◌∷◌, ◌++◌, length, get_or, drop, refl, sym, ap, ◌∙◌, arith, add-one}
+use Rattle.std.proofs.Common.{◌≡◌, ℕ, zero, suc, ◌+◌, ◌-◌, ◌<◌, ◌≤◌, nat_le, Bool, true, false, List, [], ◌∷◌, ◌++◌, length, get_or, take, drop, append_assoc, refl, sym, ap, ◌∙◌, arith, add-one}
 use Rattle.std.specs.Bool.{if◌then◌else◌}
 use Rattle.std.specs.Prelude.{◌==◌}
-use Rattle.std.specs.List.{remove}
+use Rattle.std.specs.List.{remove, copy_within}
 use Rattle.std.proofs.lemmas.Bool.Decides.{nat_tests}
-use Rattle.std.proofs.lemmas.List.Edits.{get_or-remove_below, get_or-remove_above, length-remove, remove-append_left}
+use Rattle.std.proofs.lemmas.List.Edits.{get_or-remove_below, get_or-remove_above, length-remove, remove-append_left, remove-append_right, length-paste, take-paste, drop-paste}
+use Rattle.std.proofs.lemmas.List.{drop-drop, length-drop, length-take-le, take_all, take-append-drop}
 use Rattle.sj_object.specs.Chains.{lowered, passed}
 use Rattle.sj_object.specs.Holes.{raised, raised_by, lowered_by, without, AreHoles, with_hole}
 
@@ -263,3 +264,60 @@ lowered_by-past g (q ∷ qs) n p h l =
 
 pub lowered_low : (i p : ℕ) → p ≤ i → lowered i p ≡ p
 lowered_low i p l = grind (arith, nat_tests)
+
+-- one more hole behind the others
+pub without-behind : {X : Type 0} (g : ℕ) (qs : List ℕ) (n q : ℕ) (xs : List X) → AreHoles g qs n → n ≤ q → without qs (remove xs q) ≡ remove (without qs xs) (q - length qs)
+without-behind g [] n q xs h l = let e : q ≡ q - 0 = omega arith in ap (remove xs) e
+without-behind g (d ∷ qs) n q xs h l =
+    let r : ℕ = q - 1 in
+    let e : q ≡ suc r = omega (arith, h.1.0, l) in
+    let w : d ≤ r = omega (arith, h.1.0, l) in
+    let y : r - length qs ≡ q - length (d ∷ qs) = omega (arith, e) in
+    ap (λ j. without qs (remove (remove xs j) d)) e ∙ ap (without qs) (remove-remove xs d r w) ∙ without-behind g qs d r (remove xs d) h.1.1 w
+    ∙ ap (remove (without qs (remove xs d))) y
+
+-- the first hole, and those behind it
+pub AreHoles-split : (g q : ℕ) (rs : List ℕ) (n : ℕ) → AreHoles g (rs ++ q ∷ []) n → AreHoles (suc q) rs n × ((g ≤ q) × (q < n))
+AreHoles-split g q [] n h = (tt, (h.0, h.1.0))
+AreHoles-split g q (r ∷ rs) n h = let s = AreHoles-split g q rs r h.1.1 in ((omega (arith, s.1.1), (h.1.0, s.0)), (s.1.0, omega (arith, s.1.1, h.1.0)))
+
+-- the first of a list and what stands from a position on, once what stands from there to a hole is moved down
+pub moved_down : (xs : List ℕ) (to from q : ℕ) → to ≤ from → from ≤ q → q < length xs → take (to + (q - from)) (copy_within xs from q to) ++ drop (suc q) (copy_within xs from q to) ≡ remove (take to xs ++ drop from xs) (to + (q - from))
+moved_down xs to from q l m w =
+    let k : ℕ = q - from in
+    let n : length (drop from xs) ≡ length xs - from = length-drop from xs in
+    let t : take (to + k) (copy_within xs from q to) ≡ take to xs ++ take k (drop from xs) = take-paste xs to (drop from xs) k (omega (arith, l, m, w)) (omega (arith, n, m, w)) in
+    let d : drop (to + k) (copy_within xs from q to) ≡ drop (to + k) xs = drop-paste xs to (drop from xs) k (omega (arith, l, m, w)) (omega (arith, n, m, w)) in
+    let o : to + k + (suc q - (to + k)) ≡ suc q = omega (arith, l, m) in
+    let z : from + suc k ≡ suc q = omega (arith, m) in
+    let e : drop (suc q) (copy_within xs from q to) ≡ drop (suc k) (drop from xs) =
+    ap (λ j. drop j (copy_within xs from q to)) (sym o) ∙ sym (drop-drop (suc q - (to + k)) (to + k) (copy_within xs from q to)) ∙ ap (drop (suc q - (to + k))) d
+    ∙ drop-drop (suc q - (to + k)) (to + k) xs ∙ ap (λ j. drop j xs) (o ∙ sym z) ∙ sym (drop-drop (suc k) from xs) in
+    let y : to + k - to ≡ k = omega arith in
+    (λ i. t i ++ e i) ∙ append_assoc (take to xs) (take k (drop from xs)) (drop (suc k) (drop from xs))
+    ∙ sym (remove-append_right (take to xs) (drop from xs) to (to + k) (length-take-le to xs (omega (arith, l, m, w))) (omega arith) ∙ ap (λ j. take to xs ++ remove (drop from xs) j) y)
+
+-- where that is where it stood
+pub moved_nowhere : (xs : List ℕ) (from end to : ℕ) → to ≡ from → from ≤ end → end ≤ length xs → copy_within xs from end to ≡ xs
+moved_nowhere xs from end to e m w =
+    let k : ℕ = end - from in
+    let l : from ≤ length xs = omega (arith, m, w) in
+    let z : k ≤ length (drop from xs) = omega (arith, length-drop from xs, w) in
+    let ys = copy_within xs from end from in
+    ap (copy_within xs from end) e ∙ sym (take-append-drop (from + k) ys)
+    ∙ (λ i. take-paste xs from (drop from xs) k l z i ++ drop-paste xs from (drop from xs) k l z i)
+    ∙ append_assoc (take from xs) (take k (drop from xs)) (drop (from + k) xs)
+    ∙ ap (λ rs. take from xs ++ (take k (drop from xs) ++ rs)) (sym (drop-drop k from xs))
+    ∙ ap (λ rs. take from xs ++ rs) (take-append-drop k (drop from xs)) ∙ take-append-drop from xs
+
+-- what is left once what stands from there to the end is moved down
+pub moved_end : (xs : List ℕ) (to from n : ℕ) → to ≤ from → from ≤ length xs → n ≡ length xs → take (n - (from - to)) (copy_within xs from n to) ≡ take to xs ++ drop from xs
+moved_end xs to from n l m e =
+    let k : n - (from - to) ≡ to + (n - from) = omega (arith, l, m, e) in
+    let z : length (drop from xs) ≡ n - from = omega (arith, length-drop from xs, e) in
+    ap (λ j. take j (copy_within xs from n to)) k
+    ∙ take-paste xs to (drop from xs) (n - from) (omega (arith, l, m)) (omega (arith, z))
+    ∙ ap (λ ys. take to xs ++ ys) (take_all (n - from) (drop from xs) (omega (arith, z)))
+
+pub length-moved : (xs : List ℕ) (to from q : ℕ) → to ≤ from → from ≤ q → q ≤ length xs → length (copy_within xs from q to) ≡ length xs
+length-moved xs to from q l m w = length-paste xs to (drop from xs) (q - from) (omega (arith, l, m, w)) (omega (arith, length-drop from xs, m, w))

@@ -4,6 +4,7 @@
 //! So the place of a member follows from its position, and back, through the holes in their order.
 
 ghost use Rattle.std.specs.Prelude.{◌≡◌, ◌+◌, ◌-◌, ◌<◌, ◌≤◌, ◌^◌, ℕ, length, drop};
+ghost use Rattle.std.specs.List.{copy_within};
 ghost use Rattle.std.specs.Vec.{vec_capacity};
 ghost use Rattle.sj_object.specs.Holes.{raised_by, lowered_by, without, with_hole, AreHoles};
 
@@ -55,13 +56,36 @@ pub fn put_hole(holes: &mut Vec<usize>, hole: usize)
     let _ = holes.insert(i, hole);
 }
 
-/// Takes the hashes in the holes out.
-pub fn close(holes: &[usize], hashes: &mut Vec<u64>)
-    requires { AreHoles 0 holes.now (length hashes.old.items) }
-    ensures hashes { hashes.new.items ≡ without holes.now hashes.old.items }
+/// Moves the hashes from a position to an end down to a place, where that is another.
+fn move_down(hashes: &mut Vec<u64>, from: usize, end: usize, to: usize)
+    requires down { to ≤ from }
+    requires within { (from ≤ end) × (end ≤ length hashes.old.items) }
+    ensures hashes { hashes.new.items ≡ copy_within hashes.old.items from end to }
     ensures capacity { vec_capacity hashes.new ≡ vec_capacity hashes.old }
 {
-    for hole in holes {
-        hashes.remove(*hole);
+    if to < from {
+        hashes.copy_within(from..end, to);
     }
+}
+
+/// Takes the first hashes and those in the holes out. Each of the others moves once at most.
+pub fn close(gone: usize, holes: &[usize], hashes: &mut Vec<u64>)
+    requires holes { AreHoles gone holes.now (length hashes.old.items) }
+    requires gone { gone + length holes.now ≤ length hashes.old.items }
+    ensures hashes { hashes.new.items ≡ drop gone (without holes.now hashes.old.items) }
+    ensures capacity { vec_capacity hashes.new ≡ vec_capacity hashes.old }
+{
+    let mut left = holes.len();
+    let mut from = gone;
+    let mut to = 0;
+    while left > 0 {
+        left -= 1;
+        let hole = holes[left];
+        move_down(hashes, from, hole, to);
+        to += hole - from;
+        from = hole + 1;
+    }
+    let end = hashes.len();
+    move_down(hashes, from, end, to);
+    hashes.truncate(end - (from - to));
 }

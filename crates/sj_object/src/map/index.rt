@@ -201,12 +201,9 @@ impl Table {
         ensures holes { vec_capacity self.new.holes ≡ vec_capacity self.old.holes }
         ensures rest { (self.new.bits ≡ self.old.bits) × (self.new.heads ≡ self.old.heads) }
     {
-        close(&self.holes, &mut self.hashes);
+        close(self.gone, &self.holes, &mut self.hashes);
+        self.links.truncate(self.hashes.len());
         self.holes.clear();
-        let left = self.hashes.len() - self.gone;
-        self.hashes.copy_within(self.gone.., 0);
-        self.hashes.truncate(left);
-        self.links.truncate(left);
         self.gone = 0;
     }
 
