@@ -37,10 +37,13 @@ fn position_in_list<K: KeyText, V, L: Ledger>(
     ensures found { result ≡ position_from (λ p. bytes_eq text.now (K.text_of p.0)) 0 pairs.now }
     ensures exact { steps.new ≡ steps.old + visited text.now (entries_of K.text_of pairs.now) }
 {
-    for (i, pair) in pairs.iter().enumerate() {
+    // So many are left: counted down with the list, the position costs no step anything.
+    let mut left = pairs.len();
+    for pair in pairs {
         if is_key(&pair.0, text, steps) {
-            return Some(i);
+            return Some(pairs.len() - left);
         }
+        left -= 1;
     }
     None
 }

@@ -4,7 +4,8 @@ ghost use Rattle.std.specs.Prelude.{◌≡◌, ◌↔◌, ◌-◌, ◌<◌, ◌�
 ghost use Rattle.std.specs.List.{remove};
 ghost use Rattle.std.specs.Option.{option_to_list};
 ghost use Rattle.std.specs.Vec.{vec_len, vec_capacity};
-ghost use Rattle.sj_object.specs.Index.{NeedsHash};
+ghost use Rattle.std.specs.VecDeque.{deque_len, deque_capacity};
+ghost use Rattle.sj_object.specs.Index.{NeedsHash, IsTable, hashes_in};
 ghost use Rattle.sj_object.specs.Stored.{pairs_of, buckets_of, HasPlace, IsIndexOf, IsIndexed};
 
 use super::index::Table;
@@ -70,12 +71,13 @@ impl<K, V> Store<K, V> {
     }
 
     /// The members in order, in two parts.
+    #[inline(always)]
     pub fn as_slices(&self) -> (&[(K, V)], &[(K, V)])
         ensures { result.0.now ++ result.1.now ≡ pairs_of self.now }
     {
         match self {
             Store::Plain(pairs) => (pairs.as_slice(), &[]),
-            Store::Hashed(hashed) => hashed.pairs.as_slices(),
+            Store::Hashed(hashed) => hashed.as_slices(),
         }
     }
 
@@ -140,6 +142,7 @@ impl<K, V> Store<K, V> {
     }
 
     /// Takes the last member out.
+    #[inline(always)]
     pub fn pop(&mut self) -> Option<(K, V)>
         requires { IsIndexed self.old }
         ensures pairs { pairs_of self.old ≡ pairs_of self.new ++ option_to_list result }
@@ -150,25 +153,57 @@ impl<K, V> Store<K, V> {
     {
         match self {
             Store::Plain(pairs) => pairs.pop(),
-            Store::Hashed(hashed) => {
-                let pair = hashed.pairs.pop_back()?;
-                hashed.table.pop();
-                Some(pair)
-            }
+            Store::Hashed(hashed) => hashed.pop(),
         }
     }
 
     /// The members in order, as a list.
+    #[inline(always)]
     pub fn into_vec(self) -> Vec<(K, V)>
         ensures pairs { result.items ≡ pairs_of self }
         ensures place { HasPlace self → vec_len result < vec_capacity result }
     {
         match self {
             Store::Plain(pairs) => pairs,
-            Store::Hashed(hashed) => {
-                let Hashed { pairs, table: _ } = Box::into_inner(hashed);
-                pairs.into_vec()
-            }
+            Store::Hashed(hashed) => list_of(hashed),
         }
     }
+}
+
+// What only members with an index need stands apart, so that it takes no room in a caller.
+impl<K, V> Hashed<K, V> {
+    /// The members in order, in the two parts of the ring.
+    #[inline(never)]
+    fn as_slices(&self) -> (&[(K, V)], &[(K, V)])
+        ensures { result.0.now ++ result.1.now ≡ self.now.pairs.items }
+    {
+        self.pairs.as_slices()
+    }
+
+    /// Takes the last member out, and its hash.
+    #[inline(never)]
+    fn pop(&mut self) -> Option<(K, V)>
+        requires table { IsTable self.old.table }
+        requires same { length (hashes_in self.old.table) ≡ length self.old.pairs.items }
+        ensures pairs { self.old.pairs.items ≡ self.new.pairs.items ++ option_to_list result }
+        ensures rest { self.new.pairs.items ≡ take (length self.old.pairs.items - 1) self.old.pairs.items }
+        ensures none { IfNone result (self.new.pairs.items ≡ []) }
+        ensures hashes { hashes_in self.new.table ≡ take (length (hashes_in self.old.table) - 1) (hashes_in self.old.table) }
+        ensures table { IsTable self.new.table }
+        ensures buckets { length self.new.table.heads.items ≡ length self.old.table.heads.items }
+    {
+        let pair = self.pairs.pop_back()?;
+        self.table.pop();
+        Some(pair)
+    }
+}
+
+/// The members in order, without their index.
+#[inline(never)]
+fn list_of<K, V>(hashed: Box<Hashed<K, V>>) -> Vec<(K, V)>
+    ensures pairs { result.items ≡ hashed.value.pairs.items }
+    ensures place { deque_len hashed.value.pairs < deque_capacity hashed.value.pairs → vec_len result < vec_capacity result }
+{
+    let Hashed { pairs, table: _ } = Box::into_inner(hashed);
+    pairs.into_vec()
 }
