@@ -28,6 +28,7 @@ pub mod ItemPlaces
 pub mod MemberPlaces
 pub mod Stretched
 pub mod Tagged
+pub mod Ahead
 pub mod Tags
 pub mod Texts
 pub mod Units

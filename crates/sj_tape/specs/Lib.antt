@@ -8,6 +8,7 @@ pub mod Lanes
 pub mod Parts
 pub mod Places
 pub mod Tags
+pub mod Ahead
 pub mod Fronts
 pub mod Value
 pub mod Items

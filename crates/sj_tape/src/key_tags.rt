@@ -14,7 +14,7 @@ use std::alloc::Global;
 
 /// How many nodes a member has on an average, its key's too, where tags are kept. Narrower ones are
 /// searched fast without, and are read so fast that tags would cost a fourth of it.
-const WIDE: usize = 4;
+pub(crate) const WIDE: usize = 4;
 
 /// The tags of the keys of an object's first members, the places of some of these, counted from the
 /// first one's, and where the members behind them begin.

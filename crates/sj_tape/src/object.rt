@@ -7,9 +7,11 @@ ghost use Rattle.sj_text_core.specs.Nodes.{AreMembers, members_in};
 ghost use Rattle.sj_text_core.specs.Tree.{members_len};
 ghost use Rattle.sj_tape.specs.Stretches.{nodes_in};
 
+use crate::kept::{Kept, kept_at};
 use crate::key_tags::KeyTags;
 use crate::landmarks::MANY_MEMBERS;
 use crate::nodes::Nodes;
+use crate::packed::Packed;
 use crate::value::Value;
 use sj_text_core::{Repeats, are_same_texts};
 
@@ -31,8 +33,11 @@ impl<'t, 'i> Object<'t, 'i> {
     ghost use Rattle.sj_text_core.specs.Repeats.{find_member_by};
     ghost use Rattle.sj_text_core.specs.Tree.{Tree, no_members, paired};
     ghost use Rattle.sj_tape.specs.Members.{members, members_ahead, keys_ahead, values_ahead, object_choice, parts_ahead, value_parts_ahead, chosen};
+    ghost use Rattle.sj_tape.specs.Ahead.{tree_from};
+    ghost use Rattle.sj_tape.specs.Fronts.{BeginsTree};
+    ghost use Rattle.sj_tape.specs.Marks.{packed_marks};
     ghost use Rattle.sj_tape.specs.Tags.{IsTagged};
-    ghost use Rattle.sj_tape.specs.Value.{tree, choice};
+    ghost use Rattle.sj_tape.specs.Value.{tree, choice, part};
 
     /// The object with so many members, whose nodes are these.
     #[inline(always)]
@@ -75,30 +80,34 @@ impl<'t, 'i> Object<'t, 'i> {
         }
     }
 
-    /// The members from the one on whose nodes begin at that place.
-    pub(crate) fn iter_from(&self, place: usize) -> Iter<'t, 'i>
-        requires inside { place ≤ length (nodes_in self.now.nodes) }
-        requires are { AreMembers (drop place (nodes_in self.now.nodes)) }
-        ensures { parts_ahead result ≡ chosen (object_choice self.now) (paired (members_in (drop place (nodes_in self.now.nodes)))) }
+    /// The nodes of its members, where they are packed.
+    #[inline(always)]
+    pub(crate) fn packed(&self) -> Option<&'t [Packed<'i>]>
+        ensures nodes { IfSome result (λ p. packed_marks p.now ≡ nodes_in self.now.nodes) }
+        ensures are { IfSome result (λ p. AreMembers (packed_marks p.now)) }
     {
-        Iter {
-            nodes: self.nodes.from(place),
-            repeats: self.repeats,
-        }
+        self.nodes.packed()
     }
 
-    /// The tags that are kept of the keys, where the first member of a key counts; else None.
+    /// The value at that place among its nodes, which are these.
+    #[inline(always)]
+    pub(crate) fn value_at(&self, nodes: &[Packed<'i>], place: usize) -> Value<'t, 'i>
+        requires nodes { packed_marks nodes.now ≡ nodes_in self.now.nodes }
+        requires begins { BeginsTree (drop place (packed_marks nodes.now)) }
+        ensures { part result ≡ (object_choice self.now, tree_from (packed_marks nodes.now) place) }
+    {
+        let width = kept_at(nodes, place).width();
+        Value::at(&self.nodes, place, width, self.repeats)
+    }
+
+    /// The tags that are kept of the keys.
     pub(crate) fn key_tags(&self) -> Option<&'t KeyTags>
-        ensures tagged { IfSome result (λ k. IsTagged (nodes_in self.now.nodes) k.now) }
-        ensures first { IfSome result (λ _. object_choice self.now ≡ Repeats.First) }
+        ensures { IfSome result (λ k. IsTagged (nodes_in self.now.nodes) k.now) }
     {
         if self.len < MANY_MEMBERS {
             return None;
         }
-        match self.repeats {
-            Repeats::First => self.nodes.key_tags(),
-            Repeats::Last => None,
-        }
+        self.nodes.key_tags()
     }
 
     /// The keys in order, repeats too.
@@ -208,44 +217,6 @@ impl<'t, 'i> Iterator for Iter<'t, 'i> {
             unreachable!()
         };
         Some((name, Value::take(&mut self.nodes, 1, self.repeats)))
-    }
-}
-
-impl<'t, 'i> Iter<'t, 'i> {
-    ghost use Rattle.std.specs.Prelude.{◌≡◌, ◌∷◌, [], IfNone, IfSome};
-    ghost use Rattle.sj_tape.specs.Members.{parts_ahead};
-    ghost use Rattle.sj_tape.specs.Value.{part};
-
-    /// The next member, where its value has so many nodes; else it stays.
-    // Whoever asks with one width again and again waits for no node to know the next one's place.
-    #[inline(always)]
-    pub(crate) fn next_wide(&mut self, width: usize) -> Option<(&'i str, Value<'t, 'i>)>
-        ensures none { IfNone result (parts_ahead self.new ≡ parts_ahead self.old) }
-        ensures some { IfSome result (λ p. parts_ahead self.old ≡ (p.0.now, part p.1) ∷ parts_ahead self.new) }
-    {
-        if self.nodes.is_empty() {
-            return None;
-        }
-        let Some(name) = self.nodes.text_at(0) else {
-            unreachable!()
-        };
-        if self.nodes.width_at(1) != width {
-            return None;
-        }
-        let value = Value::take_wide(&mut self.nodes, 1, width, self.repeats);
-        Some((name, value))
-    }
-
-    /// The next member. Where its value has so many nodes, the one behind it waits for none of them.
-    #[inline(always)]
-    pub(crate) fn next_after(&mut self, width: usize) -> Option<(&'i str, Value<'t, 'i>)>
-        ensures none { IfNone result (parts_ahead self.old ≡ []) }
-        ensures some { IfSome result (λ p. parts_ahead self.old ≡ (p.0.now, part p.1) ∷ parts_ahead self.new) }
-    {
-        match self.next_wide(width) {
-            Some(member) => Some(member),
-            None => self.next(),
-        }
     }
 }
 

@@ -1,16 +1,25 @@
 //! Lookups by key.
 
-ghost use Rattle.std.specs.Prelude.{◌≡◌, ◌+◌, ◌<◌, ◌≤◌, bytes_eq, length, option_map, Some, IfNone, IfSome};
-ghost use Rattle.std.specs.Option.{option_or};
-ghost use Rattle.sj_text_core.specs.Repeats.{find_member_by, visited_by};
+ghost use Rattle.std.specs.Prelude.{◌≡◌, ◌+◌, ◌<◌, ◌≤◌, bytes_eq, drop, length, option_map, IfSome};
+ghost use Rattle.sj_text_core.specs.Find.{find_member};
+ghost use Rattle.sj_text_core.specs.Nodes.{AreMembers, members_in};
+ghost use Rattle.sj_text_core.specs.Repeats.{find_last_member, find_member_by, visited, visited_by};
+ghost use Rattle.sj_text_core.specs.Tree.{members_len};
+ghost use Rattle.sj_tape.specs.Ahead.{part_from, tree_from};
+ghost use Rattle.sj_tape.specs.Fronts.{BeginsTree};
 ghost use Rattle.sj_tape.specs.Lookup.{first_value, last_value, compared};
+ghost use Rattle.sj_tape.specs.Marks.{packed_marks};
 ghost use Rattle.sj_tape.specs.Members.{members, object_choice, parts_ahead};
+ghost use Rattle.sj_tape.specs.Stretches.{nodes_in};
 ghost use Rattle.sj_tape.specs.Value.{tree, choice, part};
 
+mod places;
 mod tagged;
 
 use crate::object::{Iter, Object};
-use crate::search::tagged::first_tagged;
+use crate::packed::Packed;
+use crate::search::places::{are_wide, first_in_runs, last_in_runs, place_of_first, place_of_last};
+use crate::search::tagged::first_of_wide;
 use crate::value::Value;
 use sj_text_core::{Repeats, Steps, are_same_bytes};
 use std::marker::Brand;
@@ -25,32 +34,8 @@ fn is_key<L: Ledger>(name: &str, key: &[u8], steps: &mut Steps<L>) -> bool
     are_same_bytes(key, name.as_bytes())
 }
 
-/// The value of the first member with the key, among those ahead up to one whose value has another
-/// width. Those that are compared are passed.
-fn first_wide<'t, 'i, L: Ledger>(
-    ahead: &mut Iter<'t, 'i>,
-    width: usize,
-    key: &[u8],
-    steps: &mut Steps<L>,
-) -> Option<Value<'t, 'i>>
-    ensures found { IfSome result (λ v. Some (part v) ≡ first_value key.now (parts_ahead ahead.old)) }
-    ensures passed { IfNone result (first_value key.now (parts_ahead ahead.new) ≡ first_value key.now (parts_ahead ahead.old)) }
-    ensures found_exact { IfSome result (λ _. steps.new ≡ steps.old + compared key.now (parts_ahead ahead.old)) }
-    ensures passed_exact { IfNone result (steps.new + compared key.now (parts_ahead ahead.new) ≡ steps.old + compared key.now (parts_ahead ahead.old)) }
-    ensures fewer { length (parts_ahead ahead.new) ≤ length (parts_ahead ahead.old) }
-{
-    while let Some((name, value)) = ahead.next_wide(width) {
-        if is_key(name, key, steps) {
-            return Some(value);
-        }
-    }
-    None
-}
-
-/// The value of the first member ahead with the key. Where two values behind one another have one
-/// width, those as wide behind them are searched in one run, in which the place of the next waits for
-/// no node.
-fn first_counted<'t, 'i, L: Ledger>(
+/// The value of the first member ahead with the key, one by one: few tapes keep nodes that a caller gave.
+fn first_plain<'t, 'i, L: Ledger>(
     ahead: Iter<'t, 'i>,
     key: &[u8],
     steps: &mut Steps<L>,
@@ -58,47 +43,16 @@ fn first_counted<'t, 'i, L: Ledger>(
     ensures value { option_map part result ≡ first_value key.now (parts_ahead ahead.entry) }
     ensures exact { steps.new ≡ steps.old + compared key.now (parts_ahead ahead.entry) }
 {
-    let mut ahead = ahead;
-    let mut before = 0;
-    while let Some((name, value)) = ahead.next() {
+    for (name, value) in ahead {
         if is_key(name, key, steps) {
             return Some(value);
         }
-        let width = value.width();
-        if width == before {
-            if let Some(found) = first_wide(&mut ahead, width, key, steps) {
-                return Some(found);
-            }
-        }
-        before = width;
     }
     None
 }
 
-/// The value of the last member with the key, among those ahead up to one whose value has another
-/// width; where none of these has it, the one that was found before. They are passed.
-fn last_wide<'t, 'i, L: Ledger>(
-    ahead: &mut Iter<'t, 'i>,
-    width: usize,
-    key: &[u8],
-    before: Option<Value<'t, 'i>>,
-    steps: &mut Steps<L>,
-) -> Option<Value<'t, 'i>>
-    ensures value { option_or (last_value key.now (parts_ahead ahead.new)) (option_map part result) ≡ option_or (last_value key.now (parts_ahead ahead.old)) (option_map part before.entry) }
-    ensures exact { steps.new + length (parts_ahead ahead.new) ≡ steps.old + length (parts_ahead ahead.old) }
-    ensures fewer { length (parts_ahead ahead.new) ≤ length (parts_ahead ahead.old) }
-{
-    let mut last = before;
-    while let Some((name, value)) = ahead.next_wide(width) {
-        if is_key(name, key, steps) {
-            last = Some(value);
-        }
-    }
-    last
-}
-
-/// The value of the last member ahead with the key, which is looked for in runs as the first one is.
-fn last_counted<'t, 'i, L: Ledger>(
+/// The value of the last member ahead with the key, one by one as well.
+fn last_plain<'t, 'i, L: Ledger>(
     ahead: Iter<'t, 'i>,
     key: &[u8],
     steps: &mut Steps<L>,
@@ -106,20 +60,161 @@ fn last_counted<'t, 'i, L: Ledger>(
     ensures value { option_map part result ≡ last_value key.now (parts_ahead ahead.entry) }
     ensures exact { steps.new ≡ steps.old + length (parts_ahead ahead.entry) }
 {
-    let mut ahead = ahead;
     let mut found = None;
-    let mut before = 0;
-    while let Some((name, value)) = ahead.next() {
-        let width = value.width();
+    for (name, value) in ahead {
         if is_key(name, key, steps) {
             found = Some(value);
         }
-        if width == before {
-            found = last_wide(&mut ahead, width, key, found, steps);
-        }
-        before = width;
     }
     found
+}
+
+/// The value at the place that was found, if one was.
+#[inline(always)]
+fn value_there<'t, 'i>(
+    object: &Object<'t, 'i>,
+    nodes: &[Packed<'i>],
+    place: Option<usize>,
+) -> Option<Value<'t, 'i>>
+    requires nodes { packed_marks nodes.now ≡ nodes_in object.now.nodes }
+    requires begins { IfSome place (λ p. BeginsTree (drop p (packed_marks nodes.now))) }
+    ensures { option_map part result ≡ option_map (part_from (object_choice object.now) (packed_marks nodes.now)) place }
+{
+    match place {
+        Some(place) => Some(object.value_at(nodes, place)),
+        None => None,
+    }
+}
+
+/// The place of the value of the first member with the key, among the nodes of an object.
+#[inline(always)]
+fn place_counted<L: Ledger>(
+    nodes: &[Packed<'_>],
+    len: usize,
+    key: &[u8],
+    steps: &mut Steps<L>,
+) -> Option<usize>
+    requires { AreMembers (packed_marks nodes.now) }
+    ensures begins { IfSome result (λ p. BeginsTree (drop p (packed_marks nodes.now))) }
+    ensures value { option_map (tree_from (packed_marks nodes.now)) result ≡ find_member key.now (members_in (packed_marks nodes.now)) }
+    ensures exact { steps.new ≡ steps.old + visited key.now (members_in (packed_marks nodes.now)) }
+{
+    if are_wide(len, nodes) {
+        return first_in_runs(nodes, 0, key, steps);
+    }
+    place_of_first(nodes, 0, key, steps)
+}
+
+/// The same of the last member with the key.
+#[inline(always)]
+fn last_place_counted<L: Ledger>(
+    nodes: &[Packed<'_>],
+    len: usize,
+    key: &[u8],
+    steps: &mut Steps<L>,
+) -> Option<usize>
+    requires { AreMembers (packed_marks nodes.now) }
+    ensures begins { IfSome result (λ p. BeginsTree (drop p (packed_marks nodes.now))) }
+    ensures value { option_map (tree_from (packed_marks nodes.now)) result ≡ find_last_member key.now (members_in (packed_marks nodes.now)) }
+    ensures exact { steps.new ≡ steps.old + members_len (members_in (packed_marks nodes.now)) }
+{
+    if are_wide(len, nodes) {
+        return last_in_runs(nodes, key, steps);
+    }
+    place_of_last(nodes, 0, None, key, steps)
+}
+
+/// The same by a call, so that a look-up of a first member has no loops but its own.
+#[inline(never)]
+fn last_apart<L: Ledger>(
+    nodes: &[Packed<'_>],
+    len: usize,
+    key: &[u8],
+    steps: &mut Steps<L>,
+) -> Option<usize>
+    requires { AreMembers (packed_marks nodes.now) }
+    ensures begins { IfSome result (λ p. BeginsTree (drop p (packed_marks nodes.now))) }
+    ensures value { option_map (tree_from (packed_marks nodes.now)) result ≡ find_last_member key.now (members_in (packed_marks nodes.now)) }
+    ensures exact { steps.new ≡ steps.old + members_len (members_in (packed_marks nodes.now)) }
+{
+    last_place_counted(nodes, len, key, steps)
+}
+
+/// The place of the value of the member with the key that counts, with a step for each member that is
+/// compared.
+#[inline(always)]
+fn place_exact<L: Ledger>(
+    object: &Object<'_, '_>,
+    nodes: &[Packed<'_>],
+    key: &[u8],
+    steps: &mut Steps<L>,
+) -> Option<usize>
+    requires { AreMembers (packed_marks nodes.now) }
+    ensures begins { IfSome result (λ p. BeginsTree (drop p (packed_marks nodes.now))) }
+    ensures value { option_map (tree_from (packed_marks nodes.now)) result ≡ find_member_by (object_choice object.now) key.now (members_in (packed_marks nodes.now)) }
+    ensures exact { steps.new ≡ steps.old + visited_by (object_choice object.now) key.now (members_in (packed_marks nodes.now)) }
+{
+    match object.repeats() {
+        Repeats::First => place_counted(nodes, object.len(), key, steps),
+        Repeats::Last => last_place_counted(nodes, object.len(), key, steps),
+    }
+}
+
+/// The place of the value of the first member with the key, with at most so many steps.
+#[inline(always)]
+fn place_by_tags<L: Ledger>(
+    object: &Object<'_, '_>,
+    nodes: &[Packed<'_>],
+    key: &[u8],
+    steps: &mut Steps<L>,
+) -> Option<usize>
+    requires nodes { packed_marks nodes.now ≡ nodes_in object.now.nodes }
+    requires are { AreMembers (packed_marks nodes.now) }
+    ensures begins { IfSome result (λ p. BeginsTree (drop p (packed_marks nodes.now))) }
+    ensures value { option_map (tree_from (packed_marks nodes.now)) result ≡ find_member key.now (members_in (packed_marks nodes.now)) }
+    ensures most { steps.new ≤ steps.old + visited key.now (members_in (packed_marks nodes.now)) }
+{
+    if are_wide(object.len(), nodes) {
+        return first_of_wide(object, nodes, key, steps);
+    }
+    place_of_first(nodes, 0, key, steps)
+}
+
+/// The place of the value of the member with the key that counts. No more members are compared than
+/// `place_exact` does.
+#[inline(always)]
+fn place_at_most<L: Ledger>(
+    object: &Object<'_, '_>,
+    nodes: &[Packed<'_>],
+    key: &[u8],
+    steps: &mut Steps<L>,
+) -> Option<usize>
+    requires nodes { packed_marks nodes.now ≡ nodes_in object.now.nodes }
+    requires are { AreMembers (packed_marks nodes.now) }
+    ensures begins { IfSome result (λ p. BeginsTree (drop p (packed_marks nodes.now))) }
+    ensures value { option_map (tree_from (packed_marks nodes.now)) result ≡ find_member_by (object_choice object.now) key.now (members_in (packed_marks nodes.now)) }
+    ensures most { steps.new ≤ steps.old + visited_by (object_choice object.now) key.now (members_in (packed_marks nodes.now)) }
+{
+    match object.repeats() {
+        Repeats::First => place_by_tags(object, nodes, key, steps),
+        Repeats::Last => last_apart(nodes, object.len(), key, steps),
+    }
+}
+
+/// The value of the member with the key that counts, where a caller gave the nodes.
+#[inline(never)]
+fn find_plain<'t, 'i, L: Ledger>(
+    object: &Object<'t, 'i>,
+    key: &[u8],
+    steps: &mut Steps<L>,
+) -> Option<Value<'t, 'i>>
+    ensures value { option_map part result ≡ option_map (λ t. (object_choice object.now, t)) (find_member_by (object_choice object.now) key.now (members object.now)) }
+    ensures exact { steps.new ≡ steps.old + visited_by (object_choice object.now) key.now (members object.now) }
+{
+    match object.repeats() {
+        Repeats::First => first_plain(object.iter(), key, steps),
+        Repeats::Last => last_plain(object.iter(), key, steps),
+    }
 }
 
 /// The value of the member with the key that counts, with a step for each member that is compared.
@@ -132,9 +227,9 @@ pub(crate) fn find_counted<'t, 'i, L: Ledger>(
     ensures choice { IfSome result (λ v. choice v ≡ object_choice object.now) }
     ensures exact { steps.new ≡ steps.old + visited_by (object_choice object.now) key.now (members object.now) }
 {
-    match object.repeats() {
-        Repeats::First => first_counted(object.iter(), key, steps),
-        Repeats::Last => last_counted(object.iter(), key, steps),
+    match object.packed() {
+        Some(nodes) => value_there(object, nodes, place_exact(object, nodes, key, steps)),
+        None => find_plain(object, key, steps),
     }
 }
 
@@ -150,9 +245,9 @@ impl<'t, 'i> Object<'t, 'i> {
         ensures choice { IfSome result (λ v. choice v ≡ object_choice self.now) }
     {
         let mut steps = Steps::<L>::new(blank);
-        match self.key_tags() {
-            Some(kept) => first_tagged(self, kept, key, &mut steps),
-            None => find_counted(self, key, &mut steps),
+        match self.packed() {
+            Some(nodes) => value_there(self, nodes, place_at_most(self, nodes, key, &mut steps)),
+            None => find_plain(self, key, &mut steps),
         }
     }
 

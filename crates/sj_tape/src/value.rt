@@ -30,6 +30,7 @@ impl<'t, 'i> Value<'t, 'i> {
     ghost use Rattle.std.specs.Prelude.{◌≡◌, ◌++◌, drop, get_or};
     ghost use Rattle.sj_text_core.specs.Nodes.{tree_of, nothing, width as node_width};
     ghost use Rattle.sj_text_core.specs.Tree.{null};
+    ghost use Rattle.sj_tape.specs.Ahead.{tree_from};
     ghost use Rattle.sj_tape.specs.Fronts.{BeginsTree};
     ghost use Rattle.sj_tape.specs.Value.{tree, choice, part};
 
@@ -88,10 +89,14 @@ impl<'t, 'i> Value<'t, 'i> {
         }
     }
 
-    /// How many nodes the part has.
+    /// The tree at that place, which has `width` nodes.
     #[inline(always)]
-    pub(crate) fn width(&self) -> usize {
-        self.nodes.len()
+    pub(crate) fn at(nodes: &Nodes<'t, 'i>, place: usize, width: usize, repeats: Repeats) -> Self
+        requires begins { BeginsTree (drop place (nodes_in nodes.now)) }
+        requires wide { width ≡ node_width (get_or (nodes_in nodes.now) place nothing) }
+        ensures { part result ≡ (repeats, tree_from (nodes_in nodes.now) place) }
+    {
+        Value::from_nodes(nodes.between(place, place + width), repeats)
     }
 
     /// Which member of several with one key counts.

@@ -1,34 +1,36 @@
-use Rattle.std.proofs.Common.{sym, ◌∙◌}
+use Rattle.std.proofs.Common.{◌≡◌, ◌+◌, ap, sym, ◌∙◌, arith, option_map, List, ℕ, length}
+use Rattle.sj_text_core.specs.Nodes.{members_in}
+use Rattle.sj_text_core.specs.Repeats.{find_member_by, visited_by}
+use Rattle.sj_text_core.specs.Tree.{Tree}
+use Rattle.sj_text_core.specs.declared.repeats.Repeats.{Repeats}
+use Rattle.sj_tape.specs.Lookup.{first_value, last_value, compared}
+use Rattle.sj_tape.specs.Marks.{packed_marks}
 use Rattle.sj_tape.specs.Members.{members, object_choice}
-use Rattle.sj_tape.proofs.Lookups.{first_found, last_found, first_counts, last_counts}
+use Rattle.sj_tape.proofs.Ahead.{parts_there}
+use Rattle.sj_tape.proofs.Lookups.{Found, found_by, first_value-chosen, last_value-chosen, compared-chosen, length-chosen}
 use Rattle.sj_tape.proofs.search.find_counted.Goals as goal
 
-pub returns-in-First-clause-value : goal.returns-in-First-clause-value
-returns-in-First-clause-value g c =
+pub returns-in-Some-clause-value : goal.returns-in-Some-clause-value
+returns-in-Some-clause-value g c =
     let o = c.args.object.now in
-    (first_found (object_choice o) c.args.key.now c.first_counted.result _ (members o) c.iter.ensures.parts (sym c.in-First.is ∙ c.repeats.ensures) c.first_counted.ensures.value).value
+    (found_by (object_choice o) c.value_there.result (find_member_by (object_choice o) c.args.key.now (members o))
+    (c.value_there.ensures ∙ parts_there (object_choice o) (packed_marks c.in-Some.nodes.now) c.place_exact.result _ c.place_exact.ensures.value
+    ∙ ap (λ ns. option_map (λ (t : Tree). (object_choice o, t)) (find_member_by (object_choice o) c.args.key.now (members_in ns))) c.in-Some.ensures.nodes)).value
 
-pub returns-in-First-clause-choice : goal.returns-in-First-clause-choice
-returns-in-First-clause-choice g c =
+pub returns-in-Some-clause-choice : goal.returns-in-Some-clause-choice
+returns-in-Some-clause-choice g c =
     let o = c.args.object.now in
-    (first_found (object_choice o) c.args.key.now c.first_counted.result _ (members o) c.iter.ensures.parts (sym c.in-First.is ∙ c.repeats.ensures) c.first_counted.ensures.value).choice_is
+    (found_by (object_choice o) c.value_there.result (find_member_by (object_choice o) c.args.key.now (members o))
+    (c.value_there.ensures ∙ parts_there (object_choice o) (packed_marks c.in-Some.nodes.now) c.place_exact.result _ c.place_exact.ensures.value
+    ∙ ap (λ ns. option_map (λ (t : Tree). (object_choice o, t)) (find_member_by (object_choice o) c.args.key.now (members_in ns))) c.in-Some.ensures.nodes)).choice_is
 
-pub returns-in-First-clause-exact : goal.returns-in-First-clause-exact
-returns-in-First-clause-exact g c =
-    let o = c.args.object.now in
-    first_counts (object_choice o) c.args.key.now c.first_counted.result _ (members o) c.iter.ensures.parts (sym c.in-First.is ∙ c.repeats.ensures) _ _ c.first_counted.ensures.exact
+pub returns-in-None-clause-value : goal.returns-in-None-clause-value
+returns-in-None-clause-value g c = (found_by (object_choice c.args.object.now) c.find_plain.result _ c.find_plain.ensures.value).value
 
-pub returns-in-Last-clause-value : goal.returns-in-Last-clause-value
-returns-in-Last-clause-value g c =
-    let o = c.args.object.now in
-    (last_found (object_choice o) c.args.key.now c.last_counted.result _ (members o) c.iter-in-Last.ensures.parts (sym c.in-Last.is ∙ c.repeats.ensures) c.last_counted.ensures.value).value
+pub returns-in-None-clause-choice : goal.returns-in-None-clause-choice
+returns-in-None-clause-choice g c = (found_by (object_choice c.args.object.now) c.find_plain.result _ c.find_plain.ensures.value).choice_is
 
-pub returns-in-Last-clause-choice : goal.returns-in-Last-clause-choice
-returns-in-Last-clause-choice g c =
+pub returns-in-Some-clause-exact : goal.returns-in-Some-clause-exact
+returns-in-Some-clause-exact g c =
     let o = c.args.object.now in
-    (last_found (object_choice o) c.args.key.now c.last_counted.result _ (members o) c.iter-in-Last.ensures.parts (sym c.in-Last.is ∙ c.repeats.ensures) c.last_counted.ensures.value).choice_is
-
-pub returns-in-Last-clause-exact : goal.returns-in-Last-clause-exact
-returns-in-Last-clause-exact g c =
-    let o = c.args.object.now in
-    last_counts (object_choice o) c.args.key.now c.last_counted.result _ (members o) c.iter-in-Last.ensures.parts (sym c.in-Last.is ∙ c.repeats.ensures) _ _ c.last_counted.ensures.exact
+    omega (arith, c.place_exact.ensures.exact, ap (λ ns. visited_by (object_choice o) c.args.key.now (members_in ns)) c.in-Some.ensures.nodes)

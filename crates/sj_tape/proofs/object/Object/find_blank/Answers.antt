@@ -1,22 +1,31 @@
-use Rattle.std.proofs.Common.{◌≡◌, option_map, refl, sym}
-use Rattle.sj_text_core.specs.Tree.{paired}
-use Rattle.sj_tape.specs.Lookup.{first_value}
-use Rattle.sj_tape.specs.Members.{chosen, members, object_choice}
-use Rattle.sj_tape.specs.Value.{part}
-use Rattle.sj_tape.proofs.Lookups.{Found, first_found}
-use Rattle.sj_text_core.specs.Repeats.{find_member_by}
-use Rattle.sj_tape.proofs.object.Object.find_blank.Given.{Over}
+use Rattle.std.proofs.Common.{◌≡◌, ◌+◌, ap, sym, ◌∙◌, arith, option_map, List, ℕ, length}
+use Rattle.sj_text_core.specs.Nodes.{members_in}
+use Rattle.sj_text_core.specs.Repeats.{find_member_by, visited_by}
+use Rattle.sj_text_core.specs.Tree.{Tree}
+use Rattle.sj_text_core.specs.declared.repeats.Repeats.{Repeats}
+use Rattle.sj_tape.specs.Lookup.{first_value, last_value, compared}
+use Rattle.sj_tape.specs.Marks.{packed_marks}
+use Rattle.sj_tape.specs.Members.{members, object_choice}
+use Rattle.sj_tape.proofs.Ahead.{parts_there}
+use Rattle.sj_tape.proofs.Lookups.{Found, found_by, first_value-chosen, last_value-chosen, compared-chosen, length-chosen}
 use Rattle.sj_tape.proofs.object.Object.find_blank.Goals as goal
 
-by_tags : (g : Over) (c : goal.After-drop-steps-inside-in-Some g) → Found (object_choice c.args.self.now) c.first_tagged.result (find_member_by (object_choice c.args.self.now) c.args.key.now (members c.args.self.now))
-by_tags g c =
-    let o = c.args.self.now in
-    let value : option_map part c.first_tagged.result ≡ first_value c.args.key.now (chosen (object_choice o) (paired (members o))) =
-    c.first_tagged.ensures in
-    first_found (object_choice o) c.args.key.now c.first_tagged.result (chosen (object_choice o) (paired (members o))) (members o) refl (sym c.in-Some.ensures.first) value
-
 pub returns-in-Some-clause-value : goal.returns-in-Some-clause-value
-returns-in-Some-clause-value g c = (by_tags g c).value
+returns-in-Some-clause-value g c =
+    let o = c.args.self.now in
+    (found_by (object_choice o) c.value_there.result (find_member_by (object_choice o) c.args.key.now (members o))
+    (c.value_there.ensures ∙ parts_there (object_choice o) (packed_marks c.in-Some.nodes.now) c.place_at_most.result _ c.place_at_most.ensures.value
+    ∙ ap (λ ns. option_map (λ (t : Tree). (object_choice o, t)) (find_member_by (object_choice o) c.args.key.now (members_in ns))) c.in-Some.ensures.nodes)).value
 
 pub returns-in-Some-clause-choice : goal.returns-in-Some-clause-choice
-returns-in-Some-clause-choice g c = (by_tags g c).choice_is
+returns-in-Some-clause-choice g c =
+    let o = c.args.self.now in
+    (found_by (object_choice o) c.value_there.result (find_member_by (object_choice o) c.args.key.now (members o))
+    (c.value_there.ensures ∙ parts_there (object_choice o) (packed_marks c.in-Some.nodes.now) c.place_at_most.result _ c.place_at_most.ensures.value
+    ∙ ap (λ ns. option_map (λ (t : Tree). (object_choice o, t)) (find_member_by (object_choice o) c.args.key.now (members_in ns))) c.in-Some.ensures.nodes)).choice_is
+
+pub returns-clause-value : goal.returns-clause-value
+returns-clause-value g c = (found_by (object_choice c.args.self.now) c.find_plain.result _ c.find_plain.ensures.value).value
+
+pub returns-clause-choice : goal.returns-clause-choice
+returns-clause-choice g c = (found_by (object_choice c.args.self.now) c.find_plain.result _ c.find_plain.ensures.value).choice_is
