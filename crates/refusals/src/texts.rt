@@ -20,23 +20,26 @@ pub fn text_of(alloc: Global, name: &str) -> Result<Vec<u8>, Fault> {
     }
 }
 
-/// An array of so many objects, each with its position as the member `n`.
+/// An array of so many objects, each with its position as the member `n` and a list as another.
 fn records(alloc: Global, items: usize) -> Result<Vec<u8>, AllocError> {
     let mut text = String::from_str(alloc, "[")?;
     for i in 0..items {
         let comma = if i == 0 { "" } else { "," };
-        text.push_str(format!(in alloc; "{comma}{{\"n\":{i}}}")?.as_str())?;
+        text.push_str(format!(in alloc; "{comma}{{\"n\":{i},\"list\":[1,2,3,4,5,6]}}")?.as_str())?;
     }
     text.push(']')?;
     Ok(text.into_bytes())
 }
 
-/// An object of so many members, each an object with its position as the member `n`.
+/// An object of so many members, each an object with its position as the member `n` and a list as
+/// another.
 fn named_records(alloc: Global, members: usize) -> Result<Vec<u8>, AllocError> {
     let mut text = String::from_str(alloc, "{")?;
     for i in 0..members {
         let comma = if i == 0 { "" } else { "," };
-        text.push_str(format!(in alloc; "{comma}\"key {i}\":{{\"n\":{i}}}")?.as_str())?;
+        text.push_str(format!(in alloc;
+            "{comma}\"key {i}\":{{\"n\":{i},\"list\":[1,2,3,4,5,6]}}"
+        )?.as_str())?;
     }
     text.push('}')?;
     Ok(text.into_bytes())

@@ -8,7 +8,7 @@ ghost use Rattle.sj_fault.specs.Place.{line_of, column_of};
 use crate::fault::{Fault, fault_at};
 use crate::place::{column, line};
 use crate::scanner::Scanner;
-use sj_tape::to_tape;
+use sj_tape::to_bare_tape;
 use sj_text_core::ErrorKind;
 use std::alloc::{AllocError, Global};
 
@@ -45,7 +45,7 @@ fn refusal(alloc: Global, mut text: Vec<u8>) -> Result<Option<ErrorKind>, AllocE
     ensures none { IfOk result (λ o. IfNone o (IsReadable text.items)) }
     ensures some { IfOk result (λ o. IfSome o (λ e. ¬ (IsReadable text.items))) }
 {
-    match to_tape(alloc, &mut text) {
+    match to_bare_tape(alloc, &mut text) {
         Ok(_) => Ok(None),
         Err(ErrorKind::OutOfMemory) => Err(AllocError),
         Err(ErrorKind::InvalidUtf8) => Ok(Some(ErrorKind::InvalidUtf8)),

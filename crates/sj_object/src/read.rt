@@ -9,7 +9,7 @@ ghost use Rattle.sj_text_core.specs.Repeats.{keep_by};
 use crate::build::build_from_tape;
 use crate::builder::Builder;
 use crate::key::KeyOf;
-use sj_tape::{Buffers, to_tape, to_tape_with_buffers};
+use sj_tape::{Buffers, to_bare_tape, to_bare_tape_with_buffers};
 use sj_text_core::{ErrorKind, Repeats};
 use std::alloc::Global;
 
@@ -46,7 +46,7 @@ pub fn deserialize_repeats<'de, V: Builder<'de, Key>, Key: KeyOf<'de>>(
     ensures utf8 { IsErrOf result ErrorKind.InvalidUtf8 ↔ ¬ (IsUtf8 bytes.old) }
     ensures err { IfErr result (λ e. e ≢ ErrorKind.InvalidUtf8 → e ≢ ErrorKind.OutOfMemory → ¬ (IsReadable bytes.old)) }
 {
-    let tape = to_tape(alloc, bytes)?;
+    let tape = to_bare_tape(alloc, bytes)?;
     match build_from_tape::<V, Key>(alloc, tape.as_value_repeats(repeats)) {
         Ok(value) => Ok(value),
         Err(_) => Err(ErrorKind::OutOfMemory),
@@ -68,7 +68,7 @@ pub fn deserialize_with_buffers<'de, V: Builder<'de, Key>, Key: KeyOf<'de>>(
     ensures utf8 { IsErrOf result ErrorKind.InvalidUtf8 ↔ ¬ (IsUtf8 bytes.old) }
     ensures err { IfErr result (λ e. e ≢ ErrorKind.InvalidUtf8 → e ≢ ErrorKind.OutOfMemory → ¬ (IsReadable bytes.old)) }
 {
-    let tape = to_tape_with_buffers(alloc, bytes, buffers)?;
+    let tape = to_bare_tape_with_buffers(alloc, bytes, buffers)?;
     match build_from_tape::<V, Key>(alloc, tape.as_value()) {
         Ok(value) => Ok(value),
         Err(_) => Err(ErrorKind::OutOfMemory),

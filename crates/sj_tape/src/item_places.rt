@@ -12,6 +12,10 @@ use crate::landmarks::{Begins, FREE_CHANGES, MANY_ITEMS, PER_CHANGE, STEP, index
 use crate::packed::Packed;
 use std::alloc::Global;
 
+/// How many nodes an item has on an average at least where places are kept. An array of narrower ones
+/// is read so fast that they would cost more than one in twenty of it.
+const WIDE: usize = 5;
+
 /// The places of some items of an array, counted from the first item's.
 #[derive(Drop)]
 pub(crate) struct ArrayPlaces {
@@ -105,8 +109,7 @@ fn places_of<'i, N: Kept<'i>>(alloc: Global, nodes: &[N], len: usize) -> Option<
     Some(places)
 }
 
-/// The places of the array that begins with the node there, where it has many items that are not
-/// scalars alone.
+/// The places of the array that begins with the node there, where it has many items that are wide.
 pub(crate) fn array_at(alloc: Global, nodes: &[Packed<'_>], at: usize) -> Option<ArrayPlaces>
     requires tree { IsPreorder (packed_marks nodes.now) }
     requires at { at < length (packed_marks nodes.now) }
@@ -116,7 +119,7 @@ pub(crate) fn array_at(alloc: Global, nodes: &[Packed<'_>], at: usize) -> Option
     let len = node.array_len()?;
     let start = at + 1;
     let end = at + node.width();
-    if len < MANY_ITEMS || len == end - start {
+    if len < MANY_ITEMS || (end - start) / WIDE < len {
         return None;
     }
     let places = places_of(alloc, between(nodes, start, end), len)?;

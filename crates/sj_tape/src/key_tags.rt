@@ -12,9 +12,9 @@ use crate::packed::Packed;
 use crate::tag::tag_of;
 use std::alloc::Global;
 
-/// How many nodes a member has on an average, its key's too, where tags are kept. Narrower ones are
-/// searched fast without, and are read so fast that tags would cost a fourth of it.
-pub(crate) const WIDE: usize = 4;
+/// How many nodes a member has on an average at least, its key's too, where tags are kept. An object of
+/// narrower ones is read so fast that they would cost more than one in twenty of it.
+const WIDE: usize = 12;
 
 /// The tags of the keys of an object's first members, the places of some of these, counted from the
 /// first one's, and where the members behind them begin.

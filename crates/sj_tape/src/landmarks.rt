@@ -1,6 +1,6 @@
 //! Landmarks: the places of items and the tags of keys that are kept of large arrays and objects.
 
-ghost use Rattle.std.specs.Prelude.{◌≡◌, ◌+◌, ◌<◌, ◌≤◌, length};
+ghost use Rattle.std.specs.Prelude.{◌≡◌, ◌+◌, ◌<◌, ◌≤◌, length, IfSome};
 ghost use Rattle.sj_text_core.specs.Nodes.{IsPreorder};
 ghost use Rattle.sj_tape.specs.Marks.{packed_marks};
 ghost use Rattle.sj_tape.specs.Places.{AllPlaced};
@@ -33,6 +33,16 @@ const MOST: usize = 64;
 
 /// How many members an object has at most in which large arrays and objects are looked for.
 const FEW: usize = 64;
+
+/// Of so many nodes one is looked at, at most, where large arrays and objects are looked for.
+const PER_LOOK: usize = 32;
+
+/// The landmarks of a tape.
+#[derive(Drop)]
+pub(crate) struct Landmarks {
+    pub(crate) arrays: Vec<ArrayPlaces>,
+    pub(crate) objects: Vec<KeyTags>,
+}
 
 /// Landmarks of an array or an object, by where its items or members begin among the nodes.
 pub(crate) trait Begins {
@@ -81,23 +91,32 @@ fn keep_landmarks(
 }
 
 /// The landmarks of the large arrays and objects that stand in nothing but objects of few members, up
-/// to the first so many of either.
-pub(crate) fn landmarks_in(alloc: Global, nodes: &[Packed<'_>]) -> (Vec<ArrayPlaces>, Vec<KeyTags>)
+/// to the first so many of either. Of the nodes one in so many is looked at on the way to them. None
+/// where there are none, or where memory for them is refused.
+pub(crate) fn landmarks_in(alloc: Global, nodes: &[Packed<'_>]) -> Option<Box<Landmarks>>
     requires { IsPreorder (packed_marks nodes.now) }
-    ensures placed { AllPlaced (packed_marks nodes.now) result.0.items }
-    ensures tagged { AllTagged (packed_marks nodes.now) result.1.items }
+    ensures placed { IfSome result (λ b. AllPlaced (packed_marks nodes.now) b.value.arrays.items) }
+    ensures tagged { IfSome result (λ b. AllTagged (packed_marks nodes.now) b.value.objects.items) }
 {
+    if nodes.len() <= MANY_ITEMS {
+        return None;
+    }
     let mut arrays = Vec::new(alloc);
     let mut objects = Vec::new(alloc);
     let mut at = 0;
-    while at < nodes.len() && arrays.len().max(objects.len()) < MOST {
+    let mut left = nodes.len() / PER_LOOK;
+    while at < nodes.len() && left > 0 && arrays.len().max(objects.len()) < MOST {
+        left -= 1;
         let width = width_at(nodes, at);
         if width > MANY_ITEMS {
             keep_landmarks(alloc, nodes, at, &mut arrays, &mut objects);
         }
         at += step_at(nodes, at, width);
     }
-    (arrays, objects)
+    if arrays.is_empty() && objects.is_empty() {
+        return None;
+    }
+    Box::new(alloc, Landmarks { arrays, objects }).ok()
 }
 
 /// How many nodes the tree has that begins with the node there.

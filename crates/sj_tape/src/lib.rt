@@ -40,7 +40,10 @@ pub use array::Array;
 pub use node::Node;
 pub use nodes::Nodes;
 pub use object::Object;
-pub use reader::{Buffers, DEPTH_LIMIT, Spare, to_tape, to_tape_with_buffers, to_tape_with_spare};
+pub use reader::{
+    Buffers, DEPTH_LIMIT, Spare, to_bare_tape, to_bare_tape_with_buffers, to_tape,
+    to_tape_with_buffers, to_tape_with_spare,
+};
 pub use sj_print::{
     BaseGenerator, DumpGenerator, PrettyGenerator, PrettyWriterGenerator, WriterGenerator,
 };

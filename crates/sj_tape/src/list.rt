@@ -1,6 +1,7 @@
 //! The nodes of a whole tape.
 
 ghost use Rattle.std.specs.Prelude.{◌≡◌, ◌≤◌, drop, take, IfSome};
+ghost use Rattle.std.specs.Option.{ForSome};
 ghost use Rattle.sj_text_core.specs.Nodes.{IsPreorder};
 ghost use Rattle.sj_text_core.specs.Tree.{items_len};
 ghost use Rattle.sj_tape.specs.Marks.{packed_marks};
@@ -8,32 +9,29 @@ ghost use Rattle.sj_tape.specs.Parts.{AreItemNodes, ItemsFrom, items_in};
 ghost use Rattle.sj_tape.specs.Places.{AllPlaced};
 ghost use Rattle.sj_tape.specs.Tags.{AllTagged, IsTagged};
 
-use crate::item_places::{ArrayPlaces, place_before};
+use crate::item_places::place_before;
 use crate::key_tags::{KeyTags, tags_of_object};
-use crate::landmarks::landmarks_in;
+use crate::landmarks::{Landmarks, landmarks_in};
 use crate::node::Node;
 use crate::packed::Packed;
-use std::alloc::Global;
 use std::fmt;
 
-/// Packed nodes, places of items of the arrays among them, and tags of keys of the objects.
+/// Packed nodes, and the places of items and tags of keys that are kept of them.
 pub(crate) struct PackedList<'i> {
     nodes: Vec<Packed<'i>>,
-    arrays: Vec<ArrayPlaces>,
-    objects: Vec<KeyTags>,
-    ghost placed: { AllPlaced (packed_marks nodes.items) arrays.items },
-    ghost tagged: { AllTagged (packed_marks nodes.items) objects.items },
+    landmarks: Option<Box<Landmarks>>,
+    ghost placed: { ForSome landmarks (λ b. AllPlaced (packed_marks nodes.items) b.value.arrays.items) },
+    ghost tagged: { ForSome landmarks (λ b. AllTagged (packed_marks nodes.items) b.value.objects.items) },
 }
 
 impl<'i> PackedList<'i> {
     /// The nodes, without places and tags.
-    pub(crate) fn new(alloc: Global, nodes: Vec<Packed<'i>>) -> PackedList<'i>
+    pub(crate) fn new(nodes: Vec<Packed<'i>>) -> PackedList<'i>
         ensures { result.nodes ≡ nodes.entry }
     {
         PackedList {
             nodes,
-            arrays: Vec::new(alloc),
-            objects: Vec::new(alloc),
+            landmarks: None,
         }
     }
 
@@ -43,12 +41,8 @@ impl<'i> PackedList<'i> {
         requires { IsPreorder (packed_marks nodes.items) }
         ensures { result.nodes ≡ nodes.entry }
     {
-        let (arrays, objects) = landmarks_in(*nodes.allocator(), &nodes);
-        PackedList {
-            nodes,
-            arrays,
-            objects,
-        }
+        let landmarks = landmarks_in(*nodes.allocator(), &nodes);
+        PackedList { nodes, landmarks }
     }
 
     /// The nodes.
@@ -67,7 +61,12 @@ impl<'i> PackedList<'i> {
         ensures before { result.0 ≤ position }
         ensures there { ItemsFrom (drop start (take end (packed_marks self.now.nodes.items))) result.0 result.1 }
     {
-        place_before(&self.arrays, &self.nodes, start, end, position)
+        match &self.landmarks {
+            Some(landmarks) => {
+                place_before(&landmarks.arrays, &self.nodes, start, end, position)
+            }
+            None => place_before(&[], &self.nodes, start, end, position),
+        }
     }
 
     /// The tags that are kept of the object whose members' nodes are those from `start` on and before
@@ -75,15 +74,17 @@ impl<'i> PackedList<'i> {
     pub(crate) fn key_tags(&self, start: usize, end: usize) -> Option<&KeyTags>
         ensures { IfSome result (λ k. IsTagged (drop start (take end (packed_marks self.now.nodes.items))) k.now) }
     {
-        tags_of_object(&self.objects, &self.nodes, start, end)
+        match &self.landmarks {
+            Some(landmarks) => tags_of_object(&landmarks.objects, &self.nodes, start, end),
+            None => None,
+        }
     }
 
     /// The nodes; the places and tags are let go.
     pub(crate) fn into_nodes(self) -> Vec<Packed<'i>> {
         let PackedList {
             nodes,
-            arrays: _,
-            objects: _,
+            landmarks: _,
         } = self;
         nodes
     }
@@ -94,8 +95,7 @@ impl<'i> Drop for PackedList<'i> {
     fn drop(self) {
         let PackedList {
             nodes: _,
-            arrays: _,
-            objects: _,
+            landmarks: _,
         } = self;
     }
 }

@@ -14,11 +14,13 @@ mod text;
 mod value;
 
 ghost use Rattle.std.specs.Prelude.{◌≡◌, ◌≢◌, ◌↔◌, length, max, IfOk, IfErr, OnErr, IsErrOf, IsUtf8};
-ghost use Rattle.sj_text_core.specs.Nodes.{flat};
+ghost use Rattle.sj_text_core.specs.Nodes.{flat, tree_of, IsPreorder};
 ghost use Rattle.sj_text_core.specs.Tree.{Tree, IsWithin};
+ghost use Rattle.sj_tape.specs.Marks.{packed_marks};
 ghost use Rattle.sj_tape.specs.Room.{room as room_of};
 ghost use Rattle.sj_text_core.specs.Grammar.{Spells, IsReadable};
 
+use crate::packed::Packed;
 pub use crate::reader::buffers::Buffers;
 pub use crate::reader::spare::Spare;
 use crate::reader::value::whole;
@@ -31,8 +33,8 @@ pub const DEPTH_LIMIT: usize = 1024;
 
 /// Reads one text (RFC 8259 without fractions and exponents). The texts of the tape lie in the
 /// bytes, where an escape is written over by what it stands for. For look-ups the tape keeps places of
-/// items of large arrays too, and tags of keys of large objects, where these stand in nothing but small
-/// objects and memory for it is given.
+/// items of large arrays too, and tags of keys of large objects, where these are soon met in nothing but
+/// small objects and memory for it is given.
 ///
 /// Refused as `InvalidUtf8` exactly where the bytes are not UTF-8, before any memory is asked
 /// for. `Syntax`, `LoneSurrogate`, `Float`, `NumberTooLarge` and `TooDeep` come only where the
@@ -47,7 +49,21 @@ pub fn to_tape<'i>(alloc: Global, bytes: &'i mut [u8]) -> Result<Tape<'i>, Error
     ensures utf8 { IsErrOf result ErrorKind.InvalidUtf8 ↔ ¬ (IsUtf8 bytes.old) }
     ensures err { IfErr result (λ e. e ≢ ErrorKind.InvalidUtf8 → e ≢ ErrorKind.OutOfMemory → ¬ (IsReadable bytes.old)) }
 {
-    read(alloc, bytes, &mut 0)
+    read(alloc, bytes, &mut 0, Purpose::LookUps)
+}
+
+/// Reads as `to_tape` does. The tape keeps neither places of items nor tags of keys, so it is read
+/// sooner, and look-ups in it pass what stands in front: for those who pass over it once.
+pub fn to_bare_tape<'i>(alloc: Global, bytes: &'i mut [u8]) -> Result<Tape<'i>, ErrorKind>
+    // What is read is spelled so, within the limit, and nothing else is.
+    ensures spelled { IfOk result (λ t. Spells bytes.old t) }
+    ensures within { IfOk result (λ t. IsWithin t) }
+    ensures only { IfOk result (λ t. (u : Tree) → Spells bytes.old u → u ≡ t) }
+    // The bytes are no UTF-8.
+    ensures utf8 { IsErrOf result ErrorKind.InvalidUtf8 ↔ ¬ (IsUtf8 bytes.old) }
+    ensures err { IfErr result (λ e. e ≢ ErrorKind.InvalidUtf8 → e ≢ ErrorKind.OutOfMemory → ¬ (IsReadable bytes.old)) }
+{
+    read(alloc, bytes, &mut 0, Purpose::Passes)
 }
 
 /// Reads as `to_tape` does, with room at once for as many nodes as the buffers tell. The answer
@@ -68,7 +84,27 @@ pub fn to_tape_with_buffers<'i>(
     ensures room { IfOk result (λ t. room_of buffers.new ≡ max (length (flat t)) (room_of buffers.old)) }
     ensures kept { OnErr result (room_of buffers.new ≡ room_of buffers.old) }
 {
-    read(alloc, bytes, &mut buffers.nodes)
+    read(alloc, bytes, &mut buffers.nodes, Purpose::LookUps)
+}
+
+/// Reads as `to_tape_with_buffers` does, to a tape as `to_bare_tape` makes it.
+pub fn to_bare_tape_with_buffers<'i>(
+    alloc: Global,
+    bytes: &'i mut [u8],
+    buffers: &mut Buffers,
+) -> Result<Tape<'i>, ErrorKind>
+    // What is read is spelled so, within the limit, and nothing else is.
+    ensures spelled { IfOk result (λ t. Spells bytes.old t) }
+    ensures within { IfOk result (λ t. IsWithin t) }
+    ensures only { IfOk result (λ t. (u : Tree) → Spells bytes.old u → u ≡ t) }
+    // The bytes are no UTF-8.
+    ensures utf8 { IsErrOf result ErrorKind.InvalidUtf8 ↔ ¬ (IsUtf8 bytes.old) }
+    ensures err { IfErr result (λ e. e ≢ ErrorKind.InvalidUtf8 → e ≢ ErrorKind.OutOfMemory → ¬ (IsReadable bytes.old)) }
+    // The buffers have room for the nodes of the largest text that was read.
+    ensures room { IfOk result (λ t. room_of buffers.new ≡ max (length (flat t)) (room_of buffers.old)) }
+    ensures kept { OnErr result (room_of buffers.new ≡ room_of buffers.old) }
+{
+    read(alloc, bytes, &mut buffers.nodes, Purpose::Passes)
 }
 
 /// Reads as `to_tape` does, into the memory of a tape that is done with, which grows where it is too
@@ -102,8 +138,31 @@ pub fn to_tape_with_spare<'i>(
     }
 }
 
+/// What a tape is read for: look-ups, or passes over it.
+#[derive(Clone, Copy)]
+enum Purpose {
+    LookUps,
+    Passes,
+}
+
+/// The tape of packed nodes that are a preorder, with places and tags where look-ups are to find them.
+fn tape_for<'i>(purpose: Purpose, nodes: Vec<Packed<'i>>) -> Tape<'i>
+    requires { IsPreorder (packed_marks nodes.items) }
+    ensures { result ≡ tree_of (packed_marks nodes.entry.items) }
+{
+    match purpose {
+        Purpose::LookUps => Tape::with_landmarks(nodes),
+        Purpose::Passes => Tape::from_packed(nodes),
+    }
+}
+
 /// Reads a text, with room for so many nodes at once, where it may have as many.
-fn read<'i>(alloc: Global, bytes: &'i mut [u8], room: &mut usize) -> Result<Tape<'i>, ErrorKind>
+fn read<'i>(
+    alloc: Global,
+    bytes: &'i mut [u8],
+    room: &mut usize,
+    purpose: Purpose,
+) -> Result<Tape<'i>, ErrorKind>
     // What is read is spelled so, within the limit, and nothing else is.
     ensures spelled { IfOk result (λ t. Spells bytes.old t) }
     ensures within { IfOk result (λ t. IsWithin t) }
@@ -122,5 +181,5 @@ fn read<'i>(alloc: Global, bytes: &'i mut [u8], room: &mut usize) -> Result<Tape
     let mut nodes = Vec::with_capacity(alloc, most.min(*room))?;
     whole(bytes, DEPTH_LIMIT, &mut nodes)?;
     *room = nodes.len().max(*room);
-    Ok(Tape::with_landmarks(nodes))
+    Ok(tape_for(purpose, nodes))
 }

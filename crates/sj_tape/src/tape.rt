@@ -64,9 +64,8 @@ impl<'i> Tape<'i> {
         requires { IsPreorder (packed_marks nodes.items) }
         ensures { result ≡ tree_of (packed_marks nodes.entry.items) }
     {
-        let alloc = *nodes.allocator();
         Tape {
-            nodes: List::Packed(PackedList::new(alloc, nodes)),
+            nodes: List::Packed(PackedList::new(nodes)),
         }
     }
 

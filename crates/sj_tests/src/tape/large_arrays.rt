@@ -57,7 +57,7 @@ fn told_alone(alloc: Global, shape: Shape, len: usize) -> Result<(usize, bool), 
 
 #[test]
 fn items_of_one_shape(rt: HostRuntime) -> Result<(), Fail> {
-    for shape in [Shape::Scalars, Shape::Records, Shape::Uneven] {
+    for shape in [Shape::Scalars, Shape::Pairs, Shape::Records, Shape::Uneven] {
         for len in LENS {
             let told = told_alone(rt.alloc(), shape, len)?;
             assert!(rt; told == (len, true), "{shape:?} {len}: {told:?}");

@@ -10,7 +10,9 @@ use std::test::Fail;
 pub(super) enum Shape {
     /// Numbers.
     Scalars,
-    /// Objects of two members.
+    /// Arrays of two numbers.
+    Pairs,
+    /// Objects of three members, one of which is a list.
     Records,
     /// Arrays, each of another length than the one before.
     Uneven,
@@ -27,6 +29,7 @@ impl Shape {
     pub(super) fn item(self, alloc: Global, number: usize) -> Result<String, AllocError> {
         match self {
             Shape::Scalars => format!(in alloc; "{number}"),
+            Shape::Pairs => format!(in alloc; "[{number},{number}]"),
             Shape::Records => record(alloc, number),
             Shape::Uneven => uneven(alloc, number),
             Shape::UnevenFrom(from) if number < from => record(alloc, number),
@@ -53,12 +56,12 @@ impl Shape {
 }
 
 fn record(alloc: Global, number: usize) -> Result<String, AllocError> {
-    format!(in alloc; "{{\"number\":{number},\"text\":\"of {number}\"}}")
+    format!(in alloc; "{{\"number\":{number},\"text\":\"of {number}\",\"list\":[1,2,3,4]}}")
 }
 
-/// An array of the number and of up to six zeros.
+/// An array of the number and of six to twelve zeros.
 fn uneven(alloc: Global, number: usize) -> Result<String, AllocError> {
-    let mut text = format!(in alloc; "[{number}")?;
+    let mut text = format!(in alloc; "[{number},0,0,0,0,0,0")?;
     for _ in 0..number % 7 {
         text.push_str(",0")?;
     }
