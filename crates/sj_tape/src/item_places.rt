@@ -14,7 +14,7 @@ use std::alloc::Global;
 
 /// How many nodes an item has on an average at least where places are kept. An array of narrower ones
 /// is read so fast that they would cost more than one in twenty of it.
-const WIDE: usize = 5;
+const WIDE_ITEM: usize = 5;
 
 /// The places of some items of an array, counted from the first item's.
 #[derive(Drop)]
@@ -119,7 +119,7 @@ pub(crate) fn array_at(alloc: Global, nodes: &[Packed<'_>], at: usize) -> Option
     let len = node.array_len()?;
     let start = at + 1;
     let end = at + node.width();
-    if len < MANY_ITEMS || (end - start) / WIDE < len {
+    if len < MANY_ITEMS || (end - start) / WIDE_ITEM < len {
         return None;
     }
     let places = places_of(alloc, between(nodes, start, end), len)?;

@@ -14,7 +14,7 @@ use std::alloc::Global;
 
 /// How many nodes a member has on an average at least, its key's too, where tags are kept. An object of
 /// narrower ones is read so fast that they would cost more than one in twenty of it.
-const WIDE: usize = 12;
+const WIDE_MEMBER: usize = 12;
 
 /// The tags of the keys of an object's first members, the places of some of these, counted from the
 /// first one's, and where the members behind them begin.
@@ -172,7 +172,7 @@ pub(crate) fn object_at(alloc: Global, nodes: &[Packed<'_>], at: usize) -> Optio
     let len = node.object_len()?;
     let start = at + 1;
     let end = at + node.width();
-    if len < MANY_MEMBERS || (end - start) / WIDE < len {
+    if len < MANY_MEMBERS || (end - start) / WIDE_MEMBER < len {
         return None;
     }
     tags_between(alloc, between(nodes, start, end), start, end, len)

@@ -11,7 +11,6 @@ ghost use Rattle.sj_tape.specs.Fronts.{BeginsTree};
 ghost use Rattle.sj_tape.specs.Marks.{packed_marks};
 
 use crate::kept::{Kept, kept_at};
-use crate::key_tags::WIDE;
 use crate::packed::Packed;
 use crate::search::is_key;
 use sj_text_core::Steps;
@@ -19,6 +18,9 @@ use std::sync::ledger::Ledger;
 
 /// How many members an object has at least that is searched by runs.
 const MANY_IN_RUNS: usize = 64;
+
+/// How many nodes such a member has on an average at least, its key's too.
+const WIDE_IN_RUNS: usize = 4;
 
 /// A search by runs ends where more than these, and one for each `PER_CHANGE` nodes, have begun: the way
 /// to the next member then waits for its node all the same.
@@ -31,7 +33,7 @@ const PER_CHANGE: usize = 64;
 /// then.
 #[inline(always)]
 pub(super) fn are_wide(len: usize, nodes: &[Packed<'_>]) -> bool {
-    len >= MANY_IN_RUNS && nodes.len() / WIDE >= len
+    len >= MANY_IN_RUNS && nodes.len() / WIDE_IN_RUNS >= len
 }
 
 /// The key of the member at that place.
