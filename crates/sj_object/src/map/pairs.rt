@@ -9,20 +9,21 @@ use super::store::Store;
 use std::marker::Model;
 use std::slice;
 
-/// The members that are left, in the two parts of a ring; those of a plain list are all in the
-/// first.
+/// The members that are left: in one part those of a plain list, and of a ring that has not come
+/// round; else in two. How many parts there are stays as it is, so that a loop over one asks for it
+/// once.
 pub struct Pairs<'a, K, V> {
     front: slice::Iter<'a, (K, V)>,
-    back: slice::Iter<'a, (K, V)>,
+    back: Option<slice::Iter<'a, (K, V)>>,
 }
 
 impl<'a, K, V> Model for Pairs<'a, K, V> {
-    ghost use Rattle.std.specs.Prelude.{◌++◌, List};
+    ghost use Rattle.std.specs.Prelude.{◌++◌, [], List, option_map, unwrap_or};
     ghost use Rattle.std.specs.Slice.Iter.{iter_rest};
 
     ghost Value = { List (K × V) };
 
-    ghost view = { λ a. iter_rest a.front ++ iter_rest a.back };
+    ghost view = { λ a. iter_rest a.front ++ unwrap_or (option_map iter_rest a.back) [] };
 }
 
 impl<'a, K, V> Pairs<'a, K, V> {
@@ -31,9 +32,14 @@ impl<'a, K, V> Pairs<'a, K, V> {
         ensures { result ≡ pairs_of store.now }
     {
         let (front, back) = store.as_slices();
+        let back = if back.is_empty() {
+            None
+        } else {
+            Some(back.iter())
+        };
         Pairs {
             front: front.iter(),
-            back: back.iter(),
+            back,
         }
     }
 }
@@ -52,9 +58,12 @@ impl<'a, K, V> Iterator for Pairs<'a, K, V> {
     ghost remaining = { λ s. at_most (length s) };
 
     fn next(&mut self) -> Option<&'a (K, V)> {
-        match self.front.next() {
-            Some(pair) => Some(pair),
-            None => self.back.next(),
+        match &mut self.back {
+            None => self.front.next(),
+            Some(back) => match self.front.next() {
+                Some(pair) => Some(pair),
+                None => back.next(),
+            },
         }
     }
 }

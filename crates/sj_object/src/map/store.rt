@@ -192,9 +192,11 @@ impl<K, V> Hashed<K, V> {
         ensures table { IsTable self.new.table }
         ensures buckets { length self.new.table.heads.items ≡ length self.old.table.heads.items }
     {
-        let pair = self.pairs.pop_back()?;
+        if self.pairs.is_empty() {
+            return None;
+        }
         self.table.pop();
-        Some(pair)
+        self.pairs.pop_back()
     }
 }
 

@@ -12,8 +12,8 @@ invariant-loop-place g l = record {
   passed : l.passed ≤ length l.hashed.table.holes.items;
   beside : (p : ℕ) → p ≤ l.place → lowered_by (drop l.passed l.hashed.table.holes.items) p ≡ lowered_by l.hashed.table.holes.items p;
   there : l.place ≡ raised_by l.hashed.table.holes.items (lowered_by l.hashed.table.holes.items l.place);
-  stands : IsAt (2 ^ l.hashed.table.bits) (l.hash % 2 ^ l.hashed.table.bits) l.text (hashes_in l.table) (texts (entries_of g.K.KeyText.text_of l.hashed.pairs.items)) (lowered_by l.hashed.table.holes.items l.place - l.hashed.table.gone);
-  counted : l.steps ≡ l.fn.steps + count (2 ^ l.hashed.table.bits) (l.hash % 2 ^ l.hashed.table.bits) (hashes_in l.table) (lowered_by l.hashed.table.holes.items l.place - l.hashed.table.gone);
+  stands : IsAt (2 ^ l.hashed.table.bits) (l.hash % 2 ^ l.hashed.table.bits) l.text (hashes_in l.hashed.table) (texts (entries_of g.K.KeyText.text_of l.hashed.pairs.items)) (lowered_by l.hashed.table.holes.items l.place - l.hashed.table.gone);
+  counted : l.steps ≡ l.fn.steps + count (2 ^ l.hashed.table.bits) (l.hash % 2 ^ l.hashed.table.bits) (hashes_in l.hashed.table) (lowered_by l.hashed.table.holes.items l.place - l.hashed.table.gone);
 }
 
 abbrev pub decreases-loop-place : goal.decreases-loop-place
