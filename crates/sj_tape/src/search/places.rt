@@ -214,16 +214,16 @@ fn last_in_run<L: Ledger>(
     ensures value { option_or (find_last_member key.now (members_from (packed_marks nodes.now) result.1)) (option_map (tree_from (packed_marks nodes.now)) result.0) ≡ option_or (find_last_member key.now (members_from (packed_marks nodes.now) from)) (option_map (tree_from (packed_marks nodes.now)) before) }
     ensures exact { steps.new + members_len (members_from (packed_marks nodes.now) result.1) ≡ steps.old + members_len (members_from (packed_marks nodes.now) from) }
 {
-    let width = width_at(nodes, from);
+    let wide = width_at(nodes, from);
     let mut at = from;
     let mut last = before;
     while at < nodes.len() {
-        if width_at(nodes, at) != width {
+        if width_at(nodes, at) != wide {
             return (last, at);
         }
         let is_met = is_key(name_at(nodes, at), key, steps);
         last = later(is_met, at + 1, last);
-        at += 1 + width;
+        at += 1 + wide;
     }
     (last, at)
 }
