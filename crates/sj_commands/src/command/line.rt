@@ -14,7 +14,7 @@ ghost use Rattle.sj_commands.specs.Parts.{kept, parts_in};
 use super::{Command, Step, Width};
 use sj_document::owned_from_tape;
 use sj_pointer::{PointerError, pointer};
-use sj_tape::{Array, Buffers, Value, array, to_tape_with_buffers};
+use sj_tape::{Array, Buffers, Value, array, to_bare_tape_with_buffers};
 use sj_text_core::{ErrorKind, ValueAsScalar};
 use std::alloc::{AllocError, Global};
 
@@ -216,6 +216,17 @@ fn command_in(alloc: Global, value: Value<'_, '_>) -> Result<Command, AllocError
     }
 }
 
+/// For a text of how many bytes a reading is to make room at once. What is no command asks for
+/// nothing, so no line makes a request more than it needs for its nodes.
+fn room_of(line: &[u8]) -> usize {
+    // Most commands have no more nodes than a fourth of their bytes, and then ask for them once. A
+    // shorter line's first node has room for four made, which are no fewer.
+    match line.first() {
+        Some(b'[') if line.len() >= 16 => 2 * line.len().min(ROOM),
+        _ => 0,
+    }
+}
+
 /// The command of a line: that of the tree which it spells, with the first member of each key kept,
 /// and `Bad` where that tree fits no row, or the line is not readable. What is read of the line is
 /// the command's own. Refused only where memory is.
@@ -223,9 +234,8 @@ pub fn command_of(alloc: Global, line: &mut [u8]) -> Result<Command, AllocError>
     ensures is { IfOk result (λ command. IsCommandOf line.old (command_meant command)) }
     ensures only { IfOk result (λ command. (c : PlainCommand) → IsCommandOf line.old c → c ≡ command_meant command) }
 {
-    // Most commands have no more nodes than a fourth of their bytes, and then ask for them once.
-    let mut buffers = Buffers::new(alloc, 2 * line.len().min(ROOM))?;
-    match to_tape_with_buffers(alloc, line, &mut buffers) {
+    let mut buffers = Buffers::new(alloc, room_of(line))?;
+    match to_bare_tape_with_buffers(alloc, line, &mut buffers) {
         Ok(tape) => command_in(alloc, tape.as_value()),
         Err(kind) => {
             if kind == ErrorKind::OutOfMemory {
