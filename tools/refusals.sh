@@ -368,6 +368,22 @@ done
 free 'pointer_lazy owned find_mut' "call: missing, tree as before, found, owned $example"$'\n'
 free 'pointer_lazy owned replace' $'call: missing, tree as before, found, owned {"some":["key",null,2]}\n'
 
+# reads_line LINE ANSWER: a command line that asks for the room of its nodes, and once
+reads_line() {
+  each "command $1" "call: OutOfMemory"$'\n'"again $2"$'\n' "call: $2"$'\n'"again $2"$'\n'
+  good=no
+  [ "$requests" = 1 ] && good=yes
+  count $good "command $1 asks once"
+}
+
+for line in number cut numbers open; do
+  reads_line $line 'bad command'
+done
+reads_line len len
+for line in word words; do
+  free "command $line" $'call: bad command\nagain bad command\n'
+done
+
 for words in 'owned text' 'owned known' 'borrowed text' 'borrowed known' 'lazy text'; do
   each "apply $words" $'call: refused, as it was or done, then applied, {"k":null}\n' \
     $'call: inserted, {"k":null}\n'
@@ -396,6 +412,7 @@ for form in owned borrowed lazy; do
   [ $form = lazy ] && many=2
   answers repeat $form "$many"$'\nnot an array\n{"a":1}\n'
   answers repeat $form "$many"$'\nnot an array\n{"a":2}\n' session_last
+  answers bad $form $'bad command\nbad command\nbad command\nbad command\n'
   answers reads $form $'3\n'
   eval "reads_$form=$requests"
 done

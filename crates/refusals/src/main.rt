@@ -11,7 +11,7 @@
 //!     refusals apply FORM WAY | session FORM INPUT | session_known FORM INPUT
 //!     refusals session_last FORM INPUT | pointer | no_pointer | pointer_in FORM
 //!     refusals pointer_lazy FORM CALL | kinds FORM | parts FORM | reads WHAT | from WHAT
-//!     refusals display FORM | stream CALL | fault CALL | changes
+//!     refusals display FORM | stream CALL | fault CALL | changes | command LINE
 //!
 //! `refusals nodes LIST ..` makes a tape of each list of nodes.
 //!
@@ -31,6 +31,7 @@ mod kinds;
 mod laws;
 mod lazy;
 mod lazy_makes;
+mod lines;
 mod makes;
 mod map_reads;
 mod maps;
@@ -78,6 +79,7 @@ fn run_texts(rt: &(impl Print + AllocGlobal), words: &[String]) -> Result<(), Fa
         "nodes" => nodes::tell(rt, words.get(1..).unwrap_or(&[])),
         "run" => runs::run_form(rt, second, third),
         "apply" => applies::insert(rt, second, third),
+        "command" => lines::read(rt, second),
         "session" => sessions::answer(rt, Session::First, second, third),
         "session_known" => sessions::answer(rt, Session::Known, second, third),
         "session_last" => sessions::answer(rt, Session::Last, second, third),
