@@ -3,6 +3,7 @@
 mod changes;
 mod edits;
 mod laws;
+mod merges;
 mod numbers;
 mod parts;
 mod prints;
