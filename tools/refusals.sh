@@ -206,6 +206,33 @@ for form in owned borrowed; do
   free "room_in $form" $'call: filled\n'
 done
 
+# merged MEMBERS: sets print to that of an object of so many members, merged
+merged() {
+  local place member
+  print='{"k01":{"a":1},'
+  for ((place = 2; place < $1; place++)); do
+    printf -v member '"k%02d":%d,' $place $place
+    print+=$member
+  done
+  print+='"n":[{}],"o":"p"}'
+}
+
+# merges WORDS KEPT: a merge, of which the target stands where it was refused, or nothing does
+merges() {
+  each "merge $1" "call: refused, $2merged $print"$'\n' "call: merged $print"$'\n'
+}
+
+for form in owned borrowed; do
+  print='{"some":["key","value",2],"k01":{"a":1},"n":[{}],"o":"p"}'
+  merges "$form merge" 'target as before, '
+  merges "$form into_merged" ''
+  for members in 32 64; do
+    merged $members
+    merges "$form merge $members" 'target as before, '
+    merges "$form into_merged $members" ''
+  done
+done
+
 # makes WORDS MADE
 makes() {
   each "$1" "call: AllocError, then $2"$'\n' "call: made, again $2"$'\n'

@@ -12,6 +12,7 @@
 //!     refusals session_last FORM INPUT | pointer | no_pointer | pointer_in FORM
 //!     refusals pointer_lazy FORM CALL | kinds FORM | parts FORM | reads WHAT | from WHAT
 //!     refusals display FORM | stream CALL | fault CALL | changes | command LINE
+//!     refusals merge FORM CALL [MEMBERS]
 //!
 //! `refusals nodes LIST ..` makes a tape of each list of nodes.
 //!
@@ -36,6 +37,7 @@ mod makes;
 mod map_reads;
 mod maps;
 mod members;
+mod merges;
 mod nodes;
 mod parts;
 mod pointers;
@@ -119,6 +121,7 @@ fn run_documents(rt: &(impl Print + AllocGlobal), words: &[String]) -> Result<()
         "display" => displays::write(rt, second),
         "tape" => tapes::call(rt, second),
         "document" => documents::run_call(rt, second, third, word(words, 3)),
+        "merge" => merges::run_call(rt, second, third, word(words, 3)),
         "make" => makes::make(rt, second),
         "make_lazy" => lazy_makes::make(rt, second),
         "convert" => makes::convert(rt, second),
