@@ -5,12 +5,20 @@
 //! so many rounds, in tenths of a nanosecond a call, by the thread's own clock. The keys are looked
 //! up in an order without a pattern; `the order alone` is what a bench without a map takes, and
 //! each look-up's time has it in it. Small sizes are looked up in a plain list too, by a loop.
+//!
+//! `removals ROUNDS` has the least times of maps that are filled, emptied and searched, case by case
+//! (`cases.rt` has their names), and `removals CASE MEMBERS ROUNDS` runs one case alone so many
+//! times and prints a sum of what it saw, so that its instructions can be counted.
 #![tactic(auto)]
 
 ghost use Rattle.std.specs.Prelude.{◌≡◌, string_bytes};
 ghost use Rattle.sj_text_core.specs.Hash.{hash as hash_of_text};
 
+mod cases;
 mod edits;
+mod emptied;
+mod kept;
+mod removals;
 mod ways;
 
 use sj_object::{KeyHasher, ObjectHasher};
@@ -27,14 +35,16 @@ pub struct Known {
     ghost hashed: { hash ≡ hash_of_text (string_bytes text) },
 }
 
-/// How the keys of a map differ. All are of 13 bytes.
+/// How the keys of a map differ. Those of one hash are of 36 bytes, the others of 13.
 #[derive(Clone, Copy, Debug)]
-enum Keys {
+pub enum Keys {
     /// In their last digits alone, which the fixed hash spreads badly: 1,000 of them stand in 352
     /// of 1,024 buckets.
     Numbered,
     /// In eight hexadecimal digits without a pattern: 1,000 of them stand in 634 buckets.
     Scattered,
+    /// In blocks of two letters, which leave all with one hash.
+    OneHash,
 }
 
 impl Keys {
@@ -42,6 +52,7 @@ impl Keys {
         match self {
             Keys::Numbered => "numbered",
             Keys::Scattered => "scattered",
+            Keys::OneHash => "one hash",
         }
     }
 
@@ -53,8 +64,19 @@ impl Keys {
                 let digits = (number as u64).wrapping_mul(2_654_435_761) & 0xffff_ffff;
                 format!(in alloc; "{sign}_{digits:08x}_")
             }
+            Keys::OneHash => of_one_hash(alloc, sign, number),
         }
     }
+}
+
+/// The number in blocks, from its lowest bit on.
+fn of_one_hash(alloc: Global, sign: &str, number: usize) -> Result<String, AllocError> {
+    let mut key = format!(in alloc; "{sign}_")?;
+    for bit in 0..16u32 {
+        let block = if (number >> bit) & 1 == 1 { "Aa" } else { "BB" };
+        key.push_str(block)?;
+    }
+    Ok(key)
 }
 
 /// `members` keys that begin with the sign.
@@ -167,21 +189,27 @@ fn tell_size(rt: &HostRuntime, keys: Keys, members: usize, rounds: u32) -> io::R
     edits::tell_inserts(rt, texts, rounds)
 }
 
-fn main(rt: HostRuntime) -> io::Result<()> {
+/// Times of look-ups, of inserts and of removals from the front.
+fn tell_calls(rt: &HostRuntime, rounds: u32) -> io::Result<()> {
     let alloc = rt.alloc();
-    let words: Vec<String> = env::args(&rt)?.collect(alloc)?;
-    let Some(rounds) = words.get(1) else {
-        return Ok(());
-    };
-    let rounds = rounds.as_str().parse::<u32>().unwrap_or(1);
     for keys in [Keys::Numbered, Keys::Scattered] {
         for members in [8, 32, 33, 1000, 100_000] {
-            tell_size(&rt, keys, members, rounds)?;
+            tell_size(rt, keys, members, rounds)?;
         }
     }
     for members in [8, 33, 1000, 10_000, 100_000] {
         let texts = texts_of(alloc, Keys::Numbered, members, "key")?;
-        edits::tell_removals(&rt, texts.as_slice(), rounds)?;
+        edits::tell_removals(rt, texts.as_slice(), rounds)?;
     }
     Ok(())
+}
+
+fn main(rt: HostRuntime) -> io::Result<()> {
+    let alloc = rt.alloc();
+    let words: Vec<String> = env::args(&rt)?.collect(alloc)?;
+    match words.as_slice() {
+        [_, first, rest @ ..] if first.as_str() == "removals" => removals::report(&rt, rest),
+        [_, rounds, ..] => tell_calls(&rt, rounds.as_str().parse::<u32>().unwrap_or(1)),
+        _ => Ok(()),
+    }
 }
