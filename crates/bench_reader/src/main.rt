@@ -5,8 +5,14 @@
 //! input, with the word `documents` in front for documents. Each line has the best rate of so many
 //! rounds, by the thread's own clock. `equality ROUNDS MEGABYTES` has the least times of comparing
 //! documents, `tapes ROUNDS MEGABYTES` those of calls on tapes beside the tape of `json`, and
-//! `lazy ROUNDS MEGABYTES` those of ten reads, and of a write and a print. Without words it does
-//! nothing.
+//! `lazy ROUNDS MEGABYTES` those of ten reads, and of a write and a print.
+//!
+//! `lookups ROUNDS` has the least times of look-ups by key in objects of several shapes and sizes,
+//! `lookups plain ROUNDS` the same on nodes of a caller's own. `lookups SHAPE MEMBERS KEY_LEN KEY
+//! CHOICE FORM COUNT` makes so many look-ups of one case alone and prints what they find, so that
+//! their instructions can be counted: SHAPE is `scalars`, `mixed`, `pairs`, `records` or `arrays`,
+//! KEY `first`, `last` or `absent`, CHOICE `first` or `last`, FORM `packed` or `plain`. Without
+//! words the program does nothing.
 #![tactic(auto)]
 
 ghost use Rattle.std.specs.Prelude.{◌≤◌};
@@ -14,6 +20,8 @@ ghost use Rattle.std.specs.Prelude.{◌≤◌};
 mod documents;
 mod equality;
 mod lazy;
+mod lookups;
+mod objects;
 mod records;
 mod tapes;
 mod texts;
@@ -180,6 +188,7 @@ fn main(rt: HostRuntime) -> io::Result<()> {
         [_, first, rest @ ..] if first.as_str() == "lazy" => {
             lazy::report(&rt, number(rest, 0), number(rest, 1) as usize * 1_000_000)
         }
+        [_, first, rest @ ..] if first.as_str() == "lookups" => lookups::report(&rt, rest),
         [_, first, rest @ ..] if first.as_str() == "tapes" => {
             tapes::report(&rt, number(rest, 0), number(rest, 1) as usize * 1_000_000)
         }
