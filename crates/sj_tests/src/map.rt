@@ -1,8 +1,10 @@
 ghost use Rattle.std.specs.Prelude.{◌≡◌, ◌<◌};
 
+mod fronts;
 mod hashed;
 mod holes;
 mod ring;
+mod turned;
 
 use sj_object::*;
 use sj_text_core::Steps;

@@ -56,9 +56,7 @@ fn the_last_leave_behind_others(rt: HostRuntime) -> Result<(), Fail> {
         let mut beside = holed(alloc, 66, holes)?;
         assert_eq!(rt; beside.list.len() as u64, 66 - holes);
         for _ in 0..20 {
-            let last = beside.list.pop();
-            let is_last = beside.map.pop().map(|(_, number)| number) == last;
-            if is_last && beside.agreeing(alloc)? == beside.list.len() {
+            if beside.pop() && beside.agreeing(alloc)? == beside.list.len() {
                 seen = seen.saturating_add(1);
             }
         }
@@ -118,11 +116,8 @@ fn end_again<S: KeyHasher + Drop>(
             Some(last) => beside.remove(alloc, last)?,
             None => false,
         };
-        if number % 3 == 0 {
-            let last = beside.list.pop();
-            if beside.map.pop().map(|(_, number)| number) != last {
-                return Ok((0, 0));
-            }
+        if number % 3 == 0 && !beside.pop() {
+            return Ok((0, 0));
         }
         beside.push(alloc, u64::wrapping_add(66, number))?;
         if is_middle && is_last && beside.agreeing(alloc)? == beside.list.len() {
@@ -181,5 +176,63 @@ fn those_that_left_are_not_found(rt: HostRuntime) -> Result<(), Fail> {
         }
     }
     assert_eq!(rt; (absent, beside.agreeing(alloc)?), (20, 25));
+    Ok(())
+}
+
+/// Which members leave by their keys, each counted from the end: places that stand last then, put in
+/// falling, rising and mixed order, and some of them behind a member that stays.
+const ENDS: [&[usize]; 9] = [
+    &[1],
+    &[1, 1, 1],
+    &[3, 2, 1],
+    &[2, 1, 1],
+    &[2, 2, 1],
+    &[1, 1, 1, 1, 1, 1, 1, 1],
+    &[8, 7, 6, 5, 4, 3, 2, 1],
+    &[4, 6, 1, 3, 3, 2, 1, 1],
+    &[20, 1, 5, 1, 2, 6],
+];
+
+/// Lets so many members leave at the front, then those at the ends, and then pops three and pushes three
+/// in turn; behind how many of these turns all others agree.
+fn pop_and_push<S: KeyHasher + Drop>(
+    alloc: Global,
+    gone: u64,
+    ends: &[usize],
+    hasher: S,
+) -> Result<usize, Fail> {
+    let mut beside = Beside::new(alloc, 50, hasher)?;
+    for _ in 0..gone {
+        beside.remove(alloc, 0)?;
+    }
+    for end in ends {
+        let position = beside.list.len().saturating_sub(*end);
+        beside.remove(alloc, position)?;
+    }
+    let mut seen = 0usize;
+    for number in 0..12 {
+        if number % 6 >= 3 {
+            beside.push(alloc, 50 + number)?;
+        } else if !beside.pop() {
+            return Ok(0);
+        }
+        if number % 3 == 2 && beside.agreeing(alloc)? == beside.list.len() {
+            seen = seen.saturating_add(1);
+        }
+    }
+    Ok(seen)
+}
+
+#[test]
+fn pops_cut_off_what_left_last(rt: HostRuntime) -> Result<(), Fail> {
+    for ends in ENDS {
+        for gone in [0, 3] {
+            let told = [
+                pop_and_push(rt.alloc(), gone, ends, ObjectHasher::default())?,
+                pop_and_push(rt.alloc(), gone, ends, Constant)?,
+            ];
+            assert!(rt; told == [4; 2], "{gone} {ends:?}: {told:?}");
+        }
+    }
     Ok(())
 }

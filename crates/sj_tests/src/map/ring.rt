@@ -44,6 +44,12 @@ impl<S: KeyHasher + Drop> Beside<S> {
         Ok(())
     }
 
+    /// Takes the last member out; whether it is the last on the list, or there is none on either.
+    pub(super) fn pop(&mut self) -> bool {
+        let last = self.list.pop();
+        self.map.pop().map(|(_, number)| number) == last
+    }
+
     /// How many members are where the list has them, found by their keys, in the order of the list.
     pub(super) fn agreeing(&self, alloc: Global) -> Result<usize, Fail> {
         let mut agreeing = 0usize;
@@ -106,8 +112,8 @@ fn members_leave_in_any_order(rt: HostRuntime) -> Result<(), Fail> {
     let mut seen = 0usize;
     for number in 0..120 {
         place = place.wrapping_mul(37).wrapping_add(5) % 1009;
-        // Every other one leaves at the front, so that those in the middle leave behind the gone.
-        let position = if number % 2 == 0 {
+        // Five leave at the front, and behind these eight elsewhere, where as many holes are kept.
+        let position = if number % 13 < 5 {
             0
         } else {
             place as usize % 90
@@ -130,11 +136,7 @@ fn members_leave_at_both_ends(rt: HostRuntime) -> Result<(), Fail> {
     let mut seen = 0usize;
     for left in 0..34 {
         assert!(rt; beside.remove(alloc, 0)?, "{left}");
-        let last = beside.list.pop();
-        assert!(rt;
-            beside.map.pop().map(|(_, number)| number) == last,
-            "{left}"
-        );
+        assert!(rt; beside.pop(), "{left}");
         assert_eq!(rt; beside.agreeing(alloc)?, 68 - 2 * left);
         seen = seen.saturating_add(1);
     }

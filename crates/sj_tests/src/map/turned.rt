@@ -1,0 +1,135 @@
+//! Maps whose ring has come round: members leave at the front and come behind the last, and at each turn
+//! some are read and set, so that some of these stand in the ring's second part.
+
+ghost use Rattle.std.specs.Prelude.{◌≡◌, ◌<◌};
+
+use super::Constant;
+use super::hashed::has_these;
+use sj_object::{HashMap, KeyHasher, ObjectHasher};
+use sj_text_core::Steps;
+use std::alloc::Global;
+use std::marker::Brand;
+use std::sync::ledger::{Blank, Ledger};
+use std::test::Fail;
+
+/// A map, and its members as a plain list.
+#[derive(Drop)]
+struct Turning<S: KeyHasher> {
+    map: HashMap<String, usize, S>,
+    list: Vec<(String, usize)>,
+}
+
+impl<S: KeyHasher + Drop> Turning<S> {
+    /// The members `k00`, `k01` and so on, each made where it is absent.
+    fn new(alloc: Global, members: usize, hasher: S) -> Result<Self, Fail> {
+        let map = HashMap::with_capacity_and_hasher(alloc, 0, hasher)?;
+        let list = Vec::new(alloc);
+        let mut turning = Turning { map, list };
+        for number in 0..members {
+            turning.push(alloc, number)?;
+        }
+        Ok(turning)
+    }
+
+    /// Puts a member last, which is made; whether it was lent.
+    fn push(&mut self, alloc: Global, number: usize) -> Result<bool, Fail> {
+        let key = format!(in alloc; "k{number:02}")?;
+        let hash = self.map.hasher().hash_text(key.as_str());
+        self.list.push((key.clone()?, number))?;
+        let made = self.map.get_or_insert_hashed_with(hash, key, || number)?;
+        Ok(*made == number)
+    }
+
+    /// Takes the first member out; whether it is the list's.
+    fn shift(&mut self) -> bool {
+        if self.list.is_empty() {
+            return false;
+        }
+        let (key, value) = self.list.remove(0);
+        self.map.remove(key.as_str()) == Some(value)
+    }
+
+    /// Sets the value at a position by two calls on its key; whether each finds what is there.
+    fn set(&mut self, position: usize) -> Result<bool, Fail> {
+        let Some((key, value)) = self.list.get_mut(position) else {
+            return Ok(false);
+        };
+        let before = *value;
+        let between = before.wrapping_add(1000);
+        *value = before.wrapping_add(2000);
+        let told = self.map.insert(key.clone()?, between)?;
+        let hash = self.map.hasher().hash_text(key.as_str());
+        let lent = self
+            .map
+            .get_or_insert_hashed_with(hash, key.clone()?, || 0)?;
+        let is_lent = *lent == between;
+        *lent = *value;
+        Ok(told == Some(before) && is_lent)
+    }
+
+    /// How many members look-ups with a count of steps find with their values, and how many other keys
+    /// they do not find.
+    fn counted<L: Ledger>(&self, blank: Blank) -> (usize, usize)
+        requires name { blank.name ≡ L.name }
+        requires parts { blank.parts ≡ L.parts }
+        requires some { 0 < L.parts }
+    {
+        let mut steps = Steps::<L>::new(blank);
+        let mut found = 0usize;
+        let mut absent = 0usize;
+        for (key, value) in &self.list {
+            if self.map.get_steps(key.as_str(), &mut steps) == Some(value) {
+                found = found.saturating_add(1);
+            }
+        }
+        for key in ["k00", "k000", "", "k"] {
+            if self.map.get_steps(key, &mut steps).is_none() {
+                absent = absent.saturating_add(1);
+            }
+        }
+        (found, absent)
+    }
+}
+
+/// How many turns there are: more than the ring has places.
+const TURNS: usize = 140;
+
+/// Whether the map is like the list, also where members are set.
+fn is_like<S: KeyHasher + Drop>(turning: &mut Turning<S>, members: usize) -> Result<bool, Fail> {
+    let last = members.saturating_sub(1);
+    let is_set = turning.set(0)? && turning.set(members / 2)? && turning.set(last)?;
+    let are_counted = turning.counted::<Brand>(Blank::new(1)) == (members, 4);
+    Ok(is_set && are_counted && has_these(&turning.map, turning.list.as_slice()))
+}
+
+/// How many turns are as on the list, and at how many of each ten the map is like it.
+fn turns<S: KeyHasher + Drop>(
+    alloc: Global,
+    members: usize,
+    hasher: S,
+) -> Result<(usize, usize), Fail> {
+    let mut turning = Turning::new(alloc, members, hasher)?;
+    let mut right = 0usize;
+    let mut seen = 0usize;
+    for turn in 0..TURNS {
+        if turning.shift() && turning.push(alloc, members.saturating_add(turn))? {
+            right = right.saturating_add(1);
+        }
+        if turn % 10 == 7 && is_like(&mut turning, members)? {
+            seen = seen.saturating_add(1);
+        }
+    }
+    Ok((right, seen))
+}
+
+#[test]
+fn a_ring_comes_round(rt: HostRuntime) -> Result<(), Fail> {
+    for members in [40, 64] {
+        let told = [
+            turns(rt.alloc(), members, ObjectHasher::default())?,
+            turns(rt.alloc(), members, Constant)?,
+        ];
+        assert!(rt; told == [(TURNS, 14); 2], "{members}: {told:?}");
+    }
+    Ok(())
+}
