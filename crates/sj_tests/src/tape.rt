@@ -5,8 +5,11 @@ mod large_objects;
 mod prints;
 mod reader;
 mod reads;
+mod runs;
 mod shapes;
+mod tags;
 mod values;
+mod walks;
 
 use sj_tape::{Array, Node, Object, Tape, Value};
 use sj_text_core::ValueAsScalar;

@@ -15,6 +15,12 @@ pub(super) enum Keys {
     Middling,
     /// Of 36 bytes, the first 8, the 8 in the middle and the last 8 of which are the same in all.
     Long,
+    /// Of 17 to 24 bytes.
+    Longer,
+    /// Of 30 bytes, the last 22 of which are the same in all.
+    Ending,
+    /// Of 28 bytes, the first 8, the 8 in the middle and the last 8 of which four keys have in common.
+    Fours,
     /// Of marks that are escaped, and of one of two bytes.
     Escaped,
 }
@@ -28,6 +34,9 @@ impl Keys {
             Keys::Eight => format!(in alloc; "{number:08}"),
             Keys::Middling => padded(format!(in alloc; "{number:09}")?, 9 + number % 8),
             Keys::Long => format!(in alloc; "the keys{number:04}mmmmmmmmmmmm{number:04}the same"),
+            Keys::Longer => padded(format!(in alloc; "{number:017}")?, 17 + number % 8),
+            Keys::Ending => format!(in alloc; "{number:08} and the common ending"),
+            Keys::Fours => four(alloc, number / 4, number % 4),
             Keys::Escaped => format!(in alloc; "\"{number}\n\u{e9}\\{number}"),
         }
     }
@@ -69,9 +78,16 @@ fn padded(text: String, len: usize) -> Result<String, AllocError> {
     Ok(text)
 }
 
+/// The key of one of four, whose ends and middle are alike.
+fn four(alloc: Global, all: usize, one: usize) -> Result<String, AllocError> {
+    format!(in alloc; "{all:08}{one:02}{all:08}{one:02}{all:08}")
+}
+
 /// Which keys come again.
 #[derive(Clone, Copy, Debug)]
 pub(super) enum Again {
+    /// None.
+    Never,
     /// Each second one is that of the member before.
     Pairs,
     /// Those of the members so many positions before.
@@ -85,7 +101,7 @@ impl Again {
     fn number(self, position: usize) -> usize {
         match self {
             Again::Pairs => position / 2,
-            Again::Behind(0) => position,
+            Again::Never | Again::Behind(0) => position,
             Again::Behind(many) => position % many,
             Again::Once(first, second) if position == second => first,
             Again::Once(_, _) => position,

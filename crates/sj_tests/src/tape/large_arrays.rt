@@ -1,6 +1,6 @@
 //! Look-ups by position in arrays of many items, beside walks.
 
-use super::shapes::{Shape, array_of, is_printed, member, object_of};
+use super::shapes::{Shape, array_of, holder_of, is_printed};
 use sj_tape::{Buffers, Spare, Value, to_tape, to_tape_with_buffers, to_tape_with_spare};
 use std::alloc::Global;
 use std::test::Fail;
@@ -66,6 +66,39 @@ fn items_of_one_shape(rt: HostRuntime) -> Result<(), Fail> {
     Ok(())
 }
 
+/// Places are kept of 256 items and more, where these have five nodes on an average.
+#[test]
+fn items_as_wide_as_those_of_which_places_are_kept(rt: HostRuntime) -> Result<(), Fail> {
+    for shape in [Shape::Wide(5), Shape::WideBut(5, 0), Shape::WideBut(5, 200)] {
+        for len in [255, 256, 257] {
+            let told = told_alone(rt.alloc(), shape, len)?;
+            assert!(rt; told == (len, true), "{shape:?} {len}: {told:?}");
+        }
+    }
+    Ok(())
+}
+
+/// From which item on how many change in width: in the first 64 items just as many as let places go on,
+/// one fewer and one more; the same in the next 64; and all.
+const CHANGES: [(usize, usize); 7] = [
+    (0, 23),
+    (0, 24),
+    (0, 25),
+    (64, 31),
+    (64, 32),
+    (64, 33),
+    (0, 1000),
+];
+
+#[test]
+fn items_that_change_in_width(rt: HostRuntime) -> Result<(), Fail> {
+    for (from, changes) in CHANGES {
+        let told = told_alone(rt.alloc(), Shape::Changing(from, changes), 300)?;
+        assert!(rt; told == (300, true), "{from} {changes}: {told:?}");
+    }
+    Ok(())
+}
+
 /// Positions from which on the items of an array of 1,000 are of another shape.
 const SEAMS: [usize; 14] = [
     1, 63, 64, 65, 128, 192, 256, 384, 511, 512, 513, 576, 640, 704,
@@ -102,20 +135,13 @@ fn items_of(alloc: Global, (shape, first, len): Row) -> Result<Vec<String>, Fail
     Ok(shape.items(alloc, first..first.saturating_add(len))?)
 }
 
-/// The text of an object of so many numbers, and behind them an array for each row, by the keys
-/// `p0`, `p1` and so on.
+/// The text of an object of so many numbers, and behind them an array for each row.
 fn object_text(alloc: Global, numbers: usize, rows: &[Row]) -> Result<String, Fail> {
-    let mut members = Vec::new(alloc);
-    for i in 0..numbers {
-        members.push(format!(in alloc; "\"n{i}\":{i}")?)?;
+    let mut arrays = Vec::new(alloc);
+    for row in rows {
+        arrays.push(array_of(alloc, &items_of(alloc, *row)?)?)?;
     }
-    for (i, row) in rows.iter().enumerate() {
-        let items = items_of(alloc, *row)?;
-        let key = format!(in alloc; "p{i}")?;
-        let array = array_of(alloc, &items)?;
-        members.push(member(alloc, key.as_str(), array.as_str())?)?;
-    }
-    Ok(object_of(alloc, &members)?)
+    Ok(holder_of(alloc, numbers, &arrays)?)
 }
 
 /// How many items of the arrays of such an object are found, up to the first array that has others.
@@ -177,6 +203,19 @@ fn arrays_in_objects_of_many_members(rt: HostRuntime) -> Result<(), Fail> {
     for numbers in [56, 57, 300] {
         let found = found_in_two(rt.alloc(), (numbers, &SEVERAL), &SEVERAL)?;
         assert!(rt; found == [2213, 2213], "{numbers}: {found:?}");
+    }
+    Ok(())
+}
+
+/// One node of 32 is looked at: with 19 numbers before it the array is the last one, with 20 it is behind.
+#[test]
+fn an_array_behind_many_numbers(rt: HostRuntime) -> Result<(), Fail> {
+    let row = [(Shape::Wide(5), 0, 256)];
+    for numbers in [0, 18, 19, 20, 21, 63] {
+        let mut bytes = object_text(rt.alloc(), numbers, &row)?.into_bytes();
+        let tape = to_tape(rt.alloc(), bytes.as_mut_slice())?;
+        let found = found_in_object(rt.alloc(), tape.as_value(), &row)?;
+        assert!(rt; found == 256, "{numbers}: {found}");
     }
     Ok(())
 }

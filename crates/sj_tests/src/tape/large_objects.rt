@@ -1,7 +1,8 @@
-//! Look-ups by key in objects of many members, beside walks and searches through all of them.
+//! Look-ups by key in objects of many members, beside walks through all of them.
 
 use super::keys::{Again, Keys, members, twins};
 use super::shapes::{Shape, is_printed, object_of};
+use super::walks::walked;
 use sj_tape::{Repeats, Value, Writable, to_tape};
 use std::alloc::Global;
 use std::test::Fail;
@@ -157,21 +158,7 @@ fn uneven_values_behind_even_ones(rt: HostRuntime) -> Result<(), Fail> {
     Ok(())
 }
 
-/// The value of the member with the key that counts, by a search from the first member on.
-fn searched<'t, 'i>(value: Value<'t, 'i>, key: &str) -> Option<Value<'t, 'i>> {
-    let mut last = None;
-    for (name, member) in value.as_object()?.iter() {
-        if name == key {
-            if value.repeats() == Repeats::First {
-                return Some(member);
-            }
-            last = Some(member);
-        }
-    }
-    last
-}
-
-/// At how many keys look-ups find what searches find, and at how many the value of that position.
+/// At how many keys look-ups find what walks find, and at how many the value of that position.
 fn found_alike(
     alloc: Global,
     value: Value<'_, '_>,
@@ -181,7 +168,7 @@ fn found_alike(
     let mut alike = 0usize;
     let mut own = 0usize;
     for (key, text) in keys.iter().zip(values.iter()) {
-        let wanted = searched(value, key.as_str()).ok_or("no such key")?;
+        let wanted = walked(value, key.as_str()).ok_or("no such key")?;
         let found = value.get(key.as_str());
         if is_printed(alloc, found, wanted.encode(alloc)?.as_str())? {
             alike = alike.saturating_add(1);

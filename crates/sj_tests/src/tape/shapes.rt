@@ -22,6 +22,13 @@ pub(super) enum Shape {
     EvenFrom(usize),
     /// Numbers, but for one record with that number.
     RecordAt(usize),
+    /// Arrays of so many nodes, their own one too.
+    Wide(usize),
+    /// The same, but for the one with the second number, which has a node fewer.
+    WideBut(usize, usize),
+    /// Arrays of eleven nodes and of twelve: behind the first number they change from one to the other
+    /// with each item, so many times.
+    Changing(usize, usize),
 }
 
 impl Shape {
@@ -38,6 +45,15 @@ impl Shape {
             Shape::EvenFrom(_) => record(alloc, number),
             Shape::RecordAt(at) if number == at => record(alloc, number),
             Shape::RecordAt(_) => format!(in alloc; "{number}"),
+            Shape::Wide(width) => wide(alloc, number, width),
+            Shape::WideBut(width, at) if number == at => {
+                wide(alloc, number, width.saturating_sub(1))
+            }
+            Shape::WideBut(width, _) => wide(alloc, number, width),
+            Shape::Changing(from, changes) => {
+                let passed = number.saturating_sub(from).min(changes);
+                wide(alloc, number, usize::wrapping_add(11, passed % 2))
+            }
         }
     }
 
@@ -61,8 +77,13 @@ fn record(alloc: Global, number: usize) -> Result<String, AllocError> {
 
 /// An array of the number and of six to twelve zeros.
 fn uneven(alloc: Global, number: usize) -> Result<String, AllocError> {
-    let mut text = format!(in alloc; "[{number},0,0,0,0,0,0")?;
-    for _ in 0..number % 7 {
+    wide(alloc, number, usize::wrapping_add(8, number % 7))
+}
+
+/// An array of the number and of as many zeros as make so many nodes.
+fn wide(alloc: Global, number: usize, width: usize) -> Result<String, AllocError> {
+    let mut text = format!(in alloc; "[{number}")?;
+    for _ in 2..width {
         text.push_str(",0")?;
     }
     text.push(']')?;
@@ -91,6 +112,24 @@ pub(super) fn array_of(alloc: Global, items: &[String]) -> Result<String, AllocE
 pub(super) fn object_of(alloc: Global, members: &[String]) -> Result<String, AllocError> {
     let list = listed(alloc, members)?;
     format!(in alloc; "{{{list}}}")
+}
+
+/// The text of the object of so many numbers, and behind them these parts, by the keys `p0`, `p1` and so
+/// on.
+pub(super) fn holder_of(
+    alloc: Global,
+    numbers: usize,
+    parts: &[String],
+) -> Result<String, AllocError> {
+    let mut members = Vec::new(alloc);
+    for i in 0..numbers {
+        members.push(format!(in alloc; "\"n{i}\":{i}")?)?;
+    }
+    for (i, part) in parts.iter().enumerate() {
+        let key = format!(in alloc; "p{i}")?;
+        members.push(member(alloc, key.as_str(), part.as_str())?)?;
+    }
+    object_of(alloc, &members)
 }
 
 /// The member with that key and the value of that text.
