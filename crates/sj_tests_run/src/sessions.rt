@@ -84,7 +84,7 @@ fn nested(alloc: Global, count: usize) -> Result<String, Fail> {
 }
 
 /// Inputs of sessions, each with what is answered.
-const ANSWERS: [(&str, &str); 17] = [
+const ANSWERS: [(&str, &str); 18] = [
     // the first example, and a key that is written with escapes
     (
         "{\"some\": [\"key\", \"value\", 2]}\n---\n[\"encode\",[]]\n[\"insert\",[],\"n\",-0]\n[\"insert\",[],\"n\",true]\n[\"encode\",[]]\n",
@@ -139,6 +139,11 @@ const ANSWERS: [(&str, &str); 17] = [
     (
         "[1,[2,3]]\n---\n[\"kind\",[1]]\n[\"len\",[1]]\n[\"push\",[1],{\"a\":1,\"a\":2}]\n[\"put\",[0],null]\n[\"pop\",[5]]\n[\"pop\",[]]\n[\"has\",[],\"a\"]\n[\"len\",[0]]\n[\"insert\",[],\"k\",1]\n[\"nonsense\"]\n[\"encode\",[]]",
         "> Array\n2\nok\n1\nmissing\n[2,3,{\"a\":1}]\nfalse\nno length\nnot an object\nbad command\n[null]\n",
+    ),
+    // lines that are no command
+    (
+        "[1]\n---\n7\nhelp\n[1,2\n[\"encode\",[]]",
+        "> bad command\nbad command\nbad command\n[1]\n",
     ),
     // places, and lines that are no command: each is answered, and the session goes on
     (
@@ -288,4 +293,51 @@ fn answers_at_colliding_keys(rt: HostRuntime) -> Result<(), Fail> {
         members.as_str(),
         "> 0\n32\ntrue\n1\nnone\n33\n",
     )
+}
+
+/// An array of so many numbers.
+fn listed(alloc: Global, len: usize) -> Result<String, Fail> {
+    let mut text = String::from_str(alloc, "[")?;
+    for i in 0..len {
+        let comma = if i == 0 { "" } else { "," };
+        text.push_str(format!(in alloc; "{comma}{i}")?.as_str())?;
+    }
+    text.push(']')?;
+    Ok(text)
+}
+
+/// Lines of around 64 nodes and 256 bytes, and of many more.
+#[test]
+fn answers_long_lines(rt: HostRuntime) -> Result<(), Fail> {
+    let alloc = rt.alloc();
+    for len in [
+        1, 57, 58, 59, 60, 61, 62, 63, 64, 80, 90, 91, 92, 93, 94, 300,
+    ] {
+        let list = listed(alloc, len)?;
+        let input = format!(in alloc;
+            "[0,{{}}]\n---\n[\"push\",[],{list}]\n[\"put\",[0],{list}]\n[\"insert\",[1],\"k\",{list}]\n[\"put\",[0],{list},1]\n[\"encode\",[]]"
+        )?;
+        let want = format!(in alloc;
+            "> ok\n0\nnone\nbad command\n[{list},{{\"k\":{list}}},{list}]\n"
+        )?;
+        check(&rt, alloc, input.as_str(), want.as_str())?;
+    }
+    Ok(())
+}
+
+/// Paths of so many steps, and keys of as many bytes.
+#[test]
+fn answers_long_paths_and_keys(rt: HostRuntime) -> Result<(), Fail> {
+    let alloc = rt.alloc();
+    for len in [1, 60, 61, 62, 63, 64, 65, 240, 250, 260, 300] {
+        let arrays = nested(alloc, len)?;
+        let key = "k".repeat(alloc, len)?;
+        let steps = "0,".repeat(alloc, len.saturating_sub(1))?;
+        let tokens = "/0".repeat(alloc, len.saturating_sub(1))?;
+        let input = format!(in alloc;
+            "{{\"{key}\":[{arrays}]}}\n---\n[\"has\",[],\"{key}\"]\n[\"len\",[\"{key}\",{steps}0]]\n[\"len\",\"/{key}/0{tokens}\"]\n[\"len\",\"/{key}/0{tokens}/0\"]"
+        )?;
+        check(&rt, alloc, input.as_str(), "> true\n0\n0\nmissing\n")?;
+    }
+    Ok(())
 }
