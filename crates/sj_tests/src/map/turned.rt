@@ -56,39 +56,46 @@ impl<S: KeyHasher + Drop> Turning<S> {
         };
         let before = *value;
         let between = before.wrapping_add(1000);
-        *value = before.wrapping_add(2000);
+        let after = before.wrapping_add(2000);
+        *value = after;
         let told = self.map.insert(key.clone()?, between)?;
-        let hash = self.map.hasher().hash_text(key.as_str());
-        let lent = self
-            .map
-            .get_or_insert_hashed_with(hash, key.clone()?, || 0)?;
+        let again = key.clone()?;
+        let hash = self.map.hasher().hash_text(again.as_str());
+        let lent = self.map.get_or_insert_hashed_with(hash, again, || 0)?;
         let is_lent = *lent == between;
-        *lent = *value;
+        *lent = after;
         Ok(told == Some(before) && is_lent)
     }
+}
 
-    /// How many members look-ups with a count of steps find with their values, and how many other keys
-    /// they do not find.
-    fn counted<L: Ledger>(&self, blank: Blank) -> (usize, usize)
-        requires name { blank.name ≡ L.name }
-        requires parts { blank.parts ≡ L.parts }
-        requires some { 0 < L.parts }
-    {
-        let mut steps = Steps::<L>::new(blank);
-        let mut found = 0usize;
-        let mut absent = 0usize;
-        for (key, value) in &self.list {
-            if self.map.get_steps(key.as_str(), &mut steps) == Some(value) {
-                found = found.saturating_add(1);
-            }
+/// Keys that left, and some that no member has.
+const ABSENT: [&str; 4] = ["k00", "k000", "", "k"];
+
+/// How many members look-ups with a count of steps find with their values, and how many other keys they
+/// do not find.
+fn counted<S: KeyHasher, L: Ledger>(
+    map: &HashMap<String, usize, S>,
+    list: &[(String, usize)],
+    blank: Blank,
+) -> (usize, usize)
+    requires name { blank.name ≡ L.name }
+    requires parts { blank.parts ≡ L.parts }
+    requires some { 0 < L.parts }
+{
+    let mut steps = Steps::<L>::new(blank);
+    let mut found = 0usize;
+    for (key, value) in list {
+        if map.get_steps(key.as_str(), &mut steps).copied() == Some(*value) {
+            found = found.saturating_add(1);
         }
-        for key in ["k00", "k000", "", "k"] {
-            if self.map.get_steps(key, &mut steps).is_none() {
-                absent = absent.saturating_add(1);
-            }
-        }
-        (found, absent)
     }
+    let mut absent = 0usize;
+    for key in ABSENT {
+        if map.get_steps(key, &mut steps).is_none() {
+            absent = absent.saturating_add(1);
+        }
+    }
+    (found, absent)
 }
 
 /// How many turns there are: more than the ring has places.
@@ -98,8 +105,9 @@ const TURNS: usize = 140;
 fn is_like<S: KeyHasher + Drop>(turning: &mut Turning<S>, members: usize) -> Result<bool, Fail> {
     let last = members.saturating_sub(1);
     let is_set = turning.set(0)? && turning.set(members / 2)? && turning.set(last)?;
-    let are_counted = turning.counted::<Brand>(Blank::new(1)) == (members, 4);
-    Ok(is_set && are_counted && has_these(&turning.map, turning.list.as_slice()))
+    let (map, list) = (&turning.map, turning.list.as_slice());
+    let are_counted = counted::<S, Brand>(map, list, Blank::new(1)) == (members, 4);
+    Ok(is_set && are_counted && has_these(map, list))
 }
 
 /// How many turns are as on the list, and at how many of each ten the map is like it.

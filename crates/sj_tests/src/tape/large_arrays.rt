@@ -1,6 +1,7 @@
 //! Look-ups by position in arrays of many items, beside walks.
 
 use super::shapes::{Shape, array_of, holder_of, is_printed};
+use super::walks::own_tape;
 use sj_tape::{Buffers, Spare, Value, to_tape, to_tape_with_buffers, to_tape_with_spare};
 use std::alloc::Global;
 use std::test::Fail;
@@ -95,6 +96,20 @@ fn items_that_change_in_width(rt: HostRuntime) -> Result<(), Fail> {
     for (from, changes) in CHANGES {
         let told = told_alone(rt.alloc(), Shape::Changing(from, changes), 300)?;
         assert!(rt; told == (300, true), "{from} {changes}: {told:?}");
+    }
+    Ok(())
+}
+
+/// The nodes of an array as a caller gives them, of which no place is kept.
+#[test]
+fn items_among_nodes_of_a_caller(rt: HostRuntime) -> Result<(), Fail> {
+    for shape in [Shape::Scalars, Shape::Wide(5), Shape::Uneven] {
+        let items = shape.items(rt.alloc(), 0..257)?;
+        let mut bytes = array_of(rt.alloc(), &items)?.into_bytes();
+        let read = to_tape(rt.alloc(), bytes.as_mut_slice())?;
+        let own = own_tape(rt.alloc(), read.as_value())?;
+        let told = told(rt.alloc(), Some(own.as_value()), &items)?;
+        assert!(rt; told == (257, true), "{shape:?}: {told:?}");
     }
     Ok(())
 }

@@ -166,7 +166,7 @@ fn met(alloc: Global, value: Value<'_, '_>, members: &Members) -> Result<usize, 
 }
 
 /// The tape of nodes of its own, which are those of the value.
-fn own_tape<'i>(alloc: Global, value: Value<'_, 'i>) -> Result<Tape<'i>, Fail> {
+pub(super) fn own_tape<'i>(alloc: Global, value: Value<'_, 'i>) -> Result<Tape<'i>, Fail> {
     let nodes = value.nodes();
     let mut list = Vec::new(alloc);
     for place in 0..nodes.len() {
