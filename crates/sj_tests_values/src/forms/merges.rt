@@ -72,7 +72,7 @@ fn made(alloc: Global, keys: usize, step: usize) -> Result<[String; 3], Fail> {
     let mut patch = String::from_str(alloc, "{")?;
     let mut result = String::from_str(alloc, "{")?;
     for key in 0..keys {
-        let member = MEMBERS[key.wrapping_mul(step) % MEMBERS.len()];
+        let member = MEMBERS[key.wrapping_mul(step) % 12];
         put(alloc, &mut target, key, member.0)?;
         put(alloc, &mut patch, key, member.1)?;
         put(alloc, &mut result, key, member.2)?;
