@@ -1,5 +1,5 @@
 -- The chains of a table beside its holes: what one more member, or one less, does to them.
-use Rattle.std.proofs.Common.{◌≡◌, ◌≢◌, ℕ, suc, ◌+◌, ◌<◌, ◌≤◌, ◌%◌, nat_le, Bool, true, false, List, [], ◌∷◌, ◌++◌, length, get_or, set, take, append-nil, refl, sym, ap, ◌∙◌, arith, add-one, get_or-set_same, get_or-set_other, subst}
+use Rattle.std.proofs.Common.{◌≡◌, ◌≢◌, ℕ, suc, ◌+◌, ◌<◌, ◌≤◌, ◌%◌, nat_le, Bool, true, false, List, [], ◌∷◌, ◌++◌, length, get_or, set, take, append-nil, refl, sym, ap, ◌∙◌, arith, add-one, get_or-set_same, get_or-set_other}
 use Rattle.std.specs.Bool.{if◌then◌else◌}
 use Rattle.std.specs.Prelude.{◌==◌}
 use Rattle.std.specs.List.{remove}
@@ -7,19 +7,10 @@ use Rattle.std.proofs.lemmas.Bool.Decides.{nat_tests}
 use Rattle.std.proofs.lemmas.List.{length-set, length_push, get_or_append_left, get_or_push, length-take-le, get_or-take, take_all, drop_all}
 use Rattle.std.proofs.Math.Seq.{take-suc}
 use Rattle.std.proofs.lemmas.List.Edits.{get_or-remove_below, get_or-remove_above, length-remove}
-use Rattle.sj_object.specs.Chains.{is_in, last_below, IsLinked, passed, lowered}
+use Rattle.sj_object.specs.Chains.{is_in, last_below, passed, lowered}
 use Rattle.sj_object.specs.Holes.{raised, raised_by, without, AreHoles, IsChained}
 use Rattle.sj_object.proofs.Chains.{last_le, last_in, last_out, last_same, last_before, last_after, passed_at, passed_other, passed_low, own_bucket, once}
 use Rattle.sj_object.proofs.Holes
-
--- where there is no hole
-pub IsChained-linked : (n : ℕ) (hs links heads : List ℕ) → IsLinked n hs links heads (length hs) → IsChained n [] hs links heads
-IsChained-linked n hs links heads h = record {
-  count = h.count;
-  size = h.size;
-  starts = h.starts;
-  nexts = λ i s l e. let q : s ≡ i = omega (arith, e) in ap (λ j. get_or links j 0) q ∙ h.nexts i l;
-}
 
 -- one more member
 module _ (n b h : ℕ) (cs : List ℕ) where
@@ -224,10 +215,6 @@ module _ (n g : ℕ) (qs hs links heads : List ℕ) (q s : ℕ) (a : AreHoles g 
   -- the link of another member does
   pub IsChained-link : (j u : ℕ) → j < length ds → suc u ≡ raised_by qs (suc j) → Goes (get_or links u 0) → IsChained n (qs ++ q ∷ []) hs (set links u (get_or links s 0)) heads
   IsChained-link j u l o e = IsChained-hole (set links u (get_or links s 0)) heads (length-set links u (get_or links s 0)) refl (λ i t m z. link_passed (get_or links s 0) j u l o e i t m z) (λ b m. heads_same (get_or links s 0) j u l o e b m)
-
--- without holes the chains are of all members
-pub IsLinked-chained : (n : ℕ) (qs hs links heads : List ℕ) → qs ≡ [] → IsChained n qs hs links heads → IsLinked n hs links heads (length hs)
-IsLinked-chained n qs hs links heads e k = let h = subst (λ rs. IsChained n rs hs links heads) e k in record { count = h.count; size = h.size; starts = h.starts; nexts = λ i l. h.nexts i i l refl }
 
 -- the same chains by other holes, which raise each place alike and leave the same members
 pub IsChained-same : (n : ℕ) (qs rs hs links heads : List ℕ) → ((p : ℕ) → raised_by rs p ≡ raised_by qs p) → without rs hs ≡ without qs hs → IsChained n qs hs links heads → IsChained n rs hs links heads

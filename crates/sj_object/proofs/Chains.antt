@@ -3,7 +3,7 @@ use Rattle.std.proofs.Common.{◌≡◌, ◌≢◌, ℕ, zero, suc, ◌+◌, ◌
 use Rattle.std.specs.Bool.{if◌then◌else◌}
 use Rattle.std.specs.List.{remove}
 use Rattle.std.proofs.lemmas.Bool.Decides.{nat_tests}
-use Rattle.std.proofs.lemmas.List.{take-append-drop, drop-take, get_or-take, get_or-drop, length-drop, length-take-le, length-set, length-replicate, get_or-replicate, length-map}
+use Rattle.std.proofs.lemmas.List.{take-append-drop, drop-take, get_or-drop, length-drop, length-take-le, length-set, length-replicate, get_or-replicate, length-map}
 use Rattle.std.proofs.Math.ListN.{replicate, get_or-map}
 use Rattle.std.proofs.Math.Seq.{take-append_seam, drop-append_seam}
 use Rattle.std.proofs.lemmas.List.Edits.{get_or-remove_below, get_or-remove_above, remove-append_right}
@@ -200,36 +200,6 @@ module _ (n : ℕ) (hs : List ℕ) (i : ℕ) (w : i < length hs) where
 
   pub above_next : (place k p : ℕ) → place ≡ suc k → IsAbove n hs i place → p ≡ last_below n (get_or hs k 0 % n) hs k → (p ≡ i + 1 → ⊥) → IsAbove n hs i p
   above_next place k p s h e ne = above_from k p (omega (arith, h.above)) (omega (arith, h.within)) (e ∙ ap (λ b. last_below n b hs k) (above_in place k s h)) ne
-
--- the last member is gone: it was the head of its chain
-module _ (n : ℕ) (hs links heads : List ℕ) (m : ℕ) (p : 0 < n) (e : m + 1 ≡ length hs) (h : IsLinked n hs links heads (length hs)) where
-  last_take : (c k : ℕ) → k ≤ m → last_below n c (take m hs) k ≡ last_below n c hs k
-  last_take c k l = last_same n c (take m hs) hs k (λ j w. get_or-take m hs j 0 (omega arith))
-
-  taken : length (take m hs) ≡ m
-  taken = length-take-le m hs (omega (arith, e))
-
-  starts_popped : (c : ℕ) → c < n → get_or (set heads (get_or hs m 0 % n) (get_or links m 0)) c 0 ≡ last_below n c hs m
-  starts_popped c l = by_test (is_in n c (get_or hs m 0)) refl where
-    by_test : (b : Bool) → is_in n c (get_or hs m 0) ≡ b → get_or (set heads (get_or hs m 0 % n) (get_or links m 0)) c 0 ≡ last_below n c hs m
-    by_test true q =
-        let d : get_or hs m 0 % n ≡ c = grind (arith, nat_tests) in
-        let w : c < length heads = omega (arith, l, h.count) in
-        ap (λ z. get_or (set heads z (get_or links m 0)) c 0) d ∙ get_or-set_same heads c (get_or links m 0) 0 w ∙ h.nexts m (omega (arith, e)) ∙ ap (λ z. last_below n z hs m) d
-    by_test false q =
-        let d : c ≢ get_or hs m 0 % n = grind (arith, nat_tests) in
-        let s : length hs ≡ suc m = omega (arith, e) in
-        get_or-set_other heads (get_or hs m 0 % n) c (get_or links m 0) 0 d ∙ h.starts c l ∙ ap (last_below n c hs) s ∙ last_out n c hs m q
-
-  pub IsLinked-pop : IsLinked n (take m hs) (take m links) (set heads (get_or hs m 0 % n) (get_or links m 0)) (length (take m hs))
-  IsLinked-pop = record {
-    count = length-set heads (get_or hs m 0 % n) (get_or links m 0) ∙ h.count;
-    size = length-take-le m links (omega (arith, e, h.size)) ∙ sym taken;
-    starts = λ c l. starts_popped c l ∙ sym (last_take c m (omega arith)) ∙ ap (last_below n c (take m hs)) (sym taken);
-    nexts = λ i l.
-        let w : i < m = omega (arith, taken, l) in
-        get_or-take m links i 0 w ∙ h.nexts i (omega (arith, e, w)) ∙ ap (λ z. last_below n (z % n) hs i) (sym (get_or-take m hs i 0 w)) ∙ sym (last_take (get_or (take m hs) i 0 % n) i (omega (arith, w)));
-  }
 
 -- the chains once the first members are left out, so many: a place of those ends a chain
 module _ (n : ℕ) (hs : List ℕ) (g : ℕ) where

@@ -5,7 +5,7 @@ use Rattle.std.specs.Prelude.{◌==◌}
 use Rattle.std.specs.List.{remove, copy_within}
 use Rattle.std.proofs.lemmas.Bool.Decides.{nat_tests}
 use Rattle.std.proofs.lemmas.List.Edits.{get_or-remove_below, get_or-remove_above, length-remove, remove-append_left, remove-append_right, length-paste, take-paste, drop-paste}
-use Rattle.std.proofs.lemmas.List.{drop-drop, length-drop, length-take-le, take_all, take-append-drop}
+use Rattle.std.proofs.lemmas.List.{drop-drop, length-drop, length-take-le, take-append-drop}
 use Rattle.sj_object.specs.Chains.{lowered, passed}
 use Rattle.sj_object.specs.Holes.{raised, raised_by, lowered_by, without, AreHoles, with_hole}
 
@@ -309,15 +309,6 @@ moved_nowhere xs from end to e m w =
     ∙ append_assoc (take from xs) (take k (drop from xs)) (drop (from + k) xs)
     ∙ ap (λ rs. take from xs ++ (take k (drop from xs) ++ rs)) (sym (drop-drop k from xs))
     ∙ ap (λ rs. take from xs ++ rs) (take-append-drop k (drop from xs)) ∙ take-append-drop from xs
-
--- what is left once what stands from there to the end is moved down
-pub moved_end : (xs : List ℕ) (to from n : ℕ) → to ≤ from → from ≤ length xs → n ≡ length xs → take (n - (from - to)) (copy_within xs from n to) ≡ take to xs ++ drop from xs
-moved_end xs to from n l m e =
-    let k : n - (from - to) ≡ to + (n - from) = omega (arith, l, m, e) in
-    let z : length (drop from xs) ≡ n - from = omega (arith, length-drop from xs, e) in
-    ap (λ j. take j (copy_within xs from n to)) k
-    ∙ take-paste xs to (drop from xs) (n - from) (omega (arith, l, m)) (omega (arith, z))
-    ∙ ap (λ ys. take to xs ++ ys) (take_all (n - from) (drop from xs) (omega (arith, z)))
 
 pub length-moved : (xs : List ℕ) (to from q : ℕ) → to ≤ from → from ≤ q → q ≤ length xs → length (copy_within xs from q to) ≡ length xs
 length-moved xs to from q l m w = length-paste xs to (drop from xs) (q - from) (omega (arith, l, m, w)) (omega (arith, length-drop from xs, m, w))

@@ -1,5 +1,5 @@
--- Holes in a table, whose members were taken out: each is the position of its place, and they fall, so that the places behind a hole are as they were once it is passed. Only private clauses cite it, and the invariant of a map.
-use Rattle.std.specs.Prelude.{◌≡◌, ◌<◌, ◌≤◌, ◌-◌, ◌%◌, ℕ, suc, List, [], ◌∷◌, length, slice_index, if◌then◌else◌, nat_le, ⊤}
+-- Holes in a table, whose members were taken out: each is the position of its place, and they fall, so that the places in front of a hole are as they were. Only private clauses cite it, and the invariant of a map.
+use Rattle.std.specs.Prelude.{◌≡◌, ◌<◌, ◌≤◌, ◌%◌, ℕ, suc, List, [], ◌∷◌, length, slice_index, if◌then◌else◌, nat_le, ⊤}
 use Rattle.std.specs.List.{remove}
 use denote.Struct.Props.{props}
 use Rattle.sj_object.specs.Chains.{last_below, lowered}

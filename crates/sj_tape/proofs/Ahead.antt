@@ -1,7 +1,7 @@
 -- Steps over the members that begin at a place.
-use Rattle.std.proofs.Common.{◌≡◌, ℕ, suc, ◌+◌, ◌<◌, ◌≤◌, Bool, true, false, if◌then◌else◌, List, [], ◌∷◌, ◌++◌, length, take, drop, get_or, Option, Some, None, option_map, bytes_eq, refl, sym, ap, ◌∙◌, subst, arith}
-use Rattle.std.proofs.lemmas.List.{length-drop, get_or-drop, drop-drop, drop_all}
-use Rattle.sj_text_core.specs.Tree.{Tree, Members, no_members, member, members_len}
+use Rattle.std.proofs.Common.{◌≡◌, ℕ, suc, ◌+◌, ◌<◌, ◌≤◌, Bool, true, false, if◌then◌else◌, List, ◌∷◌, length, take, drop, get_or, Option, Some, None, option_map, bytes_eq, refl, sym, ap, ◌∙◌, subst, arith}
+use Rattle.std.proofs.lemmas.List.{length-drop, get_or-drop, drop-drop}
+use Rattle.sj_text_core.specs.Tree.{Tree, Members, member, members_len}
 use Rattle.sj_text_core.specs.Find.{find_member}
 use Rattle.std.specs.Option.{option_or, IfSome}
 use Rattle.sj_text_core.specs.Repeats.{visited, find_last_member}
@@ -12,10 +12,6 @@ use Rattle.sj_tape.specs.Fronts.{BeginsTree}
 use Rattle.sj_tape.specs.Tags.{member_at}
 use Rattle.sj_tape.proofs.MemberPlaces.{member_from, next_member_place}
 use Rattle.sj_tape.proofs.Splits.{first_member, next_member, BeginsTree-member, tree_at}
-
--- all of them
-pub all_ahead : (ns : List Mark) → AreMembers ns → MembersAhead ns 0
-all_ahead ns a = record { inside = omega arith; are = a }
 
 -- where members are left, the node behind the first one's key says where the next one begins
 pub record NextAhead (ns : List Mark) (place : ℕ) : Type 0 where
@@ -48,10 +44,6 @@ next_ahead ns place h more =
       members = step.members;
       next = record { inside = t.fits; are = step.rest_are };
     }
-
--- none are left at the end
-pub none_ahead : (ns : List Mark) (place : ℕ) → length ns ≤ place → members_from ns place ≡ no_members
-none_ahead ns place l = ap (λ ms. members_in ms) (drop_all place ns l)
 
 -- a node is one text
 pub one_text : (m : Mark) (s t : List ℕ) → m ≡ string s → m ≡ string t → s ≡ t

@@ -1,10 +1,9 @@
 -- Lookups among the members of an object with a choice.
-use Rattle.std.proofs.Common.{◌≡◌, ℕ, suc, ◌+◌, Bool, true, false, List, [], ◌∷◌, map, length, Option, Some, None, option_map, if◌then◌else◌, bytes_eq, refl, ap, ◌∙◌}
+use Rattle.std.proofs.Common.{◌≡◌, ℕ, suc, Bool, true, false, List, [], ◌∷◌, map, length, Option, Some, None, option_map, if◌then◌else◌, bytes_eq, refl, ap, ◌∙◌}
 use Rattle.std.specs.Option.{option_or}
 use Rattle.sj_text_core.specs.Tree.{Tree, Members, no_members, member, members_len, paired}
 use Rattle.sj_text_core.specs.Find.{find_member}
-use Rattle.sj_text_core.specs.Repeats.{find_last_member, find_member_by, visited, visited_by}
-use Rattle.sj_text_core.specs.declared.repeats.Repeats.TheVariants.{First, Last}
+use Rattle.sj_text_core.specs.Repeats.{find_last_member, visited}
 use Rattle.sj_text_core.specs.declared.repeats.Repeats.{Repeats}
 use Rattle.sj_tape.specs.Lookup.{first_value, last_value, compared}
 use Rattle.sj_tape.specs.Members.{chosen}
@@ -57,18 +56,3 @@ found_by c (Some v) None e = cc
 found_by c (Some v) (Some t) e =
     let f : part v ≡ (c, t) = ap (λ o. unwrap_or o (part v)) e in
     record { value = ap (λ (p : Repeats × Tree). Some p.1) f; choice_is = ap (λ (p : Repeats × Tree). p.0) f }
-
-module _ (c : Repeats) (k : List ℕ) (r : Option Value) (ps : List (List ℕ × (Repeats × Tree))) (ms : Members) (is : ps ≡ chosen c (paired ms)) where
-  pub first_found : First ≡ c → option_map part r ≡ first_value k ps → Found c r (find_member_by c k ms)
-  first_found first e =
-      found_by c r _ (e ∙ ap (first_value k) is ∙ first_value-chosen c k ms ∙ ap (λ d. option_map (λ t. (c, t)) (find_member_by d k ms)) first)
-
-  pub last_found : Last ≡ c → option_map part r ≡ last_value k ps → Found c r (find_member_by c k ms)
-  last_found last e =
-      found_by c r _ (e ∙ ap (last_value k) is ∙ last_value-chosen c k ms ∙ ap (λ d. option_map (λ t. (c, t)) (find_member_by d k ms)) last)
-
-  pub first_counts : First ≡ c → (m n : ℕ) → n ≡ m + compared k ps → n ≡ m + visited_by c k ms
-  first_counts first m n e = e ∙ ap (λ x. m + x) (ap (compared k) is ∙ compared-chosen c k ms ∙ ap (λ d. visited_by d k ms) first)
-
-  pub last_counts : Last ≡ c → (m n : ℕ) → n ≡ m + length ps → n ≡ m + visited_by c k ms
-  last_counts last m n e = e ∙ ap (λ x. m + x) (ap (λ (qs : List (List ℕ × (Repeats × Tree))). length qs) is ∙ length-chosen c k ms ∙ ap (λ d. visited_by d k ms) last)

@@ -1,16 +1,14 @@
 -- Look-ups by key that pass members by their tags.
-use Rattle.std.proofs.Common.{◌≡◌, ◌==◌, ◌||◌, ℕ, zero, suc, ◌+◌, ◌*◌, ◌<◌, ◌≤◌, Bool, true, false, List, length, take, drop, get_or, bytes_eq, refl, sym, ap, ◌∙◌, arith}
+use Rattle.std.proofs.Common.{◌≡◌, ◌==◌, ◌||◌, ℕ, zero, suc, ◌+◌, ◌<◌, ◌≤◌, Bool, true, false, List, length, take, drop, get_or, bytes_eq, refl, sym, ap, ◌∙◌, arith}
 use Rattle.std.proofs.lemmas.Bool.Decides.{nat_tests}
 use Rattle.std.proofs.lemmas.List.{drop_more}
-use Rattle.std.proofs.lemmas.Grind.{get_or_default_zero}
 use Rattle.std.proofs.lemmas.Slice.Eq.{bytes_eq-Decides}
 use Rattle.sj_text_core.specs.Find.{find_member}
 use Rattle.sj_text_core.specs.Repeats.{visited}
 use Rattle.sj_text_core.specs.Tree.{members_len}
 use Rattle.sj_text_core.specs.Nodes.{Mark, AreMembers, members_in}
 use Rattle.sj_tape.specs.Ahead.{members_from}
-use Rattle.sj_tape.specs.Tags.{AreTags, IsTagged, member_at, key_tag, tag, has_tag}
-use Rattle.sj_tape.specs.declared.key_tags.KeyTags.{KeyTags}
+use Rattle.sj_tape.specs.Tags.{AreTags, member_at, key_tag, tag, has_tag}
 use Rattle.sj_tape.proofs.Ahead.{next_at, at_next, find_pass, visit_pass}
 
 same_number : (m n : ℕ) → m ≡ n → (m == n) ≡ true
@@ -56,9 +54,3 @@ module _ (ns : List Mark) (k : List ℕ) (tags : List ℕ) (are : AreMembers ns)
         found = ap (λ j. find_member k (members_from ns (member_at ns j))) end ∙ others.found ∙ one.found;
         fewer = omega (arith, one.fewer, others.fewer, ap (λ j. visited k (members_from ns (member_at ns j))) end);
       }
-
--- the place that is kept of a block's first member
-pub block_place : (ns : List Mark) (kept : KeyTags) (block place : ℕ) → IsTagged ns kept → block * 64 < length kept.tags.items → place ≡ get_or kept.places.items block place → place ≡ member_at ns (block * 64)
-block_place ns kept block place tagged l e =
-    let some : block < length kept.places.items = omega (arith, l, tagged.count) in
-    e ∙ get_or_default_zero kept.places.items block place some ∙ tagged.places block some

@@ -90,7 +90,7 @@ impl<'i> PackedList<'i> {
     }
 }
 
-/// One call lets all lists go: a proof about a caller then has one step for them.
+/// One call lets the nodes and the landmarks go: a proof about a caller then has one step for them.
 impl<'i> Drop for PackedList<'i> {
     fn drop(self) {
         let PackedList {

@@ -26,7 +26,7 @@ pub struct Object<'t, 'i> {
 }
 
 impl<'t, 'i> Object<'t, 'i> {
-    ghost use Rattle.std.specs.Prelude.{◌≡◌, ◌≤◌, ◌↔◌, ℕ, List, IsTrue, IfSome, length, map, drop, option_map};
+    ghost use Rattle.std.specs.Prelude.{◌≡◌, ◌↔◌, ℕ, List, IsTrue, IfSome, map, drop, option_map};
     ghost use Rattle.sj_text_core.specs.Agree.{is_before, texts};
     ghost use Rattle.sj_text_core.specs.Find.{find_member};
     ghost use Rattle.sj_text_core.specs.Keep.{is_seen};

@@ -33,8 +33,8 @@ pub const DEPTH_LIMIT: usize = 1024;
 
 /// Reads one text (RFC 8259 without fractions and exponents). The texts of the tape lie in the
 /// bytes, where an escape is written over by what it stands for. For look-ups the tape keeps places of
-/// items of large arrays too, and tags of keys of large objects, where these are soon met in nothing but
-/// small objects and memory for it is given.
+/// items of large arrays too, and tags of keys of large objects: of such as stand in nothing but small
+/// objects, behind few nodes beside their own, and where memory for it is given.
 ///
 /// Refused as `InvalidUtf8` exactly where the bytes are not UTF-8, before any memory is asked
 /// for. `Syntax`, `LoneSurrogate`, `Float`, `NumberTooLarge` and `TooDeep` come only where the
@@ -53,7 +53,7 @@ pub fn to_tape<'i>(alloc: Global, bytes: &'i mut [u8]) -> Result<Tape<'i>, Error
 }
 
 /// Reads as `to_tape` does. The tape keeps neither places of items nor tags of keys, so it is read
-/// sooner, and look-ups in it pass what stands in front: for those who pass over it once.
+/// sooner, and look-ups in it pass what stands in front: for those who go over it once.
 pub fn to_bare_tape<'i>(alloc: Global, bytes: &'i mut [u8]) -> Result<Tape<'i>, ErrorKind>
     // What is read is spelled so, within the limit, and nothing else is.
     ensures spelled { IfOk result (λ t. Spells bytes.old t) }

@@ -18,7 +18,7 @@ mod tagged;
 
 use crate::object::{Iter, Object};
 use crate::packed::Packed;
-use crate::search::places::{are_wide, first_in_runs, last_in_runs, place_of_first, place_of_last};
+use crate::search::places::{first_in_runs, has_runs, last_in_runs, place_of_first, place_of_last};
 use crate::search::tagged::first_of_wide;
 use crate::value::Value;
 use sj_text_core::{Repeats, Steps, are_same_bytes};
@@ -99,7 +99,7 @@ fn place_counted<L: Ledger>(
     ensures value { option_map (tree_from (packed_marks nodes.now)) result ≡ find_member key.now (members_in (packed_marks nodes.now)) }
     ensures exact { steps.new ≡ steps.old + visited key.now (members_in (packed_marks nodes.now)) }
 {
-    if are_wide(len, nodes) {
+    if has_runs(len, nodes) {
         return first_in_runs(nodes, 0, key, steps);
     }
     place_of_first(nodes, 0, key, steps)
@@ -118,7 +118,7 @@ fn last_place_counted<L: Ledger>(
     ensures value { option_map (tree_from (packed_marks nodes.now)) result ≡ find_last_member key.now (members_in (packed_marks nodes.now)) }
     ensures exact { steps.new ≡ steps.old + members_len (members_in (packed_marks nodes.now)) }
 {
-    if are_wide(len, nodes) {
+    if has_runs(len, nodes) {
         return last_in_runs(nodes, key, steps);
     }
     place_of_last(nodes, 0, None, key, steps)
@@ -126,7 +126,7 @@ fn last_place_counted<L: Ledger>(
 
 /// The same by a call, so that a look-up of a first member has no loops but its own.
 #[inline(never)]
-fn last_apart<L: Ledger>(
+fn last_place_apart<L: Ledger>(
     nodes: &[Packed<'_>],
     len: usize,
     key: &[u8],
@@ -160,7 +160,8 @@ fn place_exact<L: Ledger>(
     }
 }
 
-/// The place of the value of the first member with the key, with at most so many steps.
+/// The place of the value of the first member with the key, by tags where they are kept, with no more
+/// steps than `place_counted` takes.
 #[inline(always)]
 fn place_by_tags<L: Ledger>(
     object: &Object<'_, '_>,
@@ -174,7 +175,7 @@ fn place_by_tags<L: Ledger>(
     ensures value { option_map (tree_from (packed_marks nodes.now)) result ≡ find_member key.now (members_in (packed_marks nodes.now)) }
     ensures most { steps.new ≤ steps.old + visited key.now (members_in (packed_marks nodes.now)) }
 {
-    if are_wide(object.len(), nodes) {
+    if has_runs(object.len(), nodes) {
         return first_of_wide(object, nodes, key, steps);
     }
     place_of_first(nodes, 0, key, steps)
@@ -197,7 +198,7 @@ fn place_at_most<L: Ledger>(
 {
     match object.repeats() {
         Repeats::First => place_by_tags(object, nodes, key, steps),
-        Repeats::Last => last_apart(nodes, object.len(), key, steps),
+        Repeats::Last => last_place_apart(nodes, object.len(), key, steps),
     }
 }
 

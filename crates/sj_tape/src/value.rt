@@ -62,25 +62,7 @@ impl<'t, 'i> Value<'t, 'i> {
         ensures choice { choice result ≡ repeats }
         ensures all { drop place (nodes_in nodes.old) ≡ nodes_in result.nodes ++ nodes_in nodes.new }
     {
-        let width = nodes.width_at(place);
-        Value::take_wide(nodes, place, width, repeats)
-    }
-
-    /// Takes the tree at that place, which has `width` nodes, and what stands before it, off the
-    /// front of the nodes.
-    #[inline(always)]
-    pub(crate) fn take_wide(
-        nodes: &mut Nodes<'t, 'i>,
-        place: usize,
-        width: usize,
-        repeats: Repeats,
-    ) -> Self
-        requires begins { BeginsTree (drop place (nodes_in nodes.old)) }
-        requires wide { width ≡ node_width (get_or (nodes_in nodes.old) place nothing) }
-        ensures choice { choice result ≡ repeats }
-        ensures all { drop place (nodes_in nodes.old) ≡ nodes_in result.nodes ++ nodes_in nodes.new }
-    {
-        let end = place + width;
+        let end = place + nodes.width_at(place);
         let tree = nodes.between(place, end);
         nodes.skip(end);
         Value {

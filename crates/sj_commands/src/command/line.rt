@@ -216,8 +216,9 @@ fn command_in(alloc: Global, value: Value<'_, '_>) -> Result<Command, AllocError
     }
 }
 
-/// For a text of how many bytes a reading is to make room at once. What is no command asks for
-/// nothing, so no line makes a request more than it needs for its nodes.
+/// For a text of how many bytes a reading of the line is to make room at once. Nothing is asked for in
+/// front of the first node of a line that does not begin with `[`, and a list makes a node of its
+/// first byte, so no line makes a request more than without.
 fn room_of(line: &[u8]) -> usize {
     // Most commands have no more nodes than a fourth of their bytes, and then ask for them once. A
     // shorter line's first node has room for four made, which are no fewer.

@@ -11,8 +11,8 @@ ghost use Rattle.sj_object.specs.Holes.{raised_by, lowered_by, without, with_hol
 /// How many a table has at most.
 pub const HOLES: usize = 8;
 
-/// How many of the holes a place does not lie behind, of which so many were passed by a place that
-/// lies no lower. As the places of a chain fall, a look-up passes each hole once.
+/// How many holes stand behind a place, of which so many are known to. The places of a chain fall, so
+/// a look-up passes each hole once.
 #[inline(always)]
 pub fn pass(holes: &[usize], passed: usize, place: usize) -> usize
     requires holes { AreHoles 0 holes.now (2 ^ 64) }

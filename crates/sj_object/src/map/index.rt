@@ -220,7 +220,23 @@ impl Table {
     }
 
     /// Cuts off the holes that stand last.
+    #[inline(always)]
     fn cut_holes(&mut self)
+        requires { IsTable self.old }
+        ensures hashes { hashes_in self.new ≡ hashes_in self.old }
+        ensures buckets { length self.new.heads.items ≡ length self.old.heads.items }
+        ensures table { IsTable self.new }
+        ensures last { AreHoles self.new.gone self.new.holes.items (length self.new.hashes.items - 1) }
+    {
+        if self.holes.is_empty() {
+            return;
+        }
+        self.cut_last_holes();
+    }
+
+    /// The same by a call, since most pops find none.
+    #[inline(never)]
+    fn cut_last_holes(&mut self)
         requires { IsTable self.old }
         ensures hashes { hashes_in self.new ≡ hashes_in self.old }
         ensures buckets { length self.new.heads.items ≡ length self.old.heads.items }

@@ -37,7 +37,7 @@ fn position_in_list<K: KeyText, V, L: Ledger>(
     ensures found { result ≡ position_from (λ p. bytes_eq text.now (K.text_of p.0)) 0 pairs.now }
     ensures exact { steps.new ≡ steps.old + visited text.now (entries_of K.text_of pairs.now) }
 {
-    // So many are left: counted down with the list, the position costs no step anything.
+    // How many are left. The list is counted down with it, so that a step counts no position.
     let mut left = pairs.len();
     for pair in pairs {
         if is_key(&pair.0, text, steps) {

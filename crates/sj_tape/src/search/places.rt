@@ -1,6 +1,7 @@
-//! Look-ups by key in packed nodes, which answer a place.
+//! Look-ups by key in packed nodes, which answer a place. A run is members behind one another whose
+//! values have equally many nodes.
 
-ghost use Rattle.std.specs.Prelude.{◌≡◌, ◌+◌, ◌<◌, ◌≤◌, Bool, Some, None, if◌then◌else◌, length, get_or, drop, option_map, IfSome, IfOk, IfErr};
+ghost use Rattle.std.specs.Prelude.{◌≡◌, ◌+◌, ◌<◌, Some, None, if◌then◌else◌, length, get_or, drop, option_map, IfSome, IfOk, IfErr};
 ghost use Rattle.std.specs.Option.{option_or};
 ghost use Rattle.sj_text_core.specs.Find.{find_member};
 ghost use Rattle.sj_text_core.specs.Nodes.{nothing, string, width as node_width};
@@ -22,17 +23,16 @@ const MANY_IN_RUNS: usize = 64;
 /// How many nodes such a member has on an average at least, its key's too.
 const WIDE_IN_RUNS: usize = 4;
 
-/// A search by runs ends where more than these, and one for each `PER_CHANGE` nodes, have begun: the way
+/// A search by runs ends where more than these, and one for each `PER_RUN` nodes, have begun: the way
 /// to the next member then waits for its node all the same.
-const FREE_CHANGES: usize = 4;
+const FREE_RUNS: usize = 4;
 
-/// See `FREE_CHANGES`.
-const PER_CHANGE: usize = 64;
+/// See `FREE_RUNS`.
+const PER_RUN: usize = 64;
 
-/// Whether so many members are many and have many nodes each: runs of equally wide ones are worth a look
-/// then.
+/// Whether an object of so many members, with these nodes, is searched by runs.
 #[inline(always)]
-pub(super) fn are_wide(len: usize, nodes: &[Packed<'_>]) -> bool {
+pub(super) fn has_runs(len: usize, nodes: &[Packed<'_>]) -> bool {
     len >= MANY_IN_RUNS && nodes.len() / WIDE_IN_RUNS >= len
 }
 
@@ -51,7 +51,7 @@ pub(super) fn name_at<'i>(nodes: &[Packed<'i>], place: usize) -> &'i str
 
 /// How many nodes the value has of the member at that place.
 #[inline(always)]
-pub(super) fn width_at(nodes: &[Packed<'_>], place: usize) -> usize
+pub(super) fn value_width(nodes: &[Packed<'_>], place: usize) -> usize
     requires ahead { MembersAhead (packed_marks nodes.now) place }
     requires more { place < length (packed_marks nodes.now) }
     ensures { result ≡ node_width (get_or (packed_marks nodes.now) (place + 1) nothing) }
@@ -77,7 +77,7 @@ pub(super) fn place_of_first<L: Ledger>(
         if is_key(name_at(nodes, at), key, steps) {
             return Some(at + 1);
         }
-        at += 1 + width_at(nodes, at);
+        at += 1 + value_width(nodes, at);
     }
     None
 }
@@ -101,10 +101,10 @@ fn first_in_run<L: Ledger>(
     ensures passed { IfErr result (λ p. find_member key.now (members_from (packed_marks nodes.now) p) ≡ find_member key.now (members_from (packed_marks nodes.now) from)) }
     ensures passed_exact { IfErr result (λ p. steps.new + visited key.now (members_from (packed_marks nodes.now) p) ≡ steps.old + visited key.now (members_from (packed_marks nodes.now) from)) }
 {
-    let width = width_at(nodes, from);
+    let width = value_width(nodes, from);
     let mut at = from;
     while at < nodes.len() {
-        if width_at(nodes, at) != width {
+        if value_width(nodes, at) != width {
             return Err(at);
         }
         if is_key(name_at(nodes, at), key, steps) {
@@ -148,7 +148,7 @@ pub(super) fn first_in_runs<L: Ledger>(
     let mut at = from;
     let mut runs = 0usize;
     while at < nodes.len() {
-        if runs > FREE_CHANGES + at / PER_CHANGE {
+        if runs > FREE_RUNS + at / PER_RUN {
             return first_apart(nodes, at, key, steps);
         }
         match first_in_run(nodes, at, key, steps) {
@@ -189,7 +189,7 @@ pub(super) fn place_of_last<L: Ledger>(
     while at < nodes.len() {
         let is_met = is_key(name_at(nodes, at), key, steps);
         last = later(is_met, at + 1, last);
-        at += 1 + width_at(nodes, at);
+        at += 1 + value_width(nodes, at);
     }
     last
 }
@@ -214,11 +214,11 @@ fn last_in_run<L: Ledger>(
     ensures value { option_or (find_last_member key.now (members_from (packed_marks nodes.now) result.1)) (option_map (tree_from (packed_marks nodes.now)) result.0) ≡ option_or (find_last_member key.now (members_from (packed_marks nodes.now) from)) (option_map (tree_from (packed_marks nodes.now)) before) }
     ensures exact { steps.new + members_len (members_from (packed_marks nodes.now) result.1) ≡ steps.old + members_len (members_from (packed_marks nodes.now) from) }
 {
-    let wide = width_at(nodes, from);
+    let wide = value_width(nodes, from);
     let mut at = from;
     let mut last = before;
     while at < nodes.len() {
-        if width_at(nodes, at) != wide {
+        if value_width(nodes, at) != wide {
             return (last, at);
         }
         let is_met = is_key(name_at(nodes, at), key, steps);
@@ -262,7 +262,7 @@ pub(super) fn last_in_runs<L: Ledger>(
     let mut last = None;
     let mut runs = 0usize;
     while at < nodes.len() {
-        if runs > FREE_CHANGES + at / PER_CHANGE {
+        if runs > FREE_RUNS + at / PER_RUN {
             return last_apart(nodes, at, last, key, steps);
         }
         let (found, next) = last_in_run(nodes, at, last, key, steps);

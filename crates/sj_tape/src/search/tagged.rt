@@ -17,13 +17,13 @@ use crate::landmarks::STEP;
 use crate::object::Object;
 use crate::packed::Packed;
 use crate::search::is_key;
-use crate::search::places::{first_in_runs, name_at, width_at};
+use crate::search::places::{first_in_runs, name_at, value_width};
 use crate::tag::{is_among, tag_of};
 use sj_text_core::Steps;
 use std::sync::ledger::Ledger;
 
 /// So many members are compared before tags are looked for.
-const FEW: usize = 4;
+const FIRST_COMPARED: usize = 4;
 
 /// The place of the value of the first member with the key, among those from one position, at that place,
 /// on and before another; else where the member at that other position begins.
@@ -52,7 +52,7 @@ fn first_among<L: Ledger>(
         if is_key(name_at(nodes, at), key, steps) {
             return Ok(at + 1);
         }
-        at += 1 + width_at(nodes, at);
+        at += 1 + value_width(nodes, at);
     }
     Err(at)
 }
@@ -179,7 +179,7 @@ pub(super) fn first_of_wide<L: Ledger>(
     ensures value { option_map (tree_from (packed_marks nodes.now)) result ≡ find_member key.now (members_in (packed_marks nodes.now)) }
     ensures most { steps.new ≤ steps.old + visited key.now (members_in (packed_marks nodes.now)) }
 {
-    let few = FEW.min(object.len());
+    let few = FIRST_COMPARED.min(object.len());
     match first_among(nodes, 0, 0, few, key, steps) {
         Ok(found) => Some(found),
         Err(place) => first_behind(object, nodes, few, place, key, steps),

@@ -1,13 +1,11 @@
-use Rattle.std.proofs.Common.{◌≡◌, ◌+◌, ap, sym, ◌∙◌, arith, option_map, List, ℕ, length}
+use Rattle.std.proofs.Common.{ap, ◌∙◌, arith, option_map}
 use Rattle.sj_text_core.specs.Nodes.{members_in}
 use Rattle.sj_text_core.specs.Repeats.{find_member_by, visited_by}
 use Rattle.sj_text_core.specs.Tree.{Tree}
-use Rattle.sj_text_core.specs.declared.repeats.Repeats.{Repeats}
-use Rattle.sj_tape.specs.Lookup.{first_value, last_value, compared}
 use Rattle.sj_tape.specs.Marks.{packed_marks}
 use Rattle.sj_tape.specs.Members.{members, object_choice}
 use Rattle.sj_tape.proofs.Ahead.{parts_there}
-use Rattle.sj_tape.proofs.Lookups.{Found, found_by, first_value-chosen, last_value-chosen, compared-chosen, length-chosen}
+use Rattle.sj_tape.proofs.Lookups.{found_by}
 use Rattle.sj_tape.proofs.search.find_counted.Goals as goal
 
 pub returns-in-Some-clause-value : goal.returns-in-Some-clause-value

@@ -1,10 +1,10 @@
-use Rattle.std.proofs.Common.{◌≡◌, ◌+◌, ◌-◌, ◌<◌, ◌≤◌, ℕ, suc, List, [], ◌∷◌, ◌++◌, length, take, drop, get_or, arith, refl, sym, ap, ◌∙◌, add-one, subst}
+use Rattle.std.proofs.Common.{◌≡◌, ◌+◌, ◌-◌, ◌<◌, ◌≤◌, ℕ, suc, List, ◌∷◌, ◌++◌, length, take, drop, get_or, arith, refl, sym, ap, ◌∙◌, add-one, subst}
 use Rattle.std.specs.List.{remove, copy_within}
 use Rattle.std.proofs.Math.Seq.{drop-cons, take-suc}
 use Rattle.std.proofs.lemmas.List.{length-drop}
 use Rattle.sj_object.specs.Holes.{without, AreHoles}
 use Rattle.sj_object.proofs.Chains.{drop-remove}
-use Rattle.sj_object.proofs.Holes.{AreHoles-drop, AreHoles-more, AreHoles-split, length-without, without-behind, moved_down, moved_end, length-moved}
+use Rattle.sj_object.proofs.Holes.{AreHoles-drop, AreHoles-more, AreHoles-split, length-without, without-behind, moved_down, length-moved}
 use Rattle.sj_object.proofs.map.holes.close.Goals as goal
 
 -- a turn of the loop, at the last hole of the first so many

@@ -1,4 +1,4 @@
-use Rattle.std.proofs.Common.{◌≡◌, ◌-◌, ◌≤◌, ℕ, List, length, drop, arith, sym, ap, ◌∙◌}
+use Rattle.std.proofs.Common.{◌≡◌, arith, sym}
 use Rattle.sj_object.proofs.Holes.{moved_nowhere}
 use Rattle.sj_object.proofs.map.holes.move_down.Goals as goal
 

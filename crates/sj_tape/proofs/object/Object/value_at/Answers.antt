@@ -1,4 +1,4 @@
-use Rattle.std.proofs.Common.{rules, ◌≡◌, ◌<◌, ◌^◌, length, refl, ap, sym, arith}
+use Rattle.std.proofs.Common.{rules, ◌<◌, ◌^◌, length, refl, ap, arith}
 use Rattle.std.proofs.lemmas.List.{length-map}
 use Rattle.sj_text_core.specs.Nodes.{width}
 use Rattle.sj_tape.specs.Marks.{packed_mark, packed_marks}

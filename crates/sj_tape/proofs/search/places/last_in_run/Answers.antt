@@ -1,4 +1,4 @@
-use Rattle.std.proofs.Common.{rules, ◌≡◌, ◌+◌, ◌<◌, ◌≤◌, ◌^◌, List, ℕ, Some, if◌then◌else◌, bytes_eq, get_or, drop, inl, inr, option_map, length, refl, sym, ap, ◌∙◌, subst, arith}
+use Rattle.std.proofs.Common.{rules, ◌≡◌, ◌+◌, ◌<◌, ◌^◌, ℕ, Some, if◌then◌else◌, bytes_eq, get_or, drop, inl, inr, option_map, length, refl, sym, ap, ◌∙◌, subst, arith}
 use Rattle.std.specs.Option.{option_or}
 use Rattle.std.proofs.lemmas.List.{length-map}
 use Rattle.std.proofs.lemmas.Bool.{cases_lt}
@@ -8,31 +8,31 @@ use Rattle.sj_text_core.specs.Tree.{members_len}
 use Rattle.sj_tape.specs.Ahead.{MembersAhead, members_from, tree_from}
 use Rattle.sj_tape.specs.Fronts.{BeginsTree}
 use Rattle.sj_tape.specs.Marks.{packed_mark, packed_marks}
-use Rattle.sj_tape.proofs.Ahead.{NextAhead, next_ahead, one_text, last_pass, later_holds}
+use Rattle.sj_tape.proofs.Ahead.{next_ahead, one_text, last_pass, later_holds}
 use Rattle.sj_tape.proofs.search.places.last_in_run.Goals as goal
 
-pub returns-then-width_at-wide-clause-on : goal.returns-then-width_at-wide-clause-on
-returns-then-width_at-wide-clause-on g c = elim (cases_lt c.args.from c.loop-at.at) [
+pub returns-then-value_width-wide-clause-on : goal.returns-then-value_width-wide-clause-on
+returns-then-value_width-wide-clause-on g c = elim (cases_lt c.args.from c.loop-at.at) [
   | inl low ↦ low
   | inr high ↦
       let ns = packed_marks c.args.nodes.now in
       let there : c.loop-at.at ≡ c.args.from = omega (arith, high, c.loop-at.invariant.on) in
-      let same : c.width_at.result ≡ c.width_at-wide.result = c.width_at.ensures ∙ ap (λ p. width (get_or ns (p + 1) nothing)) there ∙ sym c.width_at-wide.ensures in
-      absurd (omega (arith, same, c.if-width_at-wide.true))
+      let same : c.value_width.result ≡ c.value_width-wide.result = c.value_width.ensures ∙ ap (λ p. width (get_or ns (p + 1) nothing)) there ∙ sym c.value_width-wide.ensures in
+      absurd (omega (arith, same, c.if-value_width-wide.true))
 ]
 
 pub overflow_add-at-in-loop-at : goal.overflow_add-at-in-loop-at
 overflow_add-at-in-loop-at g c =
     let next = next_ahead (packed_marks c.args.nodes.now) c.loop-at.at c.loop-at.invariant.ahead (omega (arith, length-map c.args.nodes.now packed_mark, c.loop-at-test.true)) in
     let long : length c.args.nodes.now < 2 ^ 64 = search rules in
-    let small : 1 + c.width_at-wide.result < 2 ^ 64 = omega (arith, next.fits, c.width_at.ensures, c.if-width_at-wide.false, length-map c.args.nodes.now packed_mark, long) in
+    let small : 1 + c.value_width-wide.result < 2 ^ 64 = omega (arith, next.fits, c.value_width.ensures, c.if-value_width-wide.false, length-map c.args.nodes.now packed_mark, long) in
     search (rules, small)
 
 pub overflow_add-at-in-loop-at-2 : goal.overflow_add-at-in-loop-at-2
 overflow_add-at-in-loop-at-2 g c =
     let next = next_ahead (packed_marks c.args.nodes.now) c.loop-at.at c.loop-at.invariant.ahead (omega (arith, length-map c.args.nodes.now packed_mark, c.loop-at-test.true)) in
     let long : length c.args.nodes.now < 2 ^ 64 = search rules in
-    let small : c.loop-at.at + (1 + c.width_at-wide.result) < 2 ^ 64 = omega (arith, next.fits, c.width_at.ensures, c.if-width_at-wide.false, length-map c.args.nodes.now packed_mark, long) in
+    let small : c.loop-at.at + (1 + c.value_width-wide.result) < 2 ^ 64 = omega (arith, next.fits, c.value_width.ensures, c.if-value_width-wide.false, length-map c.args.nodes.now packed_mark, long) in
     search (rules, small)
 
 pub loop-at-preserved : goal.loop-at-preserved
@@ -41,7 +41,7 @@ loop-at-preserved g c =
     let next = next_ahead (packed_marks c.args.nodes.now) c.loop-at.at c.loop-at.invariant.ahead (omega (arith, length-map c.args.nodes.now packed_mark, c.loop-at-test.true)) in
     let k = c.args.key.now in
     let is : c.is_key-is_met.result ≡ bytes_eq k next.key = c.is_key-is_met.ensures.answer ∙ ap (bytes_eq k) (sym (one_text _ _ _ next.text c.name_at.ensures)) in
-    let there : c.loop-at.at + 1 + width (get_or ns (c.loop-at.at + 1) nothing) ≡ c.loop-at.at + (1 + c.width_at-wide.result) = omega (arith, c.width_at.ensures, c.if-width_at-wide.false) in
+    let there : c.loop-at.at + 1 + width (get_or ns (c.loop-at.at + 1) nothing) ≡ c.loop-at.at + (1 + c.value_width-wide.result) = omega (arith, c.value_width.ensures, c.if-value_width-wide.false) in
     let chosen : c.later-last.result ≡ (if c.is_key-is_met.result then Some (c.loop-at.at + 1) else c.loop-at.last) = c.later-last.ensures in
     record {
       ahead = subst (MembersAhead ns) there next.next;

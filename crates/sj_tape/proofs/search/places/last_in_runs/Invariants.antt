@@ -1,4 +1,4 @@
-use Rattle.std.proofs.Common.{◌≡◌, ◌+◌, ◌-◌, ◌≤◌, drop, length, option_map, IfSome}
+use Rattle.std.proofs.Common.{◌≡◌, ◌+◌, ◌-◌, drop, length, option_map, IfSome}
 use Rattle.std.specs.Option.{option_or}
 use Rattle.sj_text_core.specs.Repeats.{find_last_member}
 use Rattle.sj_text_core.specs.Tree.{members_len}

@@ -1,5 +1,5 @@
-use Rattle.std.proofs.Common.{rules, ◌≡◌, ◌+◌, ◌<◌, ◌^◌, take, drop, ap, sym, ◌∙◌, subst, arith}
-use Rattle.sj_text_core.specs.Nodes.{IsPreorder, tree_of}
+use Rattle.std.proofs.Common.{rules, ◌+◌, ◌<◌, ◌^◌, take, drop, ap, sym, ◌∙◌, subst, arith}
+use Rattle.sj_text_core.specs.Nodes.{IsPreorder}
 use Rattle.sj_tape.specs.Stretches.{nodes_in}
 use Rattle.sj_tape.proofs.Splits.{tree_at}
 use Rattle.sj_tape.proofs.Stretched.{few}

@@ -1,7 +1,7 @@
-use Rattle.std.proofs.Common.{◌≡◌, ℕ, List, length, drop, arith, sym, ap, ◌∙◌, subst}
+use Rattle.std.proofs.Common.{◌≡◌, length, drop, arith, sym, ap, ◌∙◌, subst}
 use Rattle.std.proofs.lemmas.List.{length-take-le}
 use Rattle.sj_object.specs.Holes.{AreHoles, without}
-use Rattle.sj_object.proofs.Tables.{length-beside, length-in}
+use Rattle.sj_object.proofs.Tables.{length-in}
 use Rattle.sj_object.proofs.map.index.Table.forget.Goals as goal
 
 pub close-requires-clause-holes : goal.close-requires-clause-holes

@@ -3,7 +3,7 @@ use Rattle.std.proofs.lemmas.List.{length-map}
 use Rattle.sj_text_core.specs.Nodes.{width}
 use Rattle.sj_tape.specs.Marks.{packed_mark, packed_marks}
 use Rattle.sj_tape.proofs.Ahead.{next_ahead}
-use Rattle.sj_tape.proofs.search.places.width_at.Goals as goal
+use Rattle.sj_tape.proofs.search.places.value_width.Goals as goal
 
 pub width-requires : goal.width-requires
 width-requires c =

@@ -1,6 +1,6 @@
 use Rattle.std.proofs.Common.{◌≡◌, length}
 use Rattle.sj_object.specs.Index.{hashes_in, IsTable}
-use Rattle.sj_object.proofs.map.index.Table.cut_holes.Given as goal
+use Rattle.sj_object.proofs.map.index.Table.cut_last_holes.Given as goal
 
 abbrev pub invariant-loop-self : goal.invariant-loop-self
 invariant-loop-self l = record {
