@@ -2,7 +2,7 @@
 use Rattle.std.proofs.Common.{◌≡◌, ◌<◌, ◌≤◌, ◌+◌, ℕ, zero, suc, List, [], ◌∷◌, map, length, drop, get_or, Option, Some, None, option_and_then, refl, sym, ap, ◌∙◌, subst, add-one, true≢false, arith}
 use Rattle.std.specs.Option.{IsSome, is_some}
 use Rattle.std.proofs.lemmas.List.{drop_more, drop_all}
-use Rattle.sj_text_core.specs.Tree.{Tree, null}
+use Rattle.sj_text_core.specs.Tree.{Tree}
 use Rattle.sj_text_core.specs.Paths.{Step, by_key, step_into, set_found, change_found, tree_at, set_at}
 use Rattle.sj_text_core.proofs.Paths.{found_same}
 use Rattle.sj_text_core.proofs.Writes.{step_there, set_found-twice}

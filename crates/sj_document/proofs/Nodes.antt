@@ -1,5 +1,5 @@
 -- The nodes of a document, level by level.
-use Rattle.std.proofs.Common.{◌≡◌, ℕ, zero, suc, Bool, true, false, not, true≢false, ◌+◌, ◌*◌, ◌<◌, ◌≤◌, List, [], ◌∷◌, ◌++◌, map, length, get_or, set, Option, Some, None, option_to_list, Box, Vec, Global, refl, sym, ap, ◌∙◌, subst, rules, arith}
+use Rattle.std.proofs.Common.{◌≡◌, ℕ, Bool, true, false, not, true≢false, ◌+◌, ◌*◌, ◌<◌, ◌≤◌, List, [], ◌∷◌, ◌++◌, map, length, get_or, set, Option, Some, None, option_to_list, Box, Vec, Global, refl, sym, ap, ◌∙◌, subst, rules, arith}
 use Rattle.std.specs.List.{sum_by}
 use Rattle.std.specs.Bool.{IsTrue}
 use Rattle.std.specs.Option.{MatchOption, IfNone}

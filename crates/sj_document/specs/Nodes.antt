@@ -1,5 +1,5 @@
 -- How many nodes a document has, and what is left to do while it is let go. Only private clauses cite it.
-use Rattle.std.specs.Prelude.{ℕ, ◌+◌, ◌*◌, List, Option, Some, None}
+use Rattle.std.specs.Prelude.{ℕ, ◌+◌, ◌*◌, Option, Some, None}
 use Rattle.std.specs.List.{sum_by}
 use Rattle.sj_document.specs.declared.value.Document.{Document, fold-Document}
 use Rattle.sj_document.specs.declared.value.Document.TheOpen.{Document-F}

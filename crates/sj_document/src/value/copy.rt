@@ -1,6 +1,7 @@
 //! Copies.
 
-ghost use Rattle.std.specs.Prelude.{◌≡◌, IfOk, map};
+ghost use Rattle.std.specs.Prelude.{◌≡◌, IfOk, OnOk, map};
+ghost use Rattle.sj_object.specs.Edits.{put};
 ghost use Rattle.sj_object.specs.Members.{entry_members};
 ghost use Rattle.sj_document.specs.Document.{tree};
 
@@ -62,7 +63,14 @@ fn copy_items<T: CopyText + Drop>(items: &Vec<Document<T>>) -> Result<Vec<Docume
 {
     let mut copies = Vec::with_capacity(*items.allocator(), items.len())?;
     for item in items {
-        copies.push(copy(item)?)?;
+        let Ok(copied) = copy(item) else {
+            give_up(copies);
+            return Err(AllocError);
+        };
+        if let Err(refused) = copies.push(copied) {
+            give_up((copies, refused));
+            return Err(AllocError);
+        }
     }
     Ok(copies)
 }
@@ -77,9 +85,36 @@ fn copy_members<T: CopyText + Drop>(members: &Object<T>) -> Result<Object<T>, Al
         *members.hasher(),
     )?;
     for (key, member) in members.iter() {
-        let name = key.copy()?;
-        let copied = copy(member)?;
-        copies.set(name, copied)?;
+        let Ok(name) = key.copy() else {
+            give_up(copies);
+            return Err(AllocError);
+        };
+        let Ok(copied) = copy(member) else {
+            give_up((copies, name));
+            return Err(AllocError);
+        };
+        let Ok(()) = put_copy(&mut copies, name, copied) else {
+            give_up(copies);
+            return Err(AllocError);
+        };
     }
     Ok(copies)
 }
+
+/// Puts a copied member last.
+#[inline(never)]
+fn put_copy<T: CopyText + Drop>(
+    copies: &mut Object<T>,
+    name: T,
+    copied: Document<T>,
+) -> Result<(), AllocError>
+    ensures { OnOk result (copies.new.entries ≡ put (name, T.text_of name) copied copies.old.entries) }
+{
+    copies.set(name, copied)
+}
+
+/// Lets go what was copied until a request was refused. It stands apart, so that a level of copies
+/// takes no room of the stack for it.
+#[cold]
+#[inline(never)]
+fn give_up<C: Drop>(_copied: C) {}

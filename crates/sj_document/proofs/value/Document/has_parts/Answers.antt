@@ -1,6 +1,6 @@
-use Rattle.std.proofs.Common.{◌≡◌, ◌<◌, ◌+◌, ℕ, Bool, true, false, not, List, [], length, subst, sym, ap, ◌∙◌, rules, arith}
+use Rattle.std.proofs.Common.{◌≡◌, ◌<◌, ◌+◌, [], length, subst, ap, ◌∙◌, arith}
 use Rattle.sj_document.specs.Nodes.{nodes}
-use Rattle.sj_document.proofs.Nodes.{nodes-Array, nodes-Object, of_items, of_members, items_some, items_pos, members_decide}
+use Rattle.sj_document.proofs.Nodes.{nodes-Array, nodes-Object, of_items, items_some, items_pos, members_decide}
 use Rattle.std.specs.Bool.{IsTrue}
 use Rattle.sj_document.proofs.value.Document.has_parts.Goals as goal
 

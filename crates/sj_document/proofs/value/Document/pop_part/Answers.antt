@@ -1,4 +1,4 @@
-use Rattle.std.proofs.Common.{◌≡◌, ◌+◌, ℕ, length, sym, ap, ◌∙◌, rules, arith, Box, Vec, Global, Some, None}
+use Rattle.std.proofs.Common.{◌≡◌, ◌+◌, sym, ap, ◌∙◌, rules, Box, Vec, Global}
 use Rattle.sj_document.specs.Nodes.{nodes, nodes_of}
 use Rattle.sj_document.specs.declared.value.Document.{Document, Array, Object, the_lemmas}
 use Rattle.sj_document.proofs.Trees.{Map}

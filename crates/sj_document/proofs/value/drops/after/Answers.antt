@@ -1,6 +1,6 @@
-use Rattle.std.proofs.Common.{◌≡◌, ℕ, ◌<◌, ap, rules, arith}
+use Rattle.std.proofs.Common.{ap, arith}
 use Rattle.sj_document.specs.Nodes.{nodes, nodes_of}
-use Rattle.sj_document.proofs.Nodes.{falls, turns, some_nodes}
+use Rattle.sj_document.proofs.Nodes.{falls, some_nodes}
 use Rattle.sj_document.proofs.value.drops.after.Goals as goal
 
 pub returns-then-not-has_parts-clause-less : goal.returns-then-not-has_parts-clause-less

@@ -1,9 +1,7 @@
-use Rattle.std.proofs.Common.{◌≡◌, ◌<◌, ◌+◌, ℕ, length, map, Some, sym, ap, ◌∙◌, arith, rules}
+use Rattle.std.proofs.Common.{◌≡◌, ◌<◌, length, map, ap, ◌∙◌, arith, rules}
 use Rattle.std.proofs.lemmas.List.{length-map}
-use Rattle.sj_text_core.specs.Tree.{Tree}
-use Rattle.sj_text_core.specs.Paths.{Step, step_into, set_found}
+use Rattle.sj_text_core.specs.Paths.{set_found}
 use Rattle.sj_document.specs.Document.{tree}
-use Rattle.sj_document.specs.Descents.{step_at}
 use Rattle.sj_document.proofs.Descents.{begins, goes_down, ends_there, ends_before, step_is}
 use Rattle.sj_document.proofs.value.path.descend.Goals as goal
 

@@ -1,6 +1,6 @@
 use Rattle.std.proofs.Common.{◌≡◌, ◌<◌, length, map, string_bytes, sym, ◌∙◌, arith}
 use Rattle.std.proofs.lemmas.List.{length-map}
-use Rattle.sj_text_core.specs.Paths.{Step, by_key}
+use Rattle.sj_text_core.specs.Paths.{by_key}
 use Rattle.sj_text_core.proofs.Writes.{set_at-missing}
 use Rattle.sj_document.specs.Document.{tree}
 use Rattle.sj_document.proofs.value.path.replace_at.Goals as goal

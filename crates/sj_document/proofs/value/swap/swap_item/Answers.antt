@@ -1,6 +1,6 @@
-use Rattle.std.proofs.Common.{◌≡◌, ◌<◌, ◌≤◌, length, get_or, map, Some, None, refl, sym, ap, ◌∙◌, rules, arith, Box, Vec, Global}
+use Rattle.std.proofs.Common.{◌≡◌, ◌<◌, ◌≤◌, length, get_or, map, refl, sym, ap, ◌∙◌, rules, arith, Box, Vec, Global}
 use Rattle.std.specs.Vec.{with_item}
-use Rattle.sj_text_core.specs.Tree.{Tree, list, items_from}
+use Rattle.sj_text_core.specs.Tree.{list, items_from}
 use Rattle.sj_text_core.specs.Find.{nth}
 use Rattle.sj_text_core.specs.Paths.{set_item, by_place, set_found}
 use Rattle.sj_document.specs.Document.{tree}

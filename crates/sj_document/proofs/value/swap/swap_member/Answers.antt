@@ -1,5 +1,5 @@
 use Rattle.std.proofs.Common.{◌≡◌, Some, None, option_map, refl, sym, ap, ◌∙◌, rules, Box, Global}
-use Rattle.sj_text_core.specs.Tree.{Tree, obj}
+use Rattle.sj_text_core.specs.Tree.{obj}
 use Rattle.sj_text_core.specs.Find.{find}
 use Rattle.sj_text_core.specs.Edits as members
 use Rattle.sj_text_core.specs.Paths.{by_key, set_found}
