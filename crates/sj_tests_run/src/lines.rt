@@ -52,10 +52,23 @@ fn shown(alloc: Global, line: &str) -> Result<(String, bool), Fail> {
     Ok((format!(in alloc; "{command:?}")?, is_one))
 }
 
-/// The line with blanks before and behind its first byte, up to so many bytes.
-fn with_blanks(alloc: Global, line: &str, len: usize) -> Result<String, Fail> {
+/// How many bytes lines are made, and how many blanks are put in front of their first byte.
+const BLANKS: [(usize, usize); 10] = [
+    (40, 0),
+    (255, 0),
+    (256, 0),
+    (257, 0),
+    (2000, 0),
+    (40, 3),
+    (255, 80),
+    (256, 80),
+    (257, 80),
+    (2000, 650),
+];
+
+/// The line with so many blanks in front of its first byte, and others behind this, up to so many bytes.
+fn with_blanks(alloc: Global, line: &str, (len, before): (usize, usize)) -> Result<String, Fail> {
     let blanks = len.saturating_sub(line.len());
-    let before = blanks / 3;
     let behind = blanks.saturating_sub(before);
     let (first, rest) = line.split_at_checked(1).unwrap_or((line, ""));
     let mut text = " ".repeat(alloc, before)?;
@@ -65,18 +78,19 @@ fn with_blanks(alloc: Global, line: &str, len: usize) -> Result<String, Fail> {
     Ok(text)
 }
 
-/// Lines of more bytes than have room at once are the commands of their short forms.
+/// Lines of about as many bytes as have room at once, of more and of fewer, are the commands of their short
+/// forms: those that begin with their first byte, and those that begin with blanks.
 #[test]
 fn a_line_with_blanks_is_the_same_command(rt: HostRuntime) -> Result<(), Fail> {
     let alloc = rt.alloc();
     for (line, is_one) in LINES {
         let short = shown(alloc, line)?;
         assert!(rt; short.1 == is_one, "{line}");
-        for len in [40, 255, 256, 257, 2000] {
+        for form in BLANKS {
             // Within a word, as that of no command is, blanks change nothing either.
-            let long = with_blanks(alloc, line, len)?;
+            let long = with_blanks(alloc, line, form)?;
             assert!(rt;
-                long.len() == len && shown(alloc, long.as_str())? == short,
+                long.len() == form.0 && shown(alloc, long.as_str())? == short,
                 "{long}"
             );
         }
