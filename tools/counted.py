@@ -29,6 +29,8 @@ CASES = {
         'records 64|300 12 first|last|absent first packed',
         'mixed|arrays 8|1000 12 absent last packed',
         'arrays 50000 12 absent first|last packed',
+        'wide 64|1000|1100 12 first|last|absent first packed',
+        'wide 50000 12 last|absent first packed',
         'scalars 2|8|64|1000 12 last|absent first|last plain',
     ],
     # what is done, members

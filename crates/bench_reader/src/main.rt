@@ -10,9 +10,9 @@
 //! `lookups ROUNDS` has the least times of look-ups by key in objects of several shapes and sizes,
 //! `lookups plain ROUNDS` the same on nodes of a caller's own. `lookups SHAPE MEMBERS KEY_LEN KEY
 //! CHOICE FORM COUNT` makes so many look-ups of one case alone and prints what they find, so that
-//! their instructions can be counted: SHAPE is `scalars`, `mixed`, `pairs`, `records` or `arrays`,
-//! KEY `first`, `last` or `absent`, CHOICE `first` or `last`, FORM `packed` or `plain`. Without
-//! words the program does nothing.
+//! their instructions can be counted: SHAPE is `scalars`, `mixed`, `pairs`, `records`, `arrays` or
+//! `wide`, KEY `first`, `last` or `absent`, CHOICE `first` or `last`, FORM `packed` or `plain`.
+//! Without words the program does nothing.
 #![tactic(auto)]
 
 ghost use Rattle.std.specs.Prelude.{◌≤◌};

@@ -16,15 +16,18 @@ pub enum Shape {
     Records,
     /// An array of up to seven numbers.
     Arrays,
+    /// An array of ten numbers.
+    Wide,
 }
 
 impl Shape {
-    pub const ALL: [Shape; 5] = [
+    pub const ALL: [Shape; 6] = [
         Shape::Scalars,
         Shape::Mixed,
         Shape::Pairs,
         Shape::Records,
         Shape::Arrays,
+        Shape::Wide,
     ];
 
     pub fn name(self) -> &'static str {
@@ -34,6 +37,7 @@ impl Shape {
             Shape::Pairs => "pairs",
             Shape::Records => "records",
             Shape::Arrays => "arrays",
+            Shape::Wide => "wide",
         }
     }
 
@@ -87,12 +91,13 @@ impl Outline {
     }
 }
 
-/// Puts so many zeros, with commas between.
+/// Puts an array of so many zeros.
 fn put_zeros(out: &mut Vec<u8>, count: u64) -> Result<(), AllocError> {
+    put(out, "[")?;
     for i in 0..count {
         put(out, if i > 0 { ",0" } else { "0" })?;
     }
-    Ok(())
+    put(out, "]")
 }
 
 fn put_mixed(out: &mut Vec<u8>, number: u64) -> Result<(), AllocError> {
@@ -117,10 +122,7 @@ fn put_value(
         Shape::Mixed => put_mixed(out, number),
         Shape::Pairs => put(out, "[1,2]"),
         Shape::Records => put(out, "{\"id\":1,\"name\":\"n\",\"tags\":[1,2]}"),
-        Shape::Arrays => {
-            put(out, "[")?;
-            put_zeros(out, random.below(8))?;
-            put(out, "]")
-        }
+        Shape::Arrays => put_zeros(out, random.below(8)),
+        Shape::Wide => put_zeros(out, 10),
     }
 }
