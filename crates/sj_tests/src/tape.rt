@@ -1,3 +1,4 @@
+mod bare;
 mod comparisons;
 mod keys;
 mod large_arrays;

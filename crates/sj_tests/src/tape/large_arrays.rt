@@ -38,7 +38,7 @@ fn ends_behind(value: Value<'_, '_>, len: usize) -> bool {
 }
 
 /// How many of the items are found, and whether they are all.
-fn told(
+pub(super) fn told(
     alloc: Global,
     value: Option<Value<'_, '_>>,
     items: &[String],

@@ -179,7 +179,7 @@ pub(super) fn own_tape<'i>(alloc: Global, value: Value<'_, 'i>) -> Result<Tape<'
 pub(super) type Told = (usize, [usize; 2]);
 
 /// What is told of a tape.
-fn told_of(alloc: Global, tape: &Tape<'_>, members: &Members) -> Result<Told, Fail> {
+pub(super) fn told_of(alloc: Global, tape: &Tape<'_>, members: &Members) -> Result<Told, Fail> {
     let met = met(alloc, tape.as_value(), members)?;
     let first = alike(alloc, tape.as_value(), members)?;
     let last = alike(alloc, tape.as_value_repeats(Repeats::Last), members)?;
