@@ -133,11 +133,14 @@ fn items_of_two_shapes(rt: HostRuntime) -> Result<(), Fail> {
 /// Positions of one record among 321 items.
 const PLACES: [usize; 12] = [0, 1, 62, 63, 64, 65, 127, 128, 255, 256, 319, 320];
 
+/// Among scalars, of which no place is kept, and among arrays, of which places are.
 #[test]
-fn one_record_among_scalars(rt: HostRuntime) -> Result<(), Fail> {
+fn one_record_among_others(rt: HostRuntime) -> Result<(), Fail> {
     for at in PLACES {
-        let told = told_alone(rt.alloc(), Shape::RecordAt(at), 321)?;
-        assert!(rt; told == (321, true), "{at}: {told:?}");
+        let scalars = told_alone(rt.alloc(), Shape::RecordAt(at), 321)?;
+        let arrays = told_alone(rt.alloc(), Shape::WideAround(5, at), 321)?;
+        assert!(rt; scalars == (321, true), "scalars, {at}: {scalars:?}");
+        assert!(rt; arrays == (321, true), "arrays, {at}: {arrays:?}");
     }
     Ok(())
 }

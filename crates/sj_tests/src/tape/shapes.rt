@@ -26,6 +26,8 @@ pub(super) enum Shape {
     Wide(usize),
     /// The same, but for the one with the second number, which has a node fewer.
     WideBut(usize, usize),
+    /// The same, but for one record with the second number.
+    WideAround(usize, usize),
     /// Arrays of eleven nodes and of twelve: behind the first number they change from one to the other
     /// with each item, so many times.
     Changing(usize, usize),
@@ -50,6 +52,8 @@ impl Shape {
                 wide(alloc, number, width.saturating_sub(1))
             }
             Shape::WideBut(width, _) => wide(alloc, number, width),
+            Shape::WideAround(_, at) if number == at => record(alloc, number),
+            Shape::WideAround(width, _) => wide(alloc, number, width),
             Shape::Changing(from, changes) => {
                 let passed = number.saturating_sub(from).min(changes);
                 wide(alloc, number, usize::wrapping_add(11, passed % 2))
