@@ -94,8 +94,12 @@ fn in_turn(
     let texts = (first.text(alloc)?, second.text(alloc)?);
     let mut parts = Vec::new(alloc);
     for i in 0..many {
-        let text = if i % 2 == 0 { &texts.0 } else { &texts.1 };
-        parts.push(text.clone()?)?;
+        let text = if i % 2 == 0 {
+            texts.0.clone()?
+        } else {
+            texts.1.clone()?
+        };
+        parts.push(text)?;
     }
     Ok(parts)
 }
