@@ -51,19 +51,20 @@ impl<S: KeyHasher + Drop> Turning<S> {
 
     /// Sets the value at a position by two calls on its key; whether each finds what is there.
     fn set(&mut self, position: usize) -> Result<bool, Fail> {
-        let Some((key, value)) = self.list.get_mut(position) else {
+        let Some((key, value)) = self.list.get(position) else {
             return Ok(false);
         };
-        let before = *value;
+        let (key, before) = (key.clone()?, *value);
         let between = before.wrapping_add(1000);
         let after = before.wrapping_add(2000);
-        *value = after;
         let told = self.map.insert(key.clone()?, between)?;
-        let again = key.clone()?;
-        let hash = self.map.hasher().hash_text(again.as_str());
-        let lent = self.map.get_or_insert_hashed_with(hash, again, || 0)?;
+        let hash = self.map.hasher().hash_text(key.as_str());
+        let lent = self.map.get_or_insert_hashed_with(hash, key, || 0)?;
         let is_lent = *lent == between;
         *lent = after;
+        if let Some(pair) = self.list.get_mut(position) {
+            pair.1 = after;
+        }
         Ok(told == Some(before) && is_lent)
     }
 }
