@@ -58,11 +58,11 @@ impl<'a, K, V> Iterator for Pairs<'a, K, V> {
     ghost remaining = { λ s. at_most (length s) };
 
     fn next(&mut self) -> Option<&'a (K, V)> {
-        match &mut self.back {
-            None => self.front.next(),
-            Some(back) => match self.front.next() {
-                Some(pair) => Some(pair),
-                None => back.next(),
+        match self.front.next() {
+            Some(pair) => Some(pair),
+            None => match &mut self.back {
+                Some(back) => back.next(),
+                None => None,
             },
         }
     }
