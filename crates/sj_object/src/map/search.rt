@@ -1,6 +1,6 @@
 //! Where a key stands among the members.
 
-ghost use Rattle.std.specs.Prelude.{◌≡◌, ◌+◌, ◌<◌, ◌%◌, ◌^◌, ◌∷◌, [], true, map, length, slice_index_or, IsSome, bytes_eq};
+ghost use Rattle.std.specs.Prelude.{◌≡◌, ◌+◌, ◌<◌, ◌%◌, ◌^◌, ◌∷◌, ◌++◌, [], true, map, length, slice_index_or, IsSome, bytes_eq};
 ghost use Rattle.std.specs.List.{position_from};
 ghost use Rattle.sj_object.specs.Entries.{entries_of, texts};
 ghost use Rattle.sj_object.specs.Texts.{no_repeats};
@@ -10,11 +10,11 @@ ghost use Rattle.sj_object.specs.Stored.{pairs_of, buckets_of, IsIndexOf};
 
 use super::chain::bucket_of;
 use super::holes::pass;
+use super::index::Table;
 use super::store::{Hashed, Store};
 use crate::hasher::KeyHasher;
 use crate::key::KeyText;
 use sj_text_core::{Steps, are_same_bytes};
-use std::collections::VecDeque;
 use std::marker::Brand;
 use std::sync::ledger::{Blank, Ledger};
 
@@ -48,45 +48,97 @@ fn position_in_list<K: KeyText, V, L: Ledger>(
     None
 }
 
-/// The pair at a position of a ring.
-#[inline(always)]
-fn pair_at<K, V>(pairs: &VecDeque<(K, V)>, position: usize) -> &(K, V)
-    requires { position < length pairs.now.items }
-    ensures { result.now ≡ slice_index_or pairs.now.items position result.now }
+/// The pair at a position of two parts.
+#[inline]
+fn pair_at<'a, K, V>(front: &'a [(K, V)], back: &'a [(K, V)], position: usize) -> &'a (K, V)
+    requires { position < length (front.now ++ back.now) }
+    ensures { result.now ≡ slice_index_or (front.now ++ back.now) position result.now }
 {
-    &pairs[position]
+    if back.is_empty() || position < front.len() {
+        &front[position]
+    } else {
+        &back[position - front.len()]
+    }
 }
 
-/// The position of the pair whose key has the text, along the chain of the text's bucket.
-fn position_in_chain<K: KeyText, V, S: KeyHasher, L: Ledger>(
-    hashed: &Hashed<K, V>,
+/// The position of the pair whose key has the text, along the chain of the text's bucket, where
+/// the pairs stand in two parts.
+#[inline(always)]
+fn position_in_parts<K: KeyText, V, S: KeyHasher, L: Ledger>(
+    front: &[(K, V)],
+    back: &[(K, V)],
+    table: &Table,
     _hasher: &S,
     hash: u64,
     text: &[u8],
     steps: &mut Steps<L>,
 ) -> Option<usize>
-    requires distinct { no_repeats (texts (entries_of K.text_of hashed.now.pairs.items)) ≡ true }
-    requires table { IsTableOf (map (λ p. S.hash_of _hasher.now (K.text_of p.0)) hashed.now.pairs.items) hashed.now.table }
+    requires distinct { no_repeats (texts (entries_of K.text_of (front.now ++ back.now))) ≡ true }
+    requires table { IsTableOf (map (λ p. S.hash_of _hasher.now (K.text_of p.0)) (front.now ++ back.now)) table.now }
     requires hash { hash ≡ S.hash_of _hasher.now text.now }
-    ensures found { result ≡ position_from (λ p. bytes_eq text.now (K.text_of p.0)) 0 hashed.now.pairs.items }
-    ensures exact { steps.new ≡ steps.old + walk (S.hash_of _hasher.now) (length hashed.now.table.heads.items) text.now (entries_of K.text_of hashed.now.pairs.items) }
+    ensures found { result ≡ position_from (λ p. bytes_eq text.now (K.text_of p.0)) 0 (front.now ++ back.now) }
+    ensures exact { steps.new ≡ steps.old + walk (S.hash_of _hasher.now) (length table.now.heads.items) text.now (entries_of K.text_of (front.now ++ back.now)) }
 {
-    let mut place = hashed.table.heads[bucket_of(hash, hashed.table.bits)];
+    let mut place = table.heads[bucket_of(hash, table.bits)];
     let mut passed = 0;
-    while place > hashed.table.gone {
-        if hashed.table.hashes[place - 1] == hash {
-            passed = pass(&hashed.table.holes, passed, place);
-            let i = place - (hashed.table.holes.len() - passed) - 1 - hashed.table.gone;
-            if is_key(&pair_at(&hashed.pairs, i).0, text, steps) {
+    while place > table.gone {
+        if table.hashes[place - 1] == hash {
+            passed = pass(&table.holes, passed, place);
+            let i = place - (table.holes.len() - passed) - 1 - table.gone;
+            if is_key(&pair_at(front, back, i).0, text, steps) {
                 return Some(i);
             }
         } else {
             // A key of another hash is passed by that alone, which is one step as well.
             Steps::tick(steps);
         }
-        place = hashed.table.links[place - 1];
+        place = table.links[place - 1];
     }
     None
+}
+
+/// The same, apart from its callers, whose rings have mostly not come round.
+#[inline(never)]
+fn position_in_two<K: KeyText, V, S: KeyHasher, L: Ledger>(
+    front: &[(K, V)],
+    back: &[(K, V)],
+    table: &Table,
+    hasher: &S,
+    hash: u64,
+    text: &[u8],
+    steps: &mut Steps<L>,
+) -> Option<usize>
+    requires distinct { no_repeats (texts (entries_of K.text_of (front.now ++ back.now))) ≡ true }
+    requires table { IsTableOf (map (λ p. S.hash_of hasher.now (K.text_of p.0)) (front.now ++ back.now)) table.now }
+    requires hash { hash ≡ S.hash_of hasher.now text.now }
+    ensures found { result ≡ position_from (λ p. bytes_eq text.now (K.text_of p.0)) 0 (front.now ++ back.now) }
+    ensures exact { steps.new ≡ steps.old + walk (S.hash_of hasher.now) (length table.now.heads.items) text.now (entries_of K.text_of (front.now ++ back.now)) }
+{
+    position_in_parts(front, back, table, hasher, hash, text, steps)
+}
+
+/// The same, where the pairs stand in a ring.
+fn position_in_chain<K: KeyText, V, S: KeyHasher, L: Ledger>(
+    hashed: &Hashed<K, V>,
+    hasher: &S,
+    hash: u64,
+    text: &[u8],
+    steps: &mut Steps<L>,
+) -> Option<usize>
+    requires distinct { no_repeats (texts (entries_of K.text_of hashed.now.pairs.items)) ≡ true }
+    requires table { IsTableOf (map (λ p. S.hash_of hasher.now (K.text_of p.0)) hashed.now.pairs.items) hashed.now.table }
+    requires hash { hash ≡ S.hash_of hasher.now text.now }
+    ensures found { result ≡ position_from (λ p. bytes_eq text.now (K.text_of p.0)) 0 hashed.now.pairs.items }
+    ensures exact { steps.new ≡ steps.old + walk (S.hash_of hasher.now) (length hashed.now.table.heads.items) text.now (entries_of K.text_of hashed.now.pairs.items) }
+{
+    let (front, back) = hashed.pairs.as_slices();
+    // A ring that has not come round is one part, in which no step looks for the other.
+    if back.is_empty() {
+        let none = &front[..0];
+        position_in_parts(front, none, &hashed.table, hasher, hash, text, steps)
+    } else {
+        position_in_two(front, back, &hashed.table, hasher, hash, text, steps)
+    }
 }
 
 /// The position of the pair whose key has the text, and, where there are buckets, the hash.

@@ -1,4 +1,4 @@
-use Rattle.std.proofs.Common.{◌≡◌, ℕ, List, suc, ◌<◌, ◌≤◌, ◌+◌, ◌-◌, ◌%◌, ◌^◌, Some, Bool, true, false, [], length, get_or, drop, bytes_eq, nat_le, arith, refl, sym, ap, ◌∙◌, subst}
+use Rattle.std.proofs.Common.{◌≡◌, ℕ, List, suc, ◌<◌, ◌≤◌, ◌+◌, ◌-◌, ◌%◌, ◌^◌, ◌++◌, Some, Bool, true, false, [], length, get_or, drop, bytes_eq, nat_le, arith, refl, sym, ap, ◌∙◌, subst}
 use Rattle.std.proofs.lemmas.Bool.Decides.{nat_tests}
 use Rattle.std.proofs.lemmas.List.{get_or_default, get_or-drop, length-drop}
 use Rattle.std.proofs.lemmas.Nat.{pow_pos}
@@ -15,8 +15,8 @@ use Rattle.sj_object.proofs.Tables.{length-beside}
 use Rattle.sj_object.proofs.Walked.{count, at_start, at_next, at_member}
 use Rattle.sj_object.proofs.Position.{found_at, absent_at}
 use Rattle.sj_object.proofs.Hashed.{agrees, text_at, texts-length, walk_found, walk_absent}
-use Rattle.sj_object.proofs.map.search.position_in_chain.Goals as goal
-use Rattle.sj_object.proofs.map.search.position_in_chain.Goals.{then-index-hash+else-is_key, else-index-hash}
+use Rattle.sj_object.proofs.map.search.position_in_parts.Goals as goal
+use Rattle.sj_object.proofs.map.search.position_in_parts.Goals.{then-index-hash+else-is_key, else-index-hash}
 
 -- the places and links of the members that are there
 module _ (T : Table) (q : IsTable T) where
@@ -85,14 +85,14 @@ module _ (T : Table) (q : IsTable T) where
 
 pub loop-place-init : goal.loop-place-init
 loop-place-init g c =
-    let T = c.args.hashed.now.table in
+    let T = c.args.table.now in
     let x = c.args.hash in
     let hs = hashes_in T in
     let p = c.index-place.result.now in
-    let a = agrees g.K.KeyText.text_of (g.S.KeyHasher.hash_of c.args._hasher.now) c.args.text.now c.args.hashed.now.pairs.items hs x c.requires.table.same c.requires.hash in
+    let a = agrees g.K.KeyText.text_of (g.S.KeyHasher.hash_of c.args._hasher.now) c.args.text.now (c.args.front.now ++ c.args.back.now) hs x c.requires.table.same c.requires.hash in
     let l : x % 2 ^ T.bits < 2 ^ T.bits = omega (arith, pow_pos T.bits) in
     let e = begins T c.requires.table.table (x % 2 ^ T.bits) p l (c.index-place.ensures ∙ ap (λ b. get_or T.heads.items b p) c.bucket_of.ensures) in
-    let s = at_start (2 ^ T.bits) x c.args.text.now hs (texts (entries_of g.K.KeyText.text_of c.args.hashed.now.pairs.items)) a (lowered_by T.holes.items p - T.gone) e.1 in
+    let s = at_start (2 ^ T.bits) x c.args.text.now hs (texts (entries_of g.K.KeyText.text_of (c.args.front.now ++ c.args.back.now))) a (lowered_by T.holes.items p - T.gone) e.1 in
     record { within = e.0.0; passed = omega arith; beside = λ o m. refl; there = e.0.1; stands = s.0; counted = omega (arith, s.1) }
 
 -- the position of the member at the place of a walk
@@ -112,36 +112,36 @@ are_holes : (T : Table) (q : IsTable T) (qs : List ℕ) → qs ≡ T.holes.items
 are_holes T q qs e = subst (λ rs. AreHoles 0 rs (2 ^ 64)) (sym e) (AreHoles-more 0 T.holes.items (length T.hashes.items) (2 ^ 64) (omega (arith, T.hashes.ok.0)) (AreHoles-any T.gone T.holes.items (length T.hashes.items) q.holes))
 
 pub pass-passed-requires-clause-holes : goal.pass-passed-requires-clause-holes
-pass-passed-requires-clause-holes g c = are_holes c.args.hashed.now.table c.requires.table.table c.deref.result.now c.deref.ensures.value
+pass-passed-requires-clause-holes g c = are_holes c.args.table.now c.requires.table.table c.deref.result.now c.deref.ensures.value
 
 pub overflow_sub-i-then-index-hash-2 : goal.overflow_sub-i-then-index-hash-2
 overflow_sub-i-then-index-hash-2 g c =
-    let T = c.args.hashed.now.table in
+    let T = c.args.table.now in
     let v = c.loop-place.invariant in
     omega (arith, lower T c.loop-place.place c.pass-passed.result c.deref.result.now c.deref.ensures.value c.len.result (c.len.ensures ∙ T.holes.ok.0) c.pass-passed.ensures.place, at T c.requires.table.table c.loop-place.place (v.within, v.there) c.loop-place-test.true)
 
 pub overflow_sub-i-then-index-hash-3 : goal.overflow_sub-i-then-index-hash-3
 overflow_sub-i-then-index-hash-3 g c =
-    let T = c.args.hashed.now.table in
+    let T = c.args.table.now in
     let v = c.loop-place.invariant in
     omega (arith, lower T c.loop-place.place c.pass-passed.result c.deref.result.now c.deref.ensures.value c.len.result (c.len.ensures ∙ T.holes.ok.0) c.pass-passed.ensures.place, at T c.requires.table.table c.loop-place.place (v.within, v.there) c.loop-place-test.true)
 
 pub pair_at-requires : goal.pair_at-requires
 pair_at-requires g c =
-    let T = c.args.hashed.now.table in
+    let T = c.args.table.now in
     let v = c.loop-place.invariant in
-    omega (arith, c.pass-passed.ensures.place, ap (λ qs. lowered_by qs c.loop-place.place + length qs) c.deref.ensures.value, c.len.ensures, T.holes.ok.0, at T c.requires.table.table c.loop-place.place (v.within, v.there) c.loop-place-test.true, texts-length g.K.KeyText.text_of c.args.hashed.now.pairs.items, v.stands.within)
+    omega (arith, c.pass-passed.ensures.place, ap (λ qs. lowered_by qs c.loop-place.place + length qs) c.deref.ensures.value, c.len.ensures, T.holes.ok.0, at T c.requires.table.table c.loop-place.place (v.within, v.there) c.loop-place-test.true, texts-length g.K.KeyText.text_of (c.args.front.now ++ c.args.back.now), v.stands.within)
 
 pub returns-then-is_key-clause-found : goal.returns-then-is_key-clause-found
 returns-then-is_key-clause-found g c =
     let t = g.K.KeyText.text_of in
     let k = c.args.text.now in
-    let ps = c.args.hashed.now.pairs.items in
+    let ps = (c.args.front.now ++ c.args.back.now) in
     let low : ℕ = c.loop-place.place - (c.len.result - c.pass-passed.result) in
-    let i = low - 1 - c.args.hashed.now.table.gone in
+    let i = low - 1 - c.args.table.now.gone in
     let r = c.pair_at.result.now in
     let there : r ≡ get_or ps i r = c.pair_at.ensures in
-    let T = c.args.hashed.now.table in
+    let T = c.args.table.now in
     let v = c.loop-place.invariant in
     let y : low ≡ lowered_by T.holes.items c.loop-place.place = lower T c.loop-place.place c.pass-passed.result c.deref.result.now c.deref.ensures.value c.len.result (c.len.ensures ∙ T.holes.ok.0) c.pass-passed.ensures.place in
     let l : i < length ps = omega (arith, y, at T c.requires.table.table c.loop-place.place (v.within, v.there) c.loop-place-test.true, texts-length t ps, v.stands.within) in
@@ -153,8 +153,8 @@ returns-then-is_key-clause-exact g c =
     let t = g.K.KeyText.text_of in
     let H = g.S.KeyHasher.hash_of c.args._hasher.now in
     let k = c.args.text.now in
-    let ps = c.args.hashed.now.pairs.items in
-    let T = c.args.hashed.now.table in
+    let ps = (c.args.front.now ++ c.args.back.now) in
+    let T = c.args.table.now in
     let v = c.loop-place.invariant in
     let p = lowered_by T.holes.items c.loop-place.place in
     let low : ℕ = c.loop-place.place - (c.len.result - c.pass-passed.result) in
@@ -181,13 +181,13 @@ fails true f = absurd (f refl)
 
 pub loop-place-smaller : goal.loop-place-smaller
 loop-place-smaller g c =
-    let T = c.args.hashed.now.table in
+    let T = c.args.table.now in
     let q = c.requires.table.table in
     let v = c.loop-place.invariant in
     let o = c.loop-place.place in
     let p = lowered_by T.holes.items o in
     let i : ℕ = p - 1 - T.gone in
-    let a = agrees g.K.KeyText.text_of (g.S.KeyHasher.hash_of c.args._hasher.now) c.args.text.now c.args.hashed.now.pairs.items (hashes_in T) c.args.hash c.requires.table.same c.requires.hash in
+    let a = agrees g.K.KeyText.text_of (g.S.KeyHasher.hash_of c.args._hasher.now) c.args.text.now (c.args.front.now ++ c.args.back.now) (hashes_in T) c.args.hash c.requires.table.same c.requires.hash in
     let e = place T q o (v.within, v.there) c.loop-place-test.true in
     let l : i < length (hashes_in T) = omega (arith, a.size, v.stands.within, e) in
     (goes_on T q o i (v.within, v.there) e l c.index-place-in-loop-place.result.now c.index-place-in-loop-place.ensures).1.1
@@ -197,8 +197,8 @@ loop-place-preserved g c =
     let t = g.K.KeyText.text_of in
     let H = g.S.KeyHasher.hash_of c.args._hasher.now in
     let k = c.args.text.now in
-    let ps = c.args.hashed.now.pairs.items in
-    let T = c.args.hashed.now.table in
+    let ps = (c.args.front.now ++ c.args.back.now) in
+    let T = c.args.table.now in
     let q = c.requires.table.table in
     let v = c.loop-place.invariant in
     let o = c.loop-place.place in
@@ -229,20 +229,20 @@ loop-place-preserved g c =
 
 pub returns-clause-found : goal.returns-clause-found
 returns-clause-found g c =
-    let T = c.args.hashed.now.table in
+    let T = c.args.table.now in
     let v = c.loop-place.invariant in
-    let ts = texts (entries_of g.K.KeyText.text_of c.args.hashed.now.pairs.items) in
+    let ts = texts (entries_of g.K.KeyText.text_of (c.args.front.now ++ c.args.back.now)) in
     let z = past T c.requires.table.table c.loop-place.place (v.within, v.there) (omega (arith, c.loop-place-test.false)) in
     let u : is_seen c.args.text.now ts ≡ false = subst (λ m. is_seen c.args.text.now (drop m ts) ≡ false) z v.stands.unseen in
-    sym ((absent_at g.K.KeyText.text_of c.args.text.now c.args.hashed.now.pairs.items u).placeless 0)
+    sym ((absent_at g.K.KeyText.text_of c.args.text.now (c.args.front.now ++ c.args.back.now) u).placeless 0)
 
 pub returns-clause-exact : goal.returns-clause-exact
 returns-clause-exact g c =
     let t = g.K.KeyText.text_of in
     let H = g.S.KeyHasher.hash_of c.args._hasher.now in
     let k = c.args.text.now in
-    let ps = c.args.hashed.now.pairs.items in
-    let T = c.args.hashed.now.table in
+    let ps = (c.args.front.now ++ c.args.back.now) in
+    let T = c.args.table.now in
     let v = c.loop-place.invariant in
     let n = 2 ^ T.bits in
     let x = c.args.hash in
