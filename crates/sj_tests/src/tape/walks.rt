@@ -103,25 +103,6 @@ pub(super) fn walked<'t, 'i>(value: Value<'t, 'i>, key: &str) -> Option<Value<'t
     last
 }
 
-/// What a look-up finds that counts its steps.
-fn counted<'t, 'i, L: Ledger>(
-    value: Value<'t, 'i>,
-    key: &str,
-    blank: Blank,
-) -> Option<Value<'t, 'i>>
-    requires name { blank.name ≡ L.name }
-    requires parts { blank.parts ≡ L.parts }
-    requires some { 0 < L.parts }
-{
-    let mut steps = Steps::<L>::new(blank);
-    value.get_steps(key, &mut steps)
-}
-
-/// The same, with a counter of its own.
-fn found_by_steps<'t, 'i>(value: Value<'t, 'i>, key: &str) -> Option<Value<'t, 'i>> {
-    counted::<Brand>(value, key, Blank::new(1))
-}
-
 /// Whether both print one text, or there is neither.
 fn are_alike(
     alloc: Global,
@@ -134,6 +115,32 @@ fn are_alike(
     }
 }
 
+/// Whether a look-up that counts its steps finds what is wanted.
+fn is_counted<L: Ledger>(
+    alloc: Global,
+    value: Value<'_, '_>,
+    key: &str,
+    wanted: Option<Value<'_, '_>>,
+    blank: Blank,
+) -> Result<bool, Fail>
+    requires name { blank.name ≡ L.name }
+    requires parts { blank.parts ≡ L.parts }
+    requires some { 0 < L.parts }
+{
+    let mut steps = Steps::<L>::new(blank);
+    are_alike(alloc, value.get_steps(key, &mut steps), wanted)
+}
+
+/// The same, with a counter of its own.
+fn is_found_by_steps(
+    alloc: Global,
+    value: Value<'_, '_>,
+    key: &str,
+    wanted: Option<Value<'_, '_>>,
+) -> Result<bool, Fail> {
+    is_counted::<Brand>(alloc, value, key, wanted, Blank::new(1))
+}
+
 /// At how many of the keys asked for both look-ups find what a walk finds.
 pub(super) fn alike(alloc: Global, value: Value<'_, '_>, members: &Members) -> Result<usize, Fail> {
     let mut alike = 0usize;
@@ -141,8 +148,8 @@ pub(super) fn alike(alloc: Global, value: Value<'_, '_>, members: &Members) -> R
         let key = key.as_str();
         let wanted = walked(value, key);
         let found = value.get(key);
-        let by_steps = found_by_steps(value, key);
-        if are_alike(alloc, found, wanted)? && are_alike(alloc, by_steps, wanted)? {
+        let is_counted = is_found_by_steps(alloc, value, key, wanted)?;
+        if is_counted && are_alike(alloc, found, wanted)? {
             alike = alike.saturating_add(1);
         }
     }
