@@ -1,16 +1,11 @@
 //! Look-ups by key beside walks: loops over the members of an object that compare their keys one by one,
 //! without any run, place or tag.
 
-ghost use Rattle.std.specs.Prelude.{◌≡◌, ◌<◌};
-
 use super::keys::{Again, Keys, members, twins};
 use super::shapes::{Shape, is_printed, object_of};
 use sj_tape::{Repeats, Tape, Value, Writable, to_tape};
-use sj_text_core::Steps;
 use std::alloc::Global;
-use std::marker::Brand;
 use std::ops::Range;
-use std::sync::ledger::{Blank, Ledger};
 use std::test::Fail;
 
 /// How many keys an object is asked for.
@@ -103,53 +98,17 @@ pub(super) fn walked<'t, 'i>(value: Value<'t, 'i>, key: &str) -> Option<Value<'t
     last
 }
 
-/// Whether both print one text, or there is neither.
-fn are_alike(
-    alloc: Global,
-    found: Option<Value<'_, '_>>,
-    wanted: Option<Value<'_, '_>>,
-) -> Result<bool, Fail> {
-    match wanted {
-        Some(wanted) => is_printed(alloc, found, wanted.encode(alloc)?.as_str()),
-        None => Ok(found.is_none()),
-    }
-}
-
-/// Whether a look-up that counts its steps finds what is wanted.
-fn is_counted<L: Ledger>(
-    alloc: Global,
-    value: Value<'_, '_>,
-    key: &str,
-    wanted: Option<Value<'_, '_>>,
-    blank: Blank,
-) -> Result<bool, Fail>
-    requires name { blank.name ≡ L.name }
-    requires parts { blank.parts ≡ L.parts }
-    requires some { 0 < L.parts }
-{
-    let mut steps = Steps::<L>::new(blank);
-    are_alike(alloc, value.get_steps(key, &mut steps), wanted)
-}
-
-/// The same, with a counter of its own.
-fn is_found_by_steps(
-    alloc: Global,
-    value: Value<'_, '_>,
-    key: &str,
-    wanted: Option<Value<'_, '_>>,
-) -> Result<bool, Fail> {
-    is_counted::<Brand>(alloc, value, key, wanted, Blank::new(1))
-}
-
-/// At how many of the keys asked for both look-ups find what a walk finds.
+/// At how many of the keys asked for a look-up finds what a walk finds.
 pub(super) fn alike(alloc: Global, value: Value<'_, '_>, members: &Members) -> Result<usize, Fail> {
     let mut alike = 0usize;
     for key in &members.asked {
         let key = key.as_str();
-        let wanted = walked(value, key);
         let found = value.get(key);
-        let is_counted = is_found_by_steps(alloc, value, key, wanted)?;
-        if is_counted && are_alike(alloc, found, wanted)? {
+        let is_alike = match walked(value, key) {
+            Some(wanted) => is_printed(alloc, found, wanted.encode(alloc)?.as_str())?,
+            None => found.is_none(),
+        };
+        if is_alike {
             alike = alike.saturating_add(1);
         }
     }

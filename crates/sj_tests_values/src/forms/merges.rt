@@ -1,11 +1,9 @@
 //! Merge patches: both calls make the same of the same target and patch.
 
-use crate::{borrowed, owned};
-use sj_document::{CopyText, Document};
+use crate::owned::{Value, parsed};
 use sj_merge::{into_merged, merge};
 use sj_text_core::Writable;
 use std::alloc::{AllocError, Global};
-use std::fmt::Debug;
 use std::test::Fail;
 
 /// The examples of RFC 7396, appendix A: a target, a patch and the result.
@@ -84,12 +82,7 @@ fn made(alloc: Global, keys: usize, step: usize) -> Result<[String; 3], Fail> {
 }
 
 /// Whether each call makes the wanted value of the target, and both one print.
-fn merges<K: CopyText + Drop + Debug>(
-    alloc: Global,
-    target: Document<K>,
-    patch: Document<K>,
-    want: &Document<K>,
-) -> Result<[bool; 3], Fail> {
+fn merges(alloc: Global, target: Value, patch: Value, want: &Value) -> Result<[bool; 3], Fail> {
     let mut merged = target.clone()?;
     merge(alloc, &mut merged, patch.clone()?)?;
     let made = into_merged(alloc, target, patch)?;
@@ -100,26 +93,13 @@ fn merges<K: CopyText + Drop + Debug>(
     ])
 }
 
-/// The same of texts, in both forms.
-fn merges_texts(alloc: Global, case: [&str; 3]) -> Result<[[bool; 3]; 2], Fail> {
+/// The same of texts.
+fn merges_texts(alloc: Global, case: [&str; 3]) -> Result<[bool; 3], Fail> {
     let [target, patch, want] = case;
-    let mut bytes = target.as_bytes().to_vec(alloc)?;
-    let mut patch_bytes = patch.as_bytes().to_vec(alloc)?;
-    let mut want_bytes = want.as_bytes().to_vec(alloc)?;
-    Ok([
-        merges(
-            alloc,
-            owned::parsed(alloc, target)?,
-            owned::parsed(alloc, patch)?,
-            &owned::parsed(alloc, want)?,
-        )?,
-        merges(
-            alloc,
-            borrowed::parsed(&mut bytes)?,
-            borrowed::parsed(&mut patch_bytes)?,
-            &borrowed::parsed(&mut want_bytes)?,
-        )?,
-    ])
+    let target = parsed(alloc, target)?;
+    let patch = parsed(alloc, patch)?;
+    let want = parsed(alloc, want)?;
+    merges(alloc, target, patch, &want)
 }
 
 #[test]
@@ -129,7 +109,7 @@ fn both_calls_merge(rt: HostRuntime) -> Result<(), Fail> {
     for (target, patch, want) in EXAMPLES {
         assert_eq!(rt;
             merges_texts(alloc, [target, patch, want])?,
-            [[true; 3]; 2],
+            [true; 3],
             "{patch}"
         );
         cases = cases.saturating_add(1);
@@ -138,7 +118,7 @@ fn both_calls_merge(rt: HostRuntime) -> Result<(), Fail> {
         for step in [1, 5, 7, 11] {
             let [target, patch, want] = made(alloc, keys, step)?;
             let case = [target.as_str(), patch.as_str(), want.as_str()];
-            assert_eq!(rt; merges_texts(alloc, case)?, [[true; 3]; 2], "{keys} {step}");
+            assert_eq!(rt; merges_texts(alloc, case)?, [true; 3], "{keys} {step}");
             cases = cases.saturating_add(1);
         }
     }
