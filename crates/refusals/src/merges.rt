@@ -8,7 +8,7 @@ use sj_document::{BorrowedValue, CopyText, Document, OwnedValue};
 use sj_merge::{into_merged, merge};
 use sj_object::{KeyText, deserialize};
 use sj_text_core::{TryMake, Writable};
-use std::alloc::AllocError;
+use std::alloc::{AllocError, Global};
 use std::borrow::CowStr;
 
 /// Takes a member out, merges into one that is a number, and puts two new ones.
@@ -81,6 +81,12 @@ fn by_merge<T: CopyText + Drop>(
     say_merged(rt, &target)
 }
 
+/// What the call makes that takes its target.
+fn made<T: CopyText + Drop>(alloc: Global, given: Given<T>) -> Result<Document<T>, AllocError> {
+    let (target, patch) = given;
+    into_merged(alloc, target, patch)
+}
+
 /// The same by the call that takes its target, of which nothing is left where it was refused.
 fn by_into_merged<T: CopyText + Drop>(
     rt: &(impl Print + AllocGlobal),
@@ -88,14 +94,12 @@ fn by_into_merged<T: CopyText + Drop>(
     again: Given<T>,
 ) -> Result<(), Fault> {
     let alloc = rt.alloc();
-    let (target, patch) = given;
     say_call(rt)?;
-    let merged = match into_merged(alloc, target, patch) {
+    let merged = match made(alloc, given) {
         Ok(merged) => merged,
         Err(AllocError) => {
             say(rt, "refused, ")?;
-            let (target, patch) = again;
-            into_merged(alloc, target, patch)?
+            made(alloc, again)?
         }
     };
     say_merged(rt, &merged)
