@@ -7,10 +7,13 @@ use crate::ways::Numbers;
 use std::alloc::Global;
 use std::io;
 
-/// The sum of what is found by each key.
+// A call that only reads is given what the one before it saw, so that no two calls are the same, of
+// which the compiler would make one.
+
+/// The sum of what is found by each key, on top of another.
 #[inline(never)]
-fn found(map: &Numbers<'_>, texts: &[Known]) -> u64 {
-    let mut sum = 0u64;
+fn found(map: &Numbers<'_>, texts: &[Known], before: u64) -> u64 {
+    let mut sum = before;
     for known in texts {
         if let Some(value) = map.get(known.text.as_str()) {
             sum = sum.wrapping_add(*value);
@@ -19,9 +22,10 @@ fn found(map: &Numbers<'_>, texts: &[Known]) -> u64 {
     sum
 }
 
+/// The sum of all members, on top of another.
 #[inline(never)]
-fn walked(map: &Numbers<'_>) -> u64 {
-    let mut sum = 0u64;
+fn walked(map: &Numbers<'_>, before: u64) -> u64 {
+    let mut sum = before;
     for (key, value) in map.iter() {
         sum = sum.wrapping_add(*value ^ key.len() as u64);
     }
@@ -86,21 +90,24 @@ pub fn calls(kept: Kept, members: usize) -> usize {
     }
 }
 
-/// Makes the calls once; a sum of what they saw.
+/// Makes the calls once, behind others; a sum of what they saw.
 fn once<'k>(
     alloc: Global,
     kept: Kept,
     map: &mut Numbers<'k>,
     texts: &'k [Known],
     place: usize,
+    before: u64,
 ) -> io::Result<u64> {
     match kept {
         Kept::Fill => Ok(filled(alloc, texts)?.len() as u64),
-        Kept::Find => Ok(found(map, texts)),
-        Kept::Walk => Ok(walked(map)),
+        Kept::Find => Ok(found(map, texts, before)),
+        Kept::Walk => Ok(walked(map, before)),
         Kept::Ends => Ok(ended(map, texts)),
         Kept::Turn => Ok(turned(map, texts, place)),
-        Kept::First | Kept::FirstOfThinned => Ok(found(map, texts.get(..1).unwrap_or(texts))),
+        Kept::First | Kept::FirstOfThinned => {
+            Ok(found(map, texts.get(..1).unwrap_or(texts), before))
+        }
     }
 }
 
@@ -114,7 +121,7 @@ pub fn repeated<'k>(
 ) -> io::Result<u64> {
     let mut sum = 0u64;
     for place in places {
-        let seen = once(alloc, kept, map, texts, *place)?;
+        let seen = once(alloc, kept, map, texts, *place, sum)?;
         sum = sum.wrapping_mul(31).wrapping_add(seen);
     }
     Ok(sum)

@@ -4,7 +4,7 @@ use Rattle.sj_object.specs.Texts.{no_repeats}
 use Rattle.sj_object.specs.Entries.{texts, entries_of}
 use Rattle.sj_object.specs.Edits.{set_value_at, texts-set_value_at, length-set_value_at}
 use Rattle.sj_object.specs.Index.{HasRoom}
-use Rattle.sj_object.specs.Stored.{pairs_of, buckets_of, IsIndexOf, IsIndexed}
+use Rattle.sj_object.specs.Stored.{members_of, pairs_of, buckets_of, IsIndexOf, IsIndexed}
 use Rattle.sj_object.specs.declared.map.store.Store.{Store}
 use Rattle.sj_object.specs.declared.map.store.Store.TheVariants.{Plain, Hashed}
 use Rattle.sj_object.proofs.Position.{entries-set_value_at}
@@ -13,7 +13,7 @@ use Rattle.sj_object.proofs.Hashed.{hashes, hashes-length, hashes-set}
 -- an index of the members' hashes keeps one for each
 pub indexed : {K V : Type 0} (t : K → List ℕ) (H : List ℕ → ℕ) (s : Store K V) → IsIndexOf (hashes t H (pairs_of s)) s → IsIndexed s
 indexed t H (Plain v) i = tt
-indexed t H (Hashed b) i = (i.table, ap length i.same ∙ hashes-length t H b.value.pairs.items)
+indexed t H (Hashed b) i = (i.table, ap length i.same ∙ hashes-length t H (members_of b.value.members))
 
 -- new is old, but for the value w of the member x at position i
 pub record IsChanged {K V : Type 0} (old new : Store K V) (i : ℕ) (x : K × V) (w : V) : Type 0 where

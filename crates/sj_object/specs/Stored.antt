@@ -1,18 +1,30 @@
--- How a map stores its members: as a plain list, or in a ring beside the index of their hashes.
+-- How a map stores its members: as a plain list, or, as a list or in a ring, beside the index of their hashes.
 use Rattle.std.specs.Prelude.{◌≡◌, ◌<◌, ◌≤◌, ℕ, List, length, Option, Some, None, ⊤}
 use Rattle.std.specs.Vec.{vec_len, vec_capacity}
 use Rattle.std.specs.VecDeque.{deque_len, deque_capacity}
 use denote.Struct.Props.{props}
+use Rattle.sj_object.specs.declared.map.members.Members.{Members}
+use Rattle.sj_object.specs.declared.map.members.Members.TheVariants.{Listed, Ring}
 use Rattle.sj_object.specs.declared.map.store.Store.{Store}
 use Rattle.sj_object.specs.declared.map.store.Store.TheVariants.{Plain, Hashed}
 use Rattle.sj_object.specs.Holes.{AreHoles-prop}
 use Rattle.sj_object.specs.Index.{IsTable, IsTableOf, hashes_in}
 
 module _ {K V : Type 0} where
+  -- the members beside an index, in order
+  abbrev pub members_of : Members K V → List (K × V)
+  members_of (Listed v) = v.items
+  members_of (Ring r) = r.items
+
+  -- one more has a place there
+  abbrev pub HasPlaceIn : Members K V → Type 0
+  HasPlaceIn (Listed v) = vec_len v < vec_capacity v
+  HasPlaceIn (Ring r) = deque_len r < deque_capacity r
+
   -- the members in order
   abbrev pub pairs_of : Store K V → List (K × V)
   pairs_of (Plain v) = v.items
-  pairs_of (Hashed b) = b.value.pairs.items
+  pairs_of (Hashed b) = members_of b.value.members
 
   -- how many buckets there are
   abbrev pub buckets_of : Store K V → Option ℕ
@@ -22,7 +34,7 @@ module _ {K V : Type 0} where
   -- one more member has a place
   abbrev pub HasPlace : Store K V → Type 0
   HasPlace (Plain v) = vec_len v < vec_capacity v
-  HasPlace (Hashed b) = deque_len b.value.pairs < deque_capacity b.value.pairs
+  HasPlace (Hashed b) = HasPlaceIn b.value.members
 
   -- the members are those with these hashes, as far as an index keeps them
   abbrev pub IsIndexOf : List ℕ → Store K V → Type 0
@@ -32,7 +44,7 @@ module _ {K V : Type 0} where
   -- an index keeps a hash for each member
   abbrev pub IsIndexed : Store K V → Type 0
   IsIndexed (Plain v) = ⊤
-  IsIndexed (Hashed b) = IsTable b.value.table × (length (hashes_in b.value.table) ≡ length b.value.pairs.items)
+  IsIndexed (Hashed b) = IsTable b.value.table × (length (hashes_in b.value.table) ≡ length (members_of b.value.members))
 
   pub IsIndexOf-prop : (hashes : List ℕ) (s : Store K V) → IsProp (IsIndexOf hashes s)
   IsIndexOf-prop hashes (Plain v) = hlevel props

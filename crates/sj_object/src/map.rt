@@ -13,6 +13,7 @@ mod holes;
 mod index;
 mod insert;
 mod iter;
+mod members;
 mod or_insert;
 mod pairs;
 mod remove;

@@ -4,6 +4,7 @@ ghost use Rattle.std.specs.Prelude.{◌≡◌, ◌<◌, length, Some, None, IsSo
 ghost use Rattle.std.specs.Borrow.{sem};
 
 use super::HashMap;
+use super::members::Members;
 use super::room::make_room;
 use super::search::position_of;
 use super::store::Store;
@@ -27,10 +28,16 @@ impl<K: KeyText, V, S: KeyHasher> HashMap<K, V, S> {
                 let pair = &mut pairs[position];
                 &mut pair.1
             }
-            Store::Hashed(hashed) => {
-                let pair = &mut hashed.pairs[position];
-                &mut pair.1
-            }
+            Store::Hashed(hashed) => match &mut hashed.members {
+                Members::Listed(pairs) => {
+                    let pair = &mut pairs[position];
+                    &mut pair.1
+                }
+                Members::Ring(pairs) => {
+                    let pair = &mut pairs[position];
+                    &mut pair.1
+                }
+            },
         }
     }
 

@@ -1,17 +1,16 @@
 //! What makes room for a member, and the index of a list that grows past 32 members.
 
 ghost use Rattle.std.specs.Prelude.{◌≡◌, ◌+◌, ◌<◌, ◌≤◌, ◌∷◌, ◌++◌, [], ℕ, List, length, map, Some, None, IfOk, OnOk, OnErr};
-ghost use Rattle.std.specs.Vec.{vec_capacity};
-ghost use Rattle.std.specs.VecDeque.{deque_len, deque_capacity};
+ghost use Rattle.std.specs.Vec.{vec_len, vec_capacity};
 ghost use Rattle.sj_object.specs.Index.{buckets_for, IsTableOf, NeedsHash};
 ghost use Rattle.sj_object.specs.Stored.{pairs_of, buckets_of, HasPlace, IsIndexOf};
 
 use super::index::Table;
+use super::members::Members;
 use super::store::{Hashed, Store};
 use crate::hasher::KeyHasher;
 use crate::key::KeyText;
 use std::alloc::{AllocError, Global};
-use std::collections::VecDeque;
 use std::mem;
 
 /// Puts the hashes of the keys last, in order.
@@ -58,27 +57,24 @@ impl<K, V> Store<K, V> {
     {
         match self {
             Store::Plain(pairs) => pairs.reserve(1),
-            Store::Hashed(hashed) => hashed.pairs.reserve(1),
+            Store::Hashed(hashed) => hashed.members.reserve(),
         }
     }
 
     /// The members beside their index. Where there is no memory they are a plain list.
-    fn indexed(
-        alloc: Global,
-        pairs: VecDeque<(K, V)>,
-        table: Table,
-    ) -> (Self, Result<(), AllocError>)
+    fn indexed(alloc: Global, pairs: Vec<(K, V)>, table: Table) -> (Self, Result<(), AllocError>)
         ensures pairs { pairs_of result.0 ≡ pairs.items }
-        ensures place { deque_len pairs < deque_capacity pairs → HasPlace result.0 }
+        ensures place { vec_len pairs < vec_capacity pairs → HasPlace result.0 }
         ensures index { (hashes : List ℕ) → IsTableOf hashes table → OnOk result.1 (IsIndexOf hashes result.0) }
         ensures buckets { OnOk result.1 (buckets_of result.0 ≡ Some (length table.heads.items)) }
         ensures refused { OnErr result.1 (buckets_of result.0 ≡ None) }
     {
-        match Box::new(alloc, Hashed { pairs, table }) {
+        let members = Members::Listed(pairs);
+        match Box::new(alloc, Hashed { members, table }) {
             Ok(hashed) => (Store::Hashed(hashed), Ok(())),
             Err(refused) => {
-                let Hashed { pairs, table: _ } = refused.value;
-                (Store::Plain(pairs.into_vec()), Err(AllocError))
+                let Hashed { members, table: _ } = refused.value;
+                (Store::Plain(members.into_vec()), Err(AllocError))
             }
         }
     }
@@ -93,7 +89,7 @@ impl<K, V> Store<K, V> {
     {
         let alloc = self.allocator();
         let pairs = mem::replace(self, Store::Plain(Vec::new(alloc))).into_vec();
-        let (store, done) = Store::indexed(alloc, VecDeque::from_vec(pairs), table);
+        let (store, done) = Store::indexed(alloc, pairs, table);
         mem::replace(self, store).into_vec().destroy_empty();
         done
     }

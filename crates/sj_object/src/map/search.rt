@@ -6,15 +6,17 @@ ghost use Rattle.sj_object.specs.Entries.{entries_of, texts};
 ghost use Rattle.sj_object.specs.Texts.{no_repeats};
 ghost use Rattle.sj_object.specs.Steps.{visited, walk, compared};
 ghost use Rattle.sj_object.specs.Index.{IsTableOf};
-ghost use Rattle.sj_object.specs.Stored.{pairs_of, buckets_of, IsIndexOf};
+ghost use Rattle.sj_object.specs.Stored.{members_of, pairs_of, buckets_of, IsIndexOf};
 
 use super::chain::bucket_of;
 use super::holes::pass;
 use super::index::Table;
+use super::members::Members;
 use super::store::{Hashed, Store};
 use crate::hasher::KeyHasher;
 use crate::key::KeyText;
 use sj_text_core::{Steps, are_same_bytes};
+use std::collections::VecDeque;
 use std::marker::Brand;
 use std::sync::ledger::{Blank, Ledger};
 
@@ -97,27 +99,33 @@ fn position_in_parts<K: KeyText, V, S: KeyHasher, L: Ledger>(
     None
 }
 
-/// The same, apart from its callers, whose rings have mostly not come round.
+/// The same, where the pairs stand in a ring. It stands apart from its callers, whose pairs are
+/// mostly a list.
 #[inline(never)]
-fn position_in_two<K: KeyText, V, S: KeyHasher, L: Ledger>(
-    front: &[(K, V)],
-    back: &[(K, V)],
+fn position_in_ring<K: KeyText, V, S: KeyHasher, L: Ledger>(
+    ring: &VecDeque<(K, V)>,
     table: &Table,
     hasher: &S,
     hash: u64,
     text: &[u8],
     steps: &mut Steps<L>,
 ) -> Option<usize>
-    requires distinct { no_repeats (texts (entries_of K.text_of (front.now ++ back.now))) ≡ true }
-    requires table { IsTableOf (map (λ p. S.hash_of hasher.now (K.text_of p.0)) (front.now ++ back.now)) table.now }
+    requires distinct { no_repeats (texts (entries_of K.text_of ring.now.items)) ≡ true }
+    requires table { IsTableOf (map (λ p. S.hash_of hasher.now (K.text_of p.0)) ring.now.items) table.now }
     requires hash { hash ≡ S.hash_of hasher.now text.now }
-    ensures found { result ≡ position_from (λ p. bytes_eq text.now (K.text_of p.0)) 0 (front.now ++ back.now) }
-    ensures exact { steps.new ≡ steps.old + walk (S.hash_of hasher.now) (length table.now.heads.items) text.now (entries_of K.text_of (front.now ++ back.now)) }
+    ensures found { result ≡ position_from (λ p. bytes_eq text.now (K.text_of p.0)) 0 ring.now.items }
+    ensures exact { steps.new ≡ steps.old + walk (S.hash_of hasher.now) (length table.now.heads.items) text.now (entries_of K.text_of ring.now.items) }
 {
-    position_in_parts(front, back, table, hasher, hash, text, steps)
+    let (front, back) = ring.as_slices();
+    // A ring that has not come round is one part, in which no step looks for the other.
+    if back.is_empty() {
+        position_in_parts(front, &front[..0], table, hasher, hash, text, steps)
+    } else {
+        position_in_parts(front, back, table, hasher, hash, text, steps)
+    }
 }
 
-/// The same, where the pairs stand in a ring.
+/// The same, where the pairs are those beside an index.
 fn position_in_chain<K: KeyText, V, S: KeyHasher, L: Ledger>(
     hashed: &Hashed<K, V>,
     hasher: &S,
@@ -125,19 +133,18 @@ fn position_in_chain<K: KeyText, V, S: KeyHasher, L: Ledger>(
     text: &[u8],
     steps: &mut Steps<L>,
 ) -> Option<usize>
-    requires distinct { no_repeats (texts (entries_of K.text_of hashed.now.pairs.items)) ≡ true }
-    requires table { IsTableOf (map (λ p. S.hash_of hasher.now (K.text_of p.0)) hashed.now.pairs.items) hashed.now.table }
+    requires distinct { no_repeats (texts (entries_of K.text_of (members_of hashed.now.members))) ≡ true }
+    requires table { IsTableOf (map (λ p. S.hash_of hasher.now (K.text_of p.0)) (members_of hashed.now.members)) hashed.now.table }
     requires hash { hash ≡ S.hash_of hasher.now text.now }
-    ensures found { result ≡ position_from (λ p. bytes_eq text.now (K.text_of p.0)) 0 hashed.now.pairs.items }
-    ensures exact { steps.new ≡ steps.old + walk (S.hash_of hasher.now) (length hashed.now.table.heads.items) text.now (entries_of K.text_of hashed.now.pairs.items) }
+    ensures found { result ≡ position_from (λ p. bytes_eq text.now (K.text_of p.0)) 0 (members_of hashed.now.members) }
+    ensures exact { steps.new ≡ steps.old + walk (S.hash_of hasher.now) (length hashed.now.table.heads.items) text.now (entries_of K.text_of (members_of hashed.now.members)) }
 {
-    let (front, back) = hashed.pairs.as_slices();
-    // A ring that has not come round is one part, in which no step looks for the other.
-    if back.is_empty() {
-        let none = &front[..0];
-        position_in_parts(front, none, &hashed.table, hasher, hash, text, steps)
-    } else {
-        position_in_two(front, back, &hashed.table, hasher, hash, text, steps)
+    let table = &hashed.table;
+    match &hashed.members {
+        Members::Listed(list) => {
+            position_in_parts(list, &list[..0], table, hasher, hash, text, steps)
+        }
+        Members::Ring(ring) => position_in_ring(ring, table, hasher, hash, text, steps),
     }
 }
 

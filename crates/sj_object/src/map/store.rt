@@ -4,13 +4,12 @@ ghost use Rattle.std.specs.Prelude.{◌≡◌, ◌↔◌, ◌-◌, ◌<◌, ◌�
 ghost use Rattle.std.specs.List.{remove};
 ghost use Rattle.std.specs.Option.{option_to_list};
 ghost use Rattle.std.specs.Vec.{vec_len, vec_capacity};
-ghost use Rattle.std.specs.VecDeque.{deque_len, deque_capacity};
 ghost use Rattle.sj_object.specs.Index.{NeedsHash, IsTable, hashes_in};
-ghost use Rattle.sj_object.specs.Stored.{pairs_of, buckets_of, HasPlace, IsIndexOf, IsIndexed};
+ghost use Rattle.sj_object.specs.Stored.{members_of, pairs_of, buckets_of, HasPlace, HasPlaceIn, IsIndexOf, IsIndexed};
 
 use super::index::Table;
+use super::members::Members;
 use std::alloc::Global;
-use std::collections::VecDeque;
 use std::mem;
 
 /// The members of a map in order: a plain list, or members with an index. These stand in a box, so
@@ -21,11 +20,10 @@ pub enum Store<K, V> {
     Hashed(Box<Hashed<K, V>>),
 }
 
-/// Members in a ring, of which a removal moves those in front of it or those behind it, whichever
-/// are fewer, and the index of their hashes.
+/// Members and the index of their hashes.
 #[derive(Drop)]
 pub struct Hashed<K, V> {
-    pub(super) pairs: VecDeque<(K, V)>,
+    pub(super) members: Members<K, V>,
     pub(super) table: Table,
 }
 
@@ -37,7 +35,7 @@ impl<K, V> Store<K, V> {
     {
         match self {
             Store::Plain(pairs) => pairs.len(),
-            Store::Hashed(hashed) => hashed.pairs.len(),
+            Store::Hashed(hashed) => hashed.members.len(),
         }
     }
 
@@ -66,7 +64,7 @@ impl<K, V> Store<K, V> {
     pub fn allocator(&self) -> Global {
         match self {
             Store::Plain(pairs) => *pairs.allocator(),
-            Store::Hashed(hashed) => *hashed.pairs.allocator(),
+            Store::Hashed(hashed) => hashed.members.allocator(),
         }
     }
 
@@ -77,7 +75,7 @@ impl<K, V> Store<K, V> {
     {
         match self {
             Store::Plain(pairs) => (pairs.as_slice(), &[]),
-            Store::Hashed(hashed) => hashed.as_slices(),
+            Store::Hashed(hashed) => hashed.members.as_slices(),
         }
     }
 
@@ -89,7 +87,7 @@ impl<K, V> Store<K, V> {
     {
         match self {
             Store::Plain(pairs) => &pairs[position],
-            Store::Hashed(hashed) => &hashed.pairs[position],
+            Store::Hashed(hashed) => hashed.members.pair(position),
         }
     }
 
@@ -104,7 +102,7 @@ impl<K, V> Store<K, V> {
     {
         match self {
             Store::Plain(pairs) => mem::replace(&mut pairs[position].1, value),
-            Store::Hashed(hashed) => mem::replace(&mut hashed.pairs[position].1, value),
+            Store::Hashed(hashed) => hashed.members.replace(position, value),
         }
     }
 
@@ -118,7 +116,7 @@ impl<K, V> Store<K, V> {
     {
         match self {
             Store::Plain(pairs) => pairs.push_reserved(pair),
-            Store::Hashed(hashed) => hashed.pairs.push_back_reserved(pair),
+            Store::Hashed(hashed) => hashed.members.push_reserved(pair),
         }
     }
 
@@ -136,7 +134,7 @@ impl<K, V> Store<K, V> {
             Store::Plain(pairs) => Some(pairs.remove(position)),
             Store::Hashed(hashed) => {
                 hashed.table.remove(position);
-                hashed.pairs.remove(position)
+                hashed.members.remove(position)
             }
         }
     }
@@ -172,40 +170,32 @@ impl<K, V> Store<K, V> {
 
 // What only members with an index need stands apart, so that it takes no room in a caller.
 impl<K, V> Hashed<K, V> {
-    /// The members in order, in the two parts of the ring.
-    #[inline(never)]
-    fn as_slices(&self) -> (&[(K, V)], &[(K, V)])
-        ensures { result.0.now ++ result.1.now ≡ self.now.pairs.items }
-    {
-        self.pairs.as_slices()
-    }
-
     /// Takes the last member out, and its hash.
     #[inline(never)]
     fn pop(&mut self) -> Option<(K, V)>
         requires table { IsTable self.old.table }
-        requires same { length (hashes_in self.old.table) ≡ length self.old.pairs.items }
-        ensures pairs { self.old.pairs.items ≡ self.new.pairs.items ++ option_to_list result }
-        ensures rest { self.new.pairs.items ≡ take (length self.old.pairs.items - 1) self.old.pairs.items }
-        ensures none { IfNone result (self.new.pairs.items ≡ []) }
+        requires same { length (hashes_in self.old.table) ≡ length (members_of self.old.members) }
+        ensures pairs { members_of self.old.members ≡ members_of self.new.members ++ option_to_list result }
+        ensures rest { members_of self.new.members ≡ take (length (members_of self.old.members) - 1) (members_of self.old.members) }
+        ensures none { IfNone result (members_of self.new.members ≡ []) }
         ensures hashes { hashes_in self.new.table ≡ take (length (hashes_in self.old.table) - 1) (hashes_in self.old.table) }
         ensures table { IsTable self.new.table }
         ensures buckets { length self.new.table.heads.items ≡ length self.old.table.heads.items }
     {
-        if self.pairs.is_empty() {
+        if self.members.len() == 0 {
             return None;
         }
         self.table.pop();
-        self.pairs.pop_back()
+        self.members.pop()
     }
 }
 
 /// The members in order, without their index.
 #[inline(never)]
 fn list_of<K, V>(hashed: Box<Hashed<K, V>>) -> Vec<(K, V)>
-    ensures pairs { result.items ≡ hashed.value.pairs.items }
-    ensures place { deque_len hashed.value.pairs < deque_capacity hashed.value.pairs → vec_len result < vec_capacity result }
+    ensures pairs { result.items ≡ members_of hashed.value.members }
+    ensures place { HasPlaceIn hashed.value.members → vec_len result < vec_capacity result }
 {
-    let Hashed { pairs, table: _ } = Box::into_inner(hashed);
-    pairs.into_vec()
+    let Hashed { members, table: _ } = Box::into_inner(hashed);
+    members.into_vec()
 }

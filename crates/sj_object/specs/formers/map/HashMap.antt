@@ -21,6 +21,7 @@ use denote.Hole.Fix as fix
 use denote.Param.Weighed.{Weighed, w_pair, w_const, w_list}
 use denote.Model.Placed.{held, view_places}
 use Rattle.std.specs.formers.vec.Vec as vec
+use Rattle.std.specs.contracts.vec.Vec as vec_contracts
 use Rattle.std.specs.formers.vec.deque.VecDeque as deque
 use Rattle.std.specs.declared.boxed.Box.{Box}
 use Rattle.std.specs.contracts.boxed.Box as box
@@ -35,13 +36,16 @@ use Rattle.sj_object.specs.Texts.{no_repeats}
 use Rattle.sj_object.specs.Entries.{Entry, texts, entries_of}
 use Rattle.sj_object.specs.HashMap.{Contents, same_contents}
 use Rattle.sj_object.specs.Index.{HasRoom, HasRoom-prop}
-use Rattle.sj_object.specs.Stored.{IsIndexOf, IsIndexOf-prop, pairs_of, buckets_of}
+use Rattle.sj_object.specs.Stored.{IsIndexOf, IsIndexOf-prop, members_of, pairs_of, buckets_of}
 use Rattle.sj_object.specs.declared.map.index.Table.{Table}
+use Rattle.sj_object.specs.declared.map.members.Members.{Members}
+use Rattle.sj_object.specs.declared.map.members.Members.TheVariants.{Listed, Ring}
 use Rattle.sj_object.specs.declared.map.store.Store.{Store}
 use Rattle.sj_object.specs.declared.map.store.Store.TheVariants.{Plain, Hashed}
-use Rattle.sj_object.specs.declared.map.store.Hashed.{Hashed as Ring}
+use Rattle.sj_object.specs.declared.map.store.Hashed.{Hashed as Beside}
+use Rattle.sj_object.specs.contracts.map.members.Members as member_contracts
 use Rattle.sj_object.specs.contracts.map.store.Store as store_contracts
-use Rattle.sj_object.specs.contracts.map.store.Hashed as ring_contracts
+use Rattle.sj_object.specs.contracts.map.store.Hashed as beside_contracts
 use Rattle.sj_object.specs.declared.map.HashMap.TheInside.{Inside}
 use Rattle.sj_object.specs.declared.map.HashMap.TheView.{view, invariant}
 use Rattle.sj_object.specs.contracts.map.HashMap as C
@@ -159,35 +163,68 @@ keys-map f h (p ∷ ps) = ap (λ l. f p.0 ∷ l) (keys-map f h ps)
 
 -- ---- what stores the members
 module _ (K : Type 0) where
+  abbrev list_cells : Former {0}
+  list_cells = vec.the_former (entry this K) Global
+
+  abbrev member_cells : Former {0}
+  member_cells = or list_cells (deque.the_former (entry this K) Global)
+
+  abbrev split_members : (X : Type 0) → Members K X → member_cells.Of X
+  split_members X (Listed v) = inl v
+  split_members X (Ring r) = inr r
+
+  abbrev join_members : (X : Type 0) → member_cells.Of X → Members K X
+  join_members X (inl v) = Listed v
+  join_members X (inr r) = Ring r
+
   abbrev cells : Former {0}
-  cells = or (vec.the_former (entry this K) Global) (pair (deque.the_former (entry this K) Global) (const (Table × (Ptr × Global))))
+  cells = or list_cells (pair member_cells (const (Table × (Ptr × Global))))
 
   abbrev split : (X : Type 0) → Store K X → cells.Of X
   split X (Plain v) = inl v
-  split X (Hashed b) = inr (b.value.pairs, (b.value.table, (b.ptr, b.alloc)))
+  split X (Hashed b) = inr (split_members X b.value.members, (b.value.table, (b.ptr, b.alloc)))
 
   abbrev join : (X : Type 0) → cells.Of X → Store K X
   join X (inl v) = Plain v
-  join X (inr c) = Hashed (record { ptr = c.1.1.0; alloc = c.1.1.1; value = record { pairs = c.0; table = c.1.0 } })
+  join X (inr c) = Hashed (record { ptr = c.1.1.0; alloc = c.1.1.1; value = record { members = join_members X c.0; table = c.1.0 } })
+
+  -- so many members in the place of those in a box
+  abbrev in_box : {X Y : Type 0} → Box (Beside K X) Global → Members K Y → Store K Y
+  in_box b m = Hashed (record { ptr = b.ptr; alloc = b.alloc; value = record { members = m; table = b.value.table } })
+
+  join_split_members : (X : Type 0) (m : Members K X) → join_members X (split_members X m) ≡ m
+  join_split_members X (Listed v) = refl
+  join_split_members X (Ring r) = refl
+
+  split_join_members : (X : Type 0) (c : member_cells.Of X) → split_members X (join_members X c) ≡ c
+  split_join_members X (inl v) = refl
+  split_join_members X (inr r) = refl
 
   join-split : (X : Type 0) (s : Store K X) → join X (split X s) ≡ s
   join-split X (Plain v) = refl
-  join-split X (Hashed b) = refl
+  join-split X (Hashed b) = ap (in_box b) (join_split_members X b.value.members)
 
   split-join : (X : Type 0) (c : cells.Of X) → split X (join X c) ≡ c
   split-join X (inl v) = refl
-  split-join X (inr c) = refl
+  split-join X (inr c) = λ i. inr (split_join_members X c.0 i, c.1)
 
   abbrev store : Former {0}
   store = via cells (λ X. Store K X) split join join-split split-join
 
 module _ {K X Y : Type 0} (h : X → Y) where
+  abbrev mapped_members : Members K X → Members K Y
+  mapped_members m = join_members K Y ((member_cells K).map X Y h (split_members K X m))
+
   abbrev stored : Store K X → Store K Y
   stored = (store K).map X Y h
 
+  members-mapped : (m : Members K X) → members_of (mapped_members m) ≡ map (on_value h) (members_of m)
+  members-mapped (Listed v) = refl
+  members-mapped (Ring r) = refl
+
   pairs-stored : (s : Store K X) → pairs_of (stored s) ≡ map (on_value h) (pairs_of s)
   pairs-stored (Plain v) = refl
-  pairs-stored (Hashed b) = refl
+  pairs-stored (Hashed b) = members-mapped b.value.members
 
   buckets-stored : (s : Store K X) → buckets_of (stored s) ≡ buckets_of s
   buckets-stored (Plain v) = refl
@@ -201,9 +238,13 @@ module _ {K X Y : Type 0} (h : X → Y) where
   index-seen hs (Plain v) i = i
   index-seen hs (Hashed b) i = i
 
+held_of-members : {K X : Type 0} (t : K → List ℕ) (b : Box (Beside K X) Global) (m : Members K X) → held (list (entry this (K × List ℕ))) X (entries_of t (members_of m)) ≡ held (store K) X (in_box K b m)
+held_of-members t b (Listed v) = entries_of-held t v.items
+held_of-members t b (Ring r) = entries_of-held t r.items
+
 held_of-store : {K X : Type 0} (t : K → List ℕ) (s : Store K X) → held (list (entry this (K × List ℕ))) X (entries_of t (pairs_of s)) ≡ held (store K) X s
 held_of-store t (Plain v) = entries_of-held t v.items
-held_of-store t (Hashed b) = entries_of-held t b.value.pairs.items
+held_of-store t (Hashed b) = held_of-members t b b.value.members
 
 module _ (K S : Type 0) (G : text.Ghosts K) (E : eq.Ghosts K) (H : hasher.Ghosts S) where
   abbrev In : Type 0 → Type 0
@@ -216,17 +257,22 @@ module _ (K S : Type 0) (G : text.Ghosts K) (E : eq.Ghosts K) (H : hasher.Ghosts
   Sound-prop : {X : Type 0} (s : Store K X) → IsProp (Sound s)
   Sound-prop s = Fits-prop (buckets_of s) (entries_of G.text_of (pairs_of s))
 
+  entries-stored : {X Y : Type 0} (h : X → Y) (s : Store K X) → entries_of G.text_of (pairs_of (stored h s)) ≡ map (on_value h) (entries_of G.text_of (pairs_of s))
+  entries-stored h s = ap (entries_of G.text_of) (pairs-stored h s) ∙ entries_of-map G.text_of h (pairs_of s)
+
   Sound-map : {X Y : Type 0} (h : X → Y) (s : Store K X) → Sound s → Sound (stored h s)
-  Sound-map h (Plain v) p = subst (Fits None) (sym (entries_of-map G.text_of h v.items)) (Fits-map None h (entries_of G.text_of v.items) p)
-  Sound-map h (Hashed b) p = subst (Fits (buckets_of (Hashed b))) (sym (entries_of-map G.text_of h b.value.pairs.items)) (Fits-map (buckets_of (Hashed b)) h (entries_of G.text_of b.value.pairs.items) p)
+  Sound-map h s p = coe 1 0 (i. Fits (buckets-stored h s i) (entries-stored h s i)) (Fits-map (buckets_of s) h (entries_of G.text_of (pairs_of s)) p)
 
   Sound-seen : {X Y : Type 0} (h : X → Y) (s : Store K X) → Sound (stored h s) → Sound s
-  Sound-seen h (Plain v) p = Fits-seen None h (entries_of G.text_of v.items) _ (sym (entries_of-map G.text_of h v.items)) p
-  Sound-seen h (Hashed b) p = Fits-seen (buckets_of (Hashed b)) h (entries_of G.text_of b.value.pairs.items) _ (sym (entries_of-map G.text_of h b.value.pairs.items)) p
+  Sound-seen h s p = Fits-seen (buckets_of s) h (entries_of G.text_of (pairs_of s)) _ refl (coe 0 1 (i. Fits (buckets-stored h s i) (entries-stored h s i)) p)
+
+  seen_members : (X : Type 0) (m : Members K X) → join_members K (Unit {0}) ((member_cells K).shape X (split_members K X m)) ≡ mapped_members (λ x. tt) m
+  seen_members X (Listed v) = refl
+  seen_members X (Ring r) = refl
 
   seen_at : (X : Type 0) (s : Store K X) → join K (Unit {0}) ((store K).shape X s) ≡ stored (λ x. tt) s
   seen_at X (Plain v) = refl
-  seen_at X (Hashed b) = refl
+  seen_at X (Hashed b) = ap (in_box K b) (seen_members X b.value.members)
 
   abbrev parts : Former {0}
   parts = such (pair (store K) (const S)) (λ X x. Sound x.0) (λ a. Sound (join K (Unit {0}) a.0)) (λ X x. Sound-prop x.0) (λ a. Sound-prop (join K (Unit {0}) a.0))
@@ -243,15 +289,26 @@ module _ (K S : RattleType) (G : text.Ghosts K.Denot) (E : eq.Ghosts K.Denot) (H
   pair_places : Alike R R' h → Alike (pair_of R) (pair_of R') (on_value h)
   pair_places a = struct_places (tuple_type (K ∷ R ∷ [])) (tuple_type (K ∷ R' ∷ [])) (λ k. k, (h, tt)) _ (λ d. refl) refl ((refl, (λ n. refl, λ n. refl)), (laid _ _ _ a, tt))
 
-  abbrev ring_of : RattleType → RattleType
-  ring_of X = ring_contracts.the_row K X
+  list_places : Alike R R' h → Alike (vec_contracts.the_row (pair_of R) heap.the_row ghosts) (vec_contracts.the_row (pair_of R') heap.the_row ghosts) (vec.mapped (on_value h))
+  list_places a = vec.the_places heap.the_row ghosts (pair_of R) (pair_of R') (on_value h) (pair_places a)
 
-  abbrev ring_mapped : Ring K.Denot R.Denot → Ring K.Denot R'.Denot
-  ring_mapped r = record { pairs = deque.mapped (on_value h) r.pairs; table = r.table }
+  as_members : (d : Members K.Denot R.Denot) → member_contracts.as_values K R' (mapped_members h d) ≡ eachs (member_contracts.enum K R).parts (member_contracts.enum K R').parts ((vec.mapped (on_value h), tt), ((deque.mapped (on_value h), tt), tt)) (member_contracts.as_values K R d)
+  as_members (Listed v) = refl
+  as_members (Ring r) = refl
 
-  ring_places : Alike R R' h → Alike (ring_of R) (ring_of R') ring_mapped
-  ring_places a = struct_places (ring_contracts.the_type K R) (ring_contracts.the_type K R') (deque.mapped (on_value h), (λ n. n, tt)) _ (λ d. refl) refl
-      (laid _ _ _ (deque.the_places heap.the_row ghosts (pair_of R) (pair_of R') (on_value h) (pair_places a)), ((refl, (λ n. refl, λ n. refl)), tt))
+  members_places : Alike R R' h → Alike (member_contracts.the_row K R) (member_contracts.the_row K R') (mapped_members h)
+  members_places a = enum_places (member_contracts.enum K R) (member_contracts.enum K R') ((vec.mapped (on_value h), tt), ((deque.mapped (on_value h), tt), tt)) (mapped_members h) as_members refl
+      ((laid _ _ _ (list_places a), tt), ((laid _ _ _ (deque.the_places heap.the_row ghosts (pair_of R) (pair_of R') (on_value h) (pair_places a)), tt), tt))
+
+  abbrev beside_of : RattleType → RattleType
+  beside_of X = beside_contracts.the_row K X
+
+  abbrev beside_mapped : Beside K.Denot R.Denot → Beside K.Denot R'.Denot
+  beside_mapped r = record { members = mapped_members h r.members; table = r.table }
+
+  beside_places : Alike R R' h → Alike (beside_of R) (beside_of R') beside_mapped
+  beside_places a = struct_places (beside_contracts.the_type K R) (beside_contracts.the_type K R') (mapped_members h, (λ n. n, tt)) _ (λ d. refl) refl
+      (laid _ _ _ (members_places a), ((refl, (λ n. refl, λ n. refl)), tt))
 
   abbrev box_of : RattleType → RattleType
   box_of X = box.the_row X heap.the_row ghosts
@@ -267,13 +324,13 @@ module _ (K S : RattleType) (G : text.Ghosts K.Denot) (E : eq.Ghosts K.Denot) (H
     shr_same = λ b i. (box_of (one_value X (a.mir_same i) (a.own_same b.value i) (a.shr_same b.value i) gnil)).shr_at (with_value b tt);
   }
 
-  as_stored : (d : Store K.Denot R.Denot) → store_contracts.as_values K R' (stored h d) ≡ eachs (store_contracts.enum K R).parts (store_contracts.enum K R').parts ((vec.mapped (on_value h), tt), ((λ b. with_value b (ring_mapped b.value), tt), tt)) (store_contracts.as_values K R d)
+  as_stored : (d : Store K.Denot R.Denot) → store_contracts.as_values K R' (stored h d) ≡ eachs (store_contracts.enum K R).parts (store_contracts.enum K R').parts ((vec.mapped (on_value h), tt), ((λ b. with_value b (beside_mapped b.value), tt), tt)) (store_contracts.as_values K R d)
   as_stored (Plain v) = refl
   as_stored (Hashed b) = refl
 
   store_places : Alike R R' h → Alike (store_contracts.the_row K R) (store_contracts.the_row K R') (stored h)
-  store_places a = enum_places (store_contracts.enum K R) (store_contracts.enum K R') ((vec.mapped (on_value h), tt), ((λ b. with_value b (ring_mapped b.value), tt), tt)) (stored h) as_stored refl
-      ((laid _ _ _ (vec.the_places heap.the_row ghosts (pair_of R) (pair_of R') (on_value h) (pair_places a)), tt), ((laid _ _ _ (box_places ring_mapped (ring_places a)), tt), tt))
+  store_places a = enum_places (store_contracts.enum K R) (store_contracts.enum K R') ((vec.mapped (on_value h), tt), ((λ b. with_value b (beside_mapped b.value), tt), tt)) (stored h) as_stored refl
+      ((laid _ _ _ (list_places a), tt), ((laid _ _ _ (box_places beside_mapped (beside_places a)), tt), tt))
 
   abbrev hash_by : S.Denot → K.Denot → ℕ
   hash_by s k = H.hash_of s (G.text_of k)

@@ -1,0 +1,169 @@
+//! The members of a map beside an index.
+
+ghost use Rattle.std.specs.Prelude.{◌≡◌, ◌-◌, ◌<◌, ◌∷◌, ◌++◌, [], length, take, slice_set, slice_index_or, IsSome, IfNone, IfSome, OnOk};
+ghost use Rattle.std.specs.List.{remove};
+ghost use Rattle.std.specs.Option.{option_to_list};
+ghost use Rattle.std.specs.Vec.{vec_len, vec_capacity};
+ghost use Rattle.sj_object.specs.Stored.{members_of, HasPlaceIn};
+
+use std::alloc::{AllocError, Global};
+use std::collections::VecDeque;
+use std::mem;
+
+/// Members in order: a list, until one leaves from elsewhere than the end, and a ring from there on,
+/// of which a removal moves those in front of it or those behind it, whichever are fewer.
+#[derive(Drop)]
+pub enum Members<K, V> {
+    Listed(Vec<(K, V)>),
+    Ring(VecDeque<(K, V)>),
+}
+
+// What is small is taken into its callers, so that a list costs one test.
+impl<K, V> Members<K, V> {
+    /// How many there are.
+    #[inline(always)]
+    pub fn len(&self) -> usize
+        ensures { result ≡ length (members_of self.now) }
+    {
+        match self {
+            Members::Listed(pairs) => pairs.len(),
+            Members::Ring(pairs) => pairs.len(),
+        }
+    }
+
+    /// What the memory is taken from.
+    pub fn allocator(&self) -> Global {
+        match self {
+            Members::Listed(pairs) => *pairs.allocator(),
+            Members::Ring(pairs) => *pairs.allocator(),
+        }
+    }
+
+    /// All in order, in two parts.
+    #[inline(always)]
+    pub fn as_slices(&self) -> (&[(K, V)], &[(K, V)])
+        ensures { result.0.now ++ result.1.now ≡ members_of self.now }
+    {
+        match self {
+            Members::Listed(pairs) => (pairs.as_slice(), &[]),
+            Members::Ring(pairs) => parts(pairs),
+        }
+    }
+
+    /// The member at a position.
+    #[inline(always)]
+    pub fn pair(&self, position: usize) -> &(K, V)
+        requires { position < length (members_of self.now) }
+        ensures { result.now ≡ slice_index_or (members_of self.now) position result.now }
+    {
+        match self {
+            Members::Listed(pairs) => &pairs[position],
+            Members::Ring(pairs) => &pairs[position],
+        }
+    }
+
+    /// Sets the value of the member at a position, and answers the one before.
+    #[inline(always)]
+    pub fn replace(&mut self, position: usize, value: V) -> V
+        requires { position < length (members_of self.old) }
+        ensures before { (pair : K × V) → pair ≡ slice_index_or (members_of self.old) position pair → result ≡ pair.1 }
+        ensures pairs { (pair : K × V) → pair ≡ slice_index_or (members_of self.old) position pair → members_of self.new ≡ slice_set (members_of self.old) position (pair.0, value) }
+    {
+        match self {
+            Members::Listed(pairs) => mem::replace(&mut pairs[position].1, value),
+            Members::Ring(pairs) => mem::replace(&mut pairs[position].1, value),
+        }
+    }
+
+    /// Makes a place for one more.
+    #[inline(always)]
+    pub fn reserve(&mut self) -> Result<(), AllocError>
+        ensures pairs { members_of self.new ≡ members_of self.old }
+        ensures place { OnOk result (HasPlaceIn self.new) }
+    {
+        match self {
+            Members::Listed(pairs) => pairs.reserve(1),
+            Members::Ring(pairs) => pairs.reserve(1),
+        }
+    }
+
+    /// Puts a member last, for which there is a place.
+    #[inline(always)]
+    pub fn push_reserved(&mut self, pair: (K, V))
+        requires { HasPlaceIn self.old }
+        ensures { members_of self.new ≡ members_of self.old ++ pair ∷ [] }
+    {
+        match self {
+            Members::Listed(pairs) => pairs.push_reserved(pair),
+            Members::Ring(pairs) => pairs.push_back_reserved(pair),
+        }
+    }
+
+    /// Takes the last one out.
+    #[inline(always)]
+    pub fn pop(&mut self) -> Option<(K, V)>
+        ensures pairs { members_of self.old ≡ members_of self.new ++ option_to_list result }
+        ensures rest { members_of self.new ≡ take (length (members_of self.old) - 1) (members_of self.old) }
+        ensures none { IfNone result (members_of self.new ≡ []) }
+    {
+        match self {
+            Members::Listed(pairs) => pairs.pop(),
+            Members::Ring(pairs) => pairs.pop_back(),
+        }
+    }
+
+    /// Takes the one at a position out. Those after it close up.
+    pub fn remove(&mut self, position: usize) -> Option<(K, V)>
+        requires { position < length (members_of self.old) }
+        ensures pair { IfSome result (λ p. p ≡ slice_index_or (members_of self.old) position p) }
+        ensures some { IsSome result }
+        ensures pairs { members_of self.new ≡ remove (members_of self.old) position }
+    {
+        if position + 1 < self.len() {
+            self.turn();
+        }
+        match self {
+            Members::Listed(pairs) => Some(pairs.remove(position)),
+            Members::Ring(pairs) => pairs.remove(position),
+        }
+    }
+
+    /// Makes a ring of a list, in its memory.
+    fn turn(&mut self)
+        ensures { members_of self.new ≡ members_of self.old }
+    {
+        let alloc = self.allocator();
+        let ring = mem::replace(self, Members::Listed(Vec::new(alloc))).into_ring();
+        mem::replace(self, Members::Ring(ring))
+            .into_vec()
+            .destroy_empty();
+    }
+
+    fn into_ring(self) -> VecDeque<(K, V)>
+        ensures { result.items ≡ members_of self }
+    {
+        match self {
+            Members::Listed(pairs) => VecDeque::from_vec(pairs),
+            Members::Ring(pairs) => pairs,
+        }
+    }
+
+    /// All in order, as a list.
+    pub fn into_vec(self) -> Vec<(K, V)>
+        ensures pairs { result.items ≡ members_of self }
+        ensures place { HasPlaceIn self → vec_len result < vec_capacity result }
+    {
+        match self {
+            Members::Listed(pairs) => pairs,
+            Members::Ring(pairs) => pairs.into_vec(),
+        }
+    }
+}
+
+/// The two parts of a ring. It stands apart, so that it takes no room in a caller.
+#[inline(never)]
+fn parts<K, V>(ring: &VecDeque<(K, V)>) -> (&[(K, V)], &[(K, V)])
+    ensures { result.0.now ++ result.1.now ≡ ring.now.items }
+{
+    ring.as_slices()
+}
