@@ -5,7 +5,7 @@ ghost use Rattle.std.specs.Borrow.{sem};
 ghost use Rattle.std.specs.Option.{option_copied, option_copied_mut};
 
 use super::HashMap;
-use super::search::{position_counted, position_of};
+use super::search::{position_counted, position_here, position_of};
 use crate::hasher::KeyHasher;
 use crate::key::KeyText;
 use sj_text_core::Steps;
@@ -27,12 +27,14 @@ impl<K: KeyText, V, S: KeyHasher> HashMap<K, V, S> {
         }
     }
 
-    /// The value of the key. Its hash is read only where there are buckets.
+    /// The value of the key. Its hash is read only where there are buckets. It is one call, so that
+    /// what finds a value is small.
+    #[inline(never)]
     pub(crate) fn find(&self, hash: u64, key: &str) -> Option<&V>
         requires { IsSome self.now.buckets → hash ≡ S.hash_of self.now.hasher key.now }
         ensures { option_copied result ≡ lookup key.now self.now.entries }
     {
-        match position_of(&self.store, &self.hasher, hash, key) {
+        match position_here(&self.store, &self.hasher, hash, key) {
             Some(i) => Some(&self.store.pair(i).1),
             None => None,
         }

@@ -207,7 +207,9 @@ impl Table {
         self.gone = 0;
     }
 
-    /// Takes the last hash out, once holes behind it are cut off.
+    /// Takes the last hash out, once holes behind it are cut off. It stands apart, so that it takes no
+    /// room in a caller.
+    #[inline(never)]
     pub fn pop(&mut self)
         requires within { 0 < length (hashes_in self.old) }
         requires table { IsTable self.old }

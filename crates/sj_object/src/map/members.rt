@@ -1,8 +1,7 @@
 //! The members of a map beside an index.
 
-ghost use Rattle.std.specs.Prelude.{◌≡◌, ◌-◌, ◌<◌, ◌∷◌, ◌++◌, [], length, take, slice_set, slice_index_or, IsSome, IfNone, IfSome, OnOk};
+ghost use Rattle.std.specs.Prelude.{◌≡◌, ◌<◌, ◌∷◌, ◌++◌, [], length, slice_set, slice_index_or, IsSome, IfSome, OnOk};
 ghost use Rattle.std.specs.List.{remove};
-ghost use Rattle.std.specs.Option.{option_to_list};
 ghost use Rattle.std.specs.Vec.{vec_len, vec_capacity};
 ghost use Rattle.sj_object.specs.Stored.{members_of, HasPlaceIn};
 
@@ -58,7 +57,7 @@ impl<K, V> Members<K, V> {
     {
         match self {
             Members::Listed(pairs) => &pairs[position],
-            Members::Ring(pairs) => &pairs[position],
+            Members::Ring(pairs) => pair_in(pairs, position),
         }
     }
 
@@ -96,19 +95,6 @@ impl<K, V> Members<K, V> {
         match self {
             Members::Listed(pairs) => pairs.push_reserved(pair),
             Members::Ring(pairs) => pairs.push_back_reserved(pair),
-        }
-    }
-
-    /// Takes the last one out.
-    #[inline(always)]
-    pub fn pop(&mut self) -> Option<(K, V)>
-        ensures pairs { members_of self.old ≡ members_of self.new ++ option_to_list result }
-        ensures rest { members_of self.new ≡ take (length (members_of self.old) - 1) (members_of self.old) }
-        ensures none { IfNone result (members_of self.new ≡ []) }
-    {
-        match self {
-            Members::Listed(pairs) => pairs.pop(),
-            Members::Ring(pairs) => pairs.pop_back(),
         }
     }
 
@@ -160,7 +146,18 @@ impl<K, V> Members<K, V> {
     }
 }
 
-/// The two parts of a ring. It stands apart, so that it takes no room in a caller.
+// What a ring alone needs stands apart, so that it takes no room in a caller.
+
+/// The member at a position of a ring.
+#[inline(never)]
+fn pair_in<K, V>(ring: &VecDeque<(K, V)>, position: usize) -> &(K, V)
+    requires { position < length ring.now.items }
+    ensures { result.now ≡ slice_index_or ring.now.items position result.now }
+{
+    &ring[position]
+}
+
+/// The two parts of a ring.
 #[inline(never)]
 fn parts<K, V>(ring: &VecDeque<(K, V)>) -> (&[(K, V)], &[(K, V)])
     ensures { result.0.now ++ result.1.now ≡ ring.now.items }

@@ -31,6 +31,7 @@ fn is_key<K: KeyText, L: Ledger>(key: &K, text: &[u8], steps: &mut Steps<L>) -> 
 }
 
 /// The position of the first pair whose key has the text.
+#[inline(always)]
 fn position_in_list<K: KeyText, V, L: Ledger>(
     pairs: &[(K, V)],
     text: &[u8],
@@ -126,6 +127,7 @@ fn position_in_ring<K: KeyText, V, S: KeyHasher, L: Ledger>(
 }
 
 /// The same, where the pairs are those beside an index.
+#[inline(always)]
 fn position_in_chain<K: KeyText, V, S: KeyHasher, L: Ledger>(
     hashed: &Hashed<K, V>,
     hasher: &S,
@@ -149,6 +151,7 @@ fn position_in_chain<K: KeyText, V, S: KeyHasher, L: Ledger>(
 }
 
 /// The position of the pair whose key has the text, and, where there are buckets, the hash.
+#[inline(always)]
 pub fn position_counted<K: KeyText, V, S: KeyHasher, L: Ledger>(
     store: &Store<K, V>,
     hasher: &S,
@@ -169,6 +172,7 @@ pub fn position_counted<K: KeyText, V, S: KeyHasher, L: Ledger>(
 }
 
 /// The same, where nobody reads the steps.
+#[inline(always)]
 fn position_blank<K: KeyText, V, S: KeyHasher, L: Ledger>(
     store: &Store<K, V>,
     hasher: &S,
@@ -188,8 +192,10 @@ fn position_blank<K: KeyText, V, S: KeyHasher, L: Ledger>(
     position_counted(store, hasher, hash, text, &mut steps)
 }
 
-/// The position of the pair whose key has the text, and, where there are buckets, the hash.
-pub fn position_of<K: KeyText, V, S: KeyHasher>(
+/// The position of the pair whose key has the text, and, where there are buckets, the hash. It is
+/// taken into its callers.
+#[inline(always)]
+pub fn position_here<K: KeyText, V, S: KeyHasher>(
     store: &Store<K, V>,
     hasher: &S,
     hash: u64,
@@ -201,4 +207,20 @@ pub fn position_of<K: KeyText, V, S: KeyHasher>(
     ensures { result ≡ position_from (λ p. bytes_eq text.now (K.text_of p.0)) 0 (pairs_of store.now) }
 {
     position_blank::<K, V, S, Brand>(store, hasher, hash, text.as_bytes(), Blank::new(1))
+}
+
+/// The same by a call.
+#[inline(never)]
+pub fn position_of<K: KeyText, V, S: KeyHasher>(
+    store: &Store<K, V>,
+    hasher: &S,
+    hash: u64,
+    text: &str,
+) -> Option<usize>
+    requires distinct { no_repeats (texts (entries_of K.text_of (pairs_of store.now))) ≡ true }
+    requires index { IsIndexOf (map (λ p. S.hash_of hasher.now (K.text_of p.0)) (pairs_of store.now)) store.now }
+    requires hash { IsSome (buckets_of store.now) → hash ≡ S.hash_of hasher.now text.now }
+    ensures { result ≡ position_from (λ p. bytes_eq text.now (K.text_of p.0)) 0 (pairs_of store.now) }
+{
+    position_here(store, hasher, hash, text)
 }
