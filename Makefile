@@ -37,7 +37,7 @@ check-edits:
 check-use:
 	tools/taken.sh
 
-# Runs the built programs as a user would. Needs python3, and `make test` or `make programs` before it.
+# Runs the built programs as a user would. Needs gcc and python3, and `make test` or `make programs` before it.
 check-program:
 	tools/program.sh crates/sjval/out/sjval
 	tools/replies.py crates/sjval/out/sjval

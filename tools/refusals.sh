@@ -206,6 +206,33 @@ for form in owned borrowed; do
   free "room_in $form" $'call: filled\n'
 done
 
+# merged MEMBERS: sets print to that of an object of so many members, merged
+merged() {
+  local place member
+  print='{"k01":{"a":1},'
+  for ((place = 2; place < $1; place++)); do
+    printf -v member '"k%02d":%d,' $place $place
+    print+=$member
+  done
+  print+='"n":[{}],"o":"p"}'
+}
+
+# merges WORDS KEPT: a merge, of which the target stands where it was refused, or nothing does
+merges() {
+  each "merge $1" "call: refused, $2merged $print"$'\n' "call: merged $print"$'\n'
+}
+
+for form in owned borrowed; do
+  print='{"some":["key","value",2],"k01":{"a":1},"n":[{}],"o":"p"}'
+  merges "$form merge" 'target as before, '
+  merges "$form into_merged" ''
+  for members in 0 32 64; do
+    merged $members
+    merges "$form merge $members" 'target as before, '
+    merges "$form into_merged $members" ''
+  done
+done
+
 # makes WORDS MADE
 makes() {
   each "$1" "call: AllocError, then $2"$'\n' "call: made, again $2"$'\n'
@@ -368,6 +395,22 @@ done
 free 'pointer_lazy owned find_mut' "call: missing, tree as before, found, owned $example"$'\n'
 free 'pointer_lazy owned replace' $'call: missing, tree as before, found, owned {"some":["key",null,2]}\n'
 
+# reads_line LINE ANSWER: a command line that asks for the room of its nodes, and once
+reads_line() {
+  each "command $1" "call: OutOfMemory"$'\n'"again $2"$'\n' "call: $2"$'\n'"again $2"$'\n'
+  good=no
+  [ "$requests" = 1 ] && good=yes
+  count $good "command $1 asks once"
+}
+
+for line in number cut numbers open; do
+  reads_line $line 'bad command'
+done
+reads_line len len
+for line in word words; do
+  free "command $line" $'call: bad command\nagain bad command\n'
+done
+
 for words in 'owned text' 'owned known' 'borrowed text' 'borrowed known' 'lazy text'; do
   each "apply $words" $'call: refused, as it was or done, then applied, {"k":null}\n' \
     $'call: inserted, {"k":null}\n'
@@ -396,6 +439,7 @@ for form in owned borrowed lazy; do
   [ $form = lazy ] && many=2
   answers repeat $form "$many"$'\nnot an array\n{"a":1}\n'
   answers repeat $form "$many"$'\nnot an array\n{"a":2}\n' session_last
+  answers bad $form $'bad command\nbad command\nbad command\nbad command\n'
   answers reads $form $'3\n'
   eval "reads_$form=$requests"
 done

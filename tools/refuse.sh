@@ -1,5 +1,5 @@
-# How calls are run with requests for memory refused: for tools/refusals.sh, which sets program and
-# stands in a folder with refuse.so.
+# How calls are run with requests for memory refused: for tools/refusals.sh and tools/sjroute.sh, which set
+# program and stand in a folder with refuse.so.
 # shellcheck shell=bash
 passed=0
 failed=0

@@ -1,18 +1,22 @@
 #!/usr/bin/env bash
 # Runs the program sjroute as a user would, and looks at its statuses, its outputs and what it tells.
-# Usage: tools/sjroute.sh PROGRAM. Needs python3. The last line is 'N passed, M failed'.
+# Usage: tools/sjroute.sh PROGRAM. Needs gcc and python3. The last line is 'N passed, M failed'.
 set -u
 program=$(realpath "$1")
-if [ ! -x "$program" ] || [ ! -x "$(command -v python3)" ]; then
-  echo "failed: there is no program ${1:-} or no python3"
-  echo '0 passed, 1 failed'
-  exit 1
-fi
+for need in "$program" "$(command -v gcc)" "$(command -v python3)"; do
+  if [ ! -f "$need" ] || [ ! -x "$need" ]; then
+    echo "failed: there is no program ${1:-}, or no gcc, or no python3"
+    echo '0 passed, 1 failed'
+    exit 1
+  fi
+done
+tools=$(dirname "$(realpath "${BASH_SOURCE[0]}")")
 work=$(mktemp -d)
 trap 'rm -rf "$work"' EXIT
+gcc -O2 -shared -fPIC -o "$work/refuse.so" "$tools/refuse.c" || exit 1
 cd "$work" || exit 1
-passed=0
-failed=0
+# shellcheck source=tools/refuse.sh
+. "$tools/refuse.sh"
 
 # expect NAME STATUS STDOUT STDERR, after a run has left its own in out, err and status; the texts may have escapes
 expect() {
@@ -158,6 +162,72 @@ limited 24000 < long.in > out 2> told
 status=$?
 tail -n 1 told > err
 expect 'a long line in too little memory' 4 '1\n' 'sjroute: out of memory\n'
+
+# Each request for memory behind the first piece, which is one long line, refused in turn: the line where that was
+# is counted, and those in front of it are counted and written.
+{ printf '{"n":"'; head -c 300000 /dev/zero | tr '\0' x; printf '"}\n'; } > long.in
+{ cat long.in; printf '%s\n' '{"n":1,"old":[{}]}' '{"old":"text"}' '{"n":{"old":[3]}}'; } > merges.in
+{ sed 's/}$/,"seen":{"by":["me"]}}/' long.in; printf '%s\n' '{"n":1,"seen":{"by":["me"]}}' '{"seen":{"by":["me"]}}' \
+  '{"n":{"old":[3]},"seen":{"by":["me"]}}'; } > merged.out
+
+# stops: whether the run stopped in the line behind those that were written, and told so
+stops() {
+  written=$(wc -l < out)
+  printf '%s lines, 0 not read, 0 met no rule\n%s to -\nsjroute: out of memory\n' $((written + 1)) "$written" > want.err
+  head -n "$written" merged.out > want.out
+  [ "$status" = 4 ] && cmp -s err want.err && cmp -s out want.out
+}
+
+echo '[{"output":"-"}]' > rules.json
+run 0 rules.json < merges.in
+plain=$requests
+echo '[{"output":"-","merge":{"seen":{"by":["me"]},"old":null}}]' > rules.json
+stopped=''
+n=1
+while run $n rules.json < merges.in; [ "$requests" -ge $n ] && stops; do
+  case $stopped in *"$written") ;; *) stopped+=$written ;; esac
+  n=$((n + 1))
+done
+good=no
+[ "$status" = 0 ] && cmp -s out merged.out && [ "$requests" = $((n - 1)) ] && [ "$stopped" = 123 ] &&
+  fewer "$plain" "$requests" && good=yes
+count $good 'a merge whose memory is refused'
+
+# The same of an output of each kind, whose first lines come behind that piece: each holds whole lines alone, as many
+# as are told, and each line that is counted as not read is told.
+{ cat long.in; printf '%s\n' '{"some":"message"}' '{"some":"message",}' '["no","rule"]' '{"some":[{}]}' '["no","more"]' \
+  '{"some":{},"more"}'; } > outputs.in
+printf '%s\n' '{"some":"message"}' '{"some":[{}]}' > whole.some
+printf '%s\n' '{"some":"message","seen":true}' '{"some":[{}],"seen":true}' > whole.seen
+printf '%s\n' '["no","rule"]' '["no","more"]' > whole.unmet
+printf '%s\n' '{"some":"message",}' '{"some":{},"more"}' > whole.unread
+printf '%s\n' '[{"output":"-","key":"n"},{"output":"some","key":"some"},{"output":"seen","key":"some","merge":{"seen":true}},' \
+  '{"output":"unmet","takes":"unmet"},{"output":"unread","takes":"unread"}]' > rules.json
+
+# wholes: whether each output holds the first of its lines, and so many were told, as were those that were not read
+wholes() {
+  local name lines unread
+  unread=$(grep -cxE 'line (3, column 19|7, column 18): syntax error' err)
+  for name in some seen unmet unread; do
+    lines=$(wc -l < $name)
+    head -n "$lines" whole.$name | cmp -s - $name && grep -qx "$lines to $name" err || return 1
+  done
+  grep -qx "[1-7] lines, $unread not read, [0-2] met no rule" err && cmp -s out long.in
+}
+
+stopped=''
+n=1
+while run $n rules.json < outputs.in; [ "$status" = 4 ] && [ "$(tail -n 1 err)" = 'sjroute: out of memory' ] && wholes; do
+  written=$(cat some seen unmet unread | wc -l)
+  case $stopped in *"$written") ;; *) stopped+=$written ;; esac
+  n=$((n + 1))
+done
+good=no
+case $stopped in
+  0123*) [ "$status" = 1 ] && wholes && cat some seen unmet unread | cmp -s - <(cat whole.some whole.seen whole.unmet whole.unread) &&
+    [ "$requests" = $((n - 1)) ] && good=yes ;;
+esac
+count $good 'outputs whose memory is refused'
 
 echo "$passed passed, $failed failed"
 [ "$failed" = 0 ]

@@ -11,7 +11,8 @@
 //!     refusals apply FORM WAY | session FORM INPUT | session_known FORM INPUT
 //!     refusals session_last FORM INPUT | pointer | no_pointer | pointer_in FORM
 //!     refusals pointer_lazy FORM CALL | kinds FORM | parts FORM | reads WHAT | from WHAT
-//!     refusals display FORM | stream CALL | fault CALL | changes
+//!     refusals display FORM | stream CALL | fault CALL | changes | command LINE
+//!     refusals merge FORM CALL [MEMBERS]
 //!
 //! `refusals nodes LIST ..` makes a tape of each list of nodes.
 //!
@@ -31,10 +32,12 @@ mod kinds;
 mod laws;
 mod lazy;
 mod lazy_makes;
+mod lines;
 mod makes;
 mod map_reads;
 mod maps;
 mod members;
+mod merges;
 mod nodes;
 mod parts;
 mod pointers;
@@ -78,6 +81,7 @@ fn run_texts(rt: &(impl Print + AllocGlobal), words: &[String]) -> Result<(), Fa
         "nodes" => nodes::tell(rt, words.get(1..).unwrap_or(&[])),
         "run" => runs::run_form(rt, second, third),
         "apply" => applies::insert(rt, second, third),
+        "command" => lines::read(rt, second),
         "session" => sessions::answer(rt, Session::First, second, third),
         "session_known" => sessions::answer(rt, Session::Known, second, third),
         "session_last" => sessions::answer(rt, Session::Last, second, third),
@@ -117,6 +121,7 @@ fn run_documents(rt: &(impl Print + AllocGlobal), words: &[String]) -> Result<()
         "display" => displays::write(rt, second),
         "tape" => tapes::call(rt, second),
         "document" => documents::run_call(rt, second, third, word(words, 3)),
+        "merge" => merges::run_call(rt, second, third, word(words, 3)),
         "make" => makes::make(rt, second),
         "make_lazy" => lazy_makes::make(rt, second),
         "convert" => makes::convert(rt, second),

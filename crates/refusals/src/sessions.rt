@@ -49,6 +49,7 @@ fn input_of(alloc: Global, name: &str) -> Result<Vec<u8>, Fault> {
         }
         "repeat" => "{\"a\":1,\"a\":2}\n---\n[\"len\",[]]\n[\"pop\",[]]\n[\"encode\",[]]\n",
         "reads" => "[\"a\",\"b\",\"c\"]\n---\n[\"len\",[]]\n",
+        "bad" => "[]\n---\n7\nhelp\nhelp me out, please\n[1,2\n",
         _ => return Err(Fault::Usage),
     };
     Ok(input.as_bytes().to_vec(alloc)?)

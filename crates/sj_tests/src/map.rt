@@ -1,5 +1,6 @@
 ghost use Rattle.std.specs.Prelude.{◌≡◌, ◌<◌};
 
+mod beside;
 mod fronts;
 mod hashed;
 mod holes;

@@ -48,8 +48,7 @@ pub fn route_piece(
                 }
             }
             Some(Err(unread)) => {
-                counts.unread = counts.unread.saturating_add(1);
-                take_broken(routes, line.text, unread, broken)?;
+                take_broken(routes, line.text, unread, counts, broken)?;
             }
             None => {}
         }
@@ -57,17 +56,19 @@ pub fn route_piece(
     Ok(())
 }
 
-/// Tells of a line that was not read, and routes its text.
+/// Tells of a line that was not read, counts it, and routes its text.
 fn take_broken(
     routes: &mut [Route],
     text: &[u8],
     unread: Unread,
+    counts: &mut Counts,
     broken: &mut Vec<Broken>,
 ) -> Result<(), JsonError>
     ensures known { OnOk result (unread.why ≢ ErrorKind.OutOfMemory) }
     ensures taken { OnOk result (AllTaken IsUnread (text_to text.now) routes.old routes.new) }
 {
     broken.push(broken_line(text, unread)?)?;
+    counts.unread = counts.unread.saturating_add(1);
     put_unread(routes, text)
 }
 

@@ -1,6 +1,6 @@
 //! One message to the outputs whose rules it meets.
 
-ghost use Rattle.std.specs.Prelude.{◌≡◌, ◌↔◌, ◌++◌, ◌∷◌, [], ℕ, List, Some, IsTrue, OnOk, OnErr, IfOk, string_bytes};
+ghost use Rattle.std.specs.Prelude.{◌≡◌, ◌↔◌, ◌++◌, ◌∷◌, [], Some, IsTrue, OnOk, OnErr, IfOk, string_bytes};
 ghost use Rattle.sj_text_core.specs.Keep.{keep};
 ghost use Rattle.sj_text_core.specs.Print.{compact};
 ghost use Rattle.sj_text_core.specs.declared.repeats.Repeats.TheVariants.{First};
@@ -48,28 +48,25 @@ fn put_line(
     ensures ok { OnOk result (waiting.new.items ≡ waiting.old.items ++ line_of patch.now text.now (tree message.entry)) }
     ensures refused { OnErr result (waiting.new.items ≡ waiting.old.items) }
 {
-    let before = waiting.len();
-    let put = match patch {
+    match patch {
         None => put_text(text, waiting),
         Some(patch) => put_merged(alloc, patch, message, waiting),
-    };
-    if put.is_err() {
-        waiting.truncate(before);
     }
-    put
 }
 
-/// Puts the text as it came.
+/// Puts the text as it came; refused, it leaves those that wait.
 fn put_text(text: &[u8], waiting: &mut Vec<u8>) -> Result<(), JsonError>
     ensures ok { OnOk result (waiting.new.items ≡ waiting.old.items ++ (text.now ++ 10 ∷ [])) }
-    ensures refused { OnErr result ((more : List ℕ) × (waiting.new.items ≡ waiting.old.items ++ more)) }
+    ensures refused { OnErr result (waiting.new.items ≡ waiting.old.items) }
 {
+    // Room for the line feed too, which is then not refused alone.
+    waiting.reserve(text.len() + 1)?;
     waiting.extend_from_slice(text)?;
     waiting.push(b'\n')?;
     Ok(())
 }
 
-/// Puts the message as the patch makes it.
+/// Puts the message as the patch makes it; refused, it leaves those that wait.
 fn put_merged(
     alloc: Global,
     patch: &Owned,
@@ -78,12 +75,16 @@ fn put_merged(
 ) -> Result<(), JsonError>
     requires { choice message ≡ First }
     ensures ok { OnOk result (waiting.new.items ≡ waiting.old.items ++ (compact (merged (Some (keep (tree message.entry))) (document_tree string_bytes patch.now)) ++ 10 ∷ [])) }
-    ensures refused { OnErr result ((more : List ℕ) × (waiting.new.items ≡ waiting.old.items ++ more)) }
+    ensures refused { OnErr result (waiting.new.items ≡ waiting.old.items) }
 {
     let document = owned_from_tape(alloc, message)?;
     let document = into_merged(alloc, document, patch.clone()?)?;
+    let before = waiting.len();
     document.write(waiting)?;
-    waiting.push(b'\n')?;
+    if waiting.push(b'\n').is_err() {
+        waiting.truncate(before);
+        return Err(JsonError::OutOfMemory);
+    }
     Ok(())
 }
 
@@ -113,19 +114,21 @@ impl Route {
         matches!(self.takes, Takes::Unread)
     }
 
-    /// Puts the line of the message behind those that wait.
+    /// Puts the line of the message behind those that wait; refused, it leaves them.
     fn put(&mut self, alloc: Global, text: &[u8], message: Value) -> Result<(), JsonError>
         requires { choice message ≡ First }
-        ensures { OnOk result (Grown (line_to text.now (tree message.entry) self.old) self.old self.new) }
+        ensures ok { OnOk result (Grown (line_to text.now (tree message.entry) self.old) self.old self.new) }
+        ensures refused { OnErr result (self.new.waiting.items ≡ self.old.waiting.items) }
     {
         put_line(alloc, &self.merge, text, message, &mut self.waiting)?;
         self.count = self.count.saturating_add(1);
         Ok(())
     }
 
-    /// Puts the text as it came behind those that wait.
+    /// Puts the text as it came behind those that wait; refused, it leaves them.
     fn put_text(&mut self, text: &[u8]) -> Result<(), JsonError>
-        ensures { OnOk result (Grown (text_to text.now self.old) self.old self.new) }
+        ensures ok { OnOk result (Grown (text_to text.now self.old) self.old self.new) }
+        ensures refused { OnErr result (self.new.waiting.items ≡ self.old.waiting.items) }
     {
         put_text(text, &mut self.waiting)?;
         self.count = self.count.saturating_add(1);

@@ -2,13 +2,10 @@
 //! elsewhere, and what comes next.
 
 use super::Constant;
-use super::ring::Beside;
+use super::beside::{Beside, Case};
 use sj_object::{KeyHasher, ObjectHasher};
 use std::alloc::Global;
 use std::test::Fail;
-
-/// How many members there are, how many of these leave at the front, and how many elsewhere.
-type Case = (u64, u64, u64);
 
 /// Up to 64 members there are 64 buckets, and up to 128 twice as many: the last three cases are at a
 /// quarter of the buckets, one of these at eight elsewhere too.
@@ -24,19 +21,12 @@ const CASES: [Case; 6] = [
 /// A map whose members left so, and how many of those that left are not found.
 fn left<S: KeyHasher + Drop>(
     alloc: Global,
-    (members, gone, holes): Case,
+    case: Case,
     hasher: S,
 ) -> Result<(Beside<S>, u64), Fail> {
-    let mut beside = Beside::new(alloc, members, hasher)?;
-    for _ in 0..gone {
-        beside.remove(alloc, 0)?;
-    }
-    for hole in 0..holes {
-        // Of each three the one between.
-        beside.remove(alloc, (hole % 1000) as usize * 2 + 1)?;
-    }
+    let beside = Beside::thinned(alloc, case, hasher)?;
     let mut absent = 0u64;
-    for number in 0..members {
+    for number in 0..case.0 {
         let key = format!(in alloc; "k{number:02}")?;
         if !beside.map.contains_key(key.as_str()) {
             absent = absent.saturating_add(1);
@@ -65,9 +55,9 @@ impl Next {
     ) -> Result<bool, Fail> {
         let len = beside.list.len();
         match self {
-            Next::First => beside.remove(alloc, 0),
-            Next::Middle => beside.remove(alloc, len / 2),
-            Next::Last => beside.remove(alloc, len.saturating_sub(1)),
+            Next::First => Ok(beside.remove(0)),
+            Next::Middle => Ok(beside.remove(len / 2)),
+            Next::Last => Ok(beside.remove(len.saturating_sub(1))),
             Next::Pop => Ok(beside.pop()),
             Next::Push => {
                 beside.push(alloc, number)?;
@@ -95,7 +85,7 @@ fn told<S: KeyHasher + Drop>(
         if next.call(alloc, &mut beside, 1000 + number)? {
             right = right.saturating_add(1);
         }
-        if number % 3 == 2 && beside.agreeing(alloc)? == beside.list.len() {
+        if number % 3 == 2 && beside.agreeing() == beside.list.len() {
             seen = seen.saturating_add(1);
         }
     }

@@ -207,10 +207,7 @@ fn place_of(way: u8, len: usize) -> usize
 }
 
 /// Whether the map has these members in order and no others, and each look-up finds its own.
-pub(super) fn has_these<S: KeyHasher>(
-    map: &HashMap<String, usize, S>,
-    list: &[(String, usize)],
-) -> bool {
+fn has_these<S: KeyHasher>(map: &HashMap<String, usize, S>, list: &[(String, usize)]) -> bool {
     let mut members = map.iter();
     for (text, number) in list {
         match members.next() {

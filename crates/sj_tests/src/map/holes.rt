@@ -2,7 +2,7 @@
 //! once, and whatever comes behind one.
 
 use super::Constant;
-use super::ring::Beside;
+use super::beside::Beside;
 use sj_object::{KeyHasher, ObjectHasher};
 use std::alloc::Global;
 use std::test::Fail;
@@ -19,7 +19,7 @@ fn thin<S: KeyHasher + Drop>(
     let mut seen = 0u64;
     for _ in 0..calls {
         let position = beside.list.len() / 2;
-        if beside.remove(alloc, position)? && beside.agreeing(alloc)? == beside.list.len() {
+        if beside.remove(position) && beside.agreeing() == beside.list.len() {
             seen = seen.saturating_add(1);
         }
     }
@@ -39,13 +39,9 @@ fn members_leave_in_the_middle(rt: HostRuntime) -> Result<(), Fail> {
     Ok(())
 }
 
-/// A map of which so many members left, each behind two that stay.
+/// A map of which so many members left elsewhere than at the front.
 fn holed(alloc: Global, members: u64, holes: u64) -> Result<Beside<ObjectHasher>, Fail> {
-    let mut beside = Beside::new(alloc, members, ObjectHasher::default())?;
-    for hole in 0..holes {
-        beside.remove(alloc, (hole % 1000) as usize * 2 + 1)?;
-    }
-    Ok(beside)
+    Beside::thinned(alloc, (members, 0, holes), ObjectHasher::default())
 }
 
 #[test]
@@ -56,7 +52,7 @@ fn the_last_leave_behind_others(rt: HostRuntime) -> Result<(), Fail> {
         let mut beside = holed(alloc, 66, holes)?;
         assert_eq!(rt; beside.list.len() as u64, 66 - holes);
         for _ in 0..20 {
-            if beside.pop() && beside.agreeing(alloc)? == beside.list.len() {
+            if beside.pop() && beside.agreeing() == beside.list.len() {
                 seen = seen.saturating_add(1);
             }
         }
@@ -73,7 +69,7 @@ fn the_first_leave_behind_others(rt: HostRuntime) -> Result<(), Fail> {
         let mut beside = holed(alloc, 66, holes)?;
         assert_eq!(rt; beside.list.len() as u64, 66 - holes);
         for _ in 0..20 {
-            if beside.remove(alloc, 0)? && beside.agreeing(alloc)? == beside.list.len() {
+            if beside.remove(0) && beside.agreeing() == beside.list.len() {
                 seen = seen.saturating_add(1);
             }
         }
@@ -91,7 +87,7 @@ fn members_come_behind_those_that_left(rt: HostRuntime) -> Result<(), Fail> {
         assert_eq!(rt; beside.list.len() as u64, 64 - holes);
         for number in 0..40 {
             beside.push(alloc, 64 + number)?;
-            if beside.agreeing(alloc)? == beside.list.len() {
+            if beside.agreeing() == beside.list.len() {
                 seen = seen.saturating_add(1);
             }
         }
@@ -111,16 +107,16 @@ fn end_again<S: KeyHasher + Drop>(
     let mut beside = Beside::new(alloc, 66, hasher)?;
     let mut seen = 0usize;
     for number in 0..calls {
-        let is_middle = beside.remove(alloc, 20)?;
+        let is_middle = beside.remove(20);
         let is_last = match beside.list.len().checked_sub(1) {
-            Some(last) => beside.remove(alloc, last)?,
+            Some(last) => beside.remove(last),
             None => false,
         };
         if number % 3 == 0 && !beside.pop() {
             return Ok((0, 0));
         }
         beside.push(alloc, u64::wrapping_add(66, number))?;
-        if is_middle && is_last && beside.agreeing(alloc)? == beside.list.len() {
+        if is_middle && is_last && beside.agreeing() == beside.list.len() {
             seen = seen.saturating_add(1);
         }
     }
@@ -144,12 +140,12 @@ fn buckets_double_behind_those_that_left(rt: HostRuntime) -> Result<(), Fail> {
     let alloc = rt.alloc();
     let mut beside = Beside::new(alloc, 64, Constant)?;
     for calls in 0..3 {
-        assert!(rt; beside.remove(alloc, 30)?, "{calls}");
+        assert!(rt; beside.remove(30), "{calls}");
     }
     for number in 0..10 {
         beside.push(alloc, 64 + number)?;
     }
-    let told = (beside.agreeing(alloc)?, beside.map.buckets());
+    let told = (beside.agreeing(), beside.map.buckets());
     assert_eq!(rt; told, (71, Some(128)));
     Ok(())
 }
@@ -162,10 +158,10 @@ fn those_that_left_are_not_found(rt: HostRuntime) -> Result<(), Fail> {
     for calls in 0..20 {
         let position = beside.list.len() / 2;
         let number = match beside.list.get(position) {
-            Some(number) => *number,
+            Some((_, number)) => *number,
             None => u64::MAX,
         };
-        assert!(rt; beside.remove(alloc, position)?, "{calls}");
+        assert!(rt; beside.remove(position), "{calls}");
         let key = format!(in alloc; "k{number:02}")?;
         if !beside.map.contains_key(key.as_str()) && beside.map.remove(key.as_str()).is_none() {
             absent = absent.saturating_add(1);
@@ -175,7 +171,7 @@ fn those_that_left_are_not_found(rt: HostRuntime) -> Result<(), Fail> {
             beside.push(alloc, number)?;
         }
     }
-    assert_eq!(rt; (absent, beside.agreeing(alloc)?), (20, 25));
+    assert_eq!(rt; (absent, beside.agreeing()), (20, 25));
     Ok(())
 }
 
@@ -203,11 +199,11 @@ fn pop_and_push<S: KeyHasher + Drop>(
 ) -> Result<usize, Fail> {
     let mut beside = Beside::new(alloc, 50, hasher)?;
     for _ in 0..gone {
-        beside.remove(alloc, 0)?;
+        beside.remove(0);
     }
     for end in ends {
         let position = beside.list.len().saturating_sub(*end);
-        beside.remove(alloc, position)?;
+        beside.remove(position);
     }
     let mut seen = 0usize;
     for number in 0..12 {
@@ -216,7 +212,7 @@ fn pop_and_push<S: KeyHasher + Drop>(
         } else if !beside.pop() {
             return Ok(0);
         }
-        if number % 3 == 2 && beside.agreeing(alloc)? == beside.list.len() {
+        if number % 3 == 2 && beside.agreeing() == beside.list.len() {
             seen = seen.saturating_add(1);
         }
     }

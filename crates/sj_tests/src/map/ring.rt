@@ -1,76 +1,10 @@
-//! Maps whose members leave at the front, in any order and at the end: beside them a list of their
-//! numbers.
+//! Maps whose members leave at the front, in any order and at the end.
 
-use super::{Constant, numbered};
-use sj_object::{HashMap, KeyHasher, ObjectHasher};
+use super::Constant;
+use super::beside::Beside;
+use sj_object::{KeyHasher, ObjectHasher};
 use std::alloc::Global;
 use std::test::Fail;
-
-/// A map, and the numbers of its members as a plain list.
-#[derive(Drop)]
-pub(super) struct Beside<S: KeyHasher> {
-    pub(super) map: HashMap<String, u64, S>,
-    pub(super) list: Vec<u64>,
-}
-
-impl<S: KeyHasher + Drop> Beside<S> {
-    /// The members `k00`, `k01` and so on.
-    pub(super) fn new(alloc: Global, members: u64, hasher: S) -> Result<Self, Fail> {
-        let mut list = Vec::new(alloc);
-        for number in 0..members {
-            list.push(number)?;
-        }
-        Ok(Beside {
-            map: numbered(alloc, members, hasher)?,
-            list,
-        })
-    }
-
-    /// Takes the member at a position out; whether it was there.
-    pub(super) fn remove(&mut self, alloc: Global, position: usize) -> Result<bool, Fail> {
-        if position >= self.list.len() {
-            return Ok(false);
-        }
-        let number = self.list.remove(position);
-        let key = format!(in alloc; "k{number:02}")?;
-        Ok(self.map.remove(key.as_str()) == Some(number))
-    }
-
-    /// Puts a member last.
-    pub(super) fn push(&mut self, alloc: Global, number: u64) -> Result<(), Fail> {
-        self.list.push(number)?;
-        let key = format!(in alloc; "k{number:02}")?;
-        self.map.insert(key, number)?;
-        Ok(())
-    }
-
-    /// Takes the last member out; whether it is the last on the list, or there is none on either.
-    pub(super) fn pop(&mut self) -> bool {
-        let last = self.list.pop();
-        self.map.pop().map(|(_, number)| number) == last
-    }
-
-    /// How many members are where the list has them, found by their keys, in the order of the list.
-    pub(super) fn agreeing(&self, alloc: Global) -> Result<usize, Fail> {
-        let mut agreeing = 0usize;
-        let mut members = self.map.iter();
-        for (position, number) in self.list.iter().enumerate() {
-            let key = format!(in alloc; "k{number:02}")?;
-            let hash = self.map.hasher().hash_text(key.as_str());
-            if members.next().map(|(_, value)| *value) == Some(*number)
-                && self.map.get(key.as_str()) == Some(number)
-                && self.map.position_hashed(hash, key.as_str()) == Some(position)
-            {
-                agreeing = agreeing.saturating_add(1);
-            }
-        }
-        Ok(if members.next().is_none() {
-            agreeing
-        } else {
-            0
-        })
-    }
-}
 
 /// Takes the first member out so many times, and puts one last for each; how many members agree.
 fn queue<S: KeyHasher + Drop>(
@@ -81,12 +15,12 @@ fn queue<S: KeyHasher + Drop>(
 ) -> Result<usize, Fail> {
     let mut beside = Beside::new(alloc, members, hasher)?;
     for number in 0..calls {
-        if !beside.remove(alloc, 0)? {
+        if !beside.remove(0) {
             return Ok(0);
         }
         beside.push(alloc, u64::wrapping_add(members, number))?;
     }
-    beside.agreeing(alloc)
+    Ok(beside.agreeing())
 }
 
 #[test]
@@ -119,11 +53,11 @@ fn any_order(alloc: Global, (period, fronts): (u64, u64)) -> Result<(usize, Opti
         } else {
             place as usize % 90
         };
-        if !beside.remove(alloc, position)? {
+        if !beside.remove(position) {
             return Ok((seen, None));
         }
         beside.push(alloc, 90 + number)?;
-        if number % 8 > 5 && beside.agreeing(alloc)? == 90 {
+        if number % 8 > 5 && beside.agreeing() == 90 {
             seen = seen.saturating_add(1);
         }
     }
@@ -149,9 +83,9 @@ fn members_leave_at_both_ends(rt: HostRuntime) -> Result<(), Fail> {
     let mut beside = Beside::new(alloc, 70, ObjectHasher::default())?;
     let mut seen = 0usize;
     for left in 0..34 {
-        assert!(rt; beside.remove(alloc, 0)?, "{left}");
+        assert!(rt; beside.remove(0), "{left}");
         assert!(rt; beside.pop(), "{left}");
-        assert_eq!(rt; beside.agreeing(alloc)?, 68 - 2 * left);
+        assert_eq!(rt; beside.agreeing(), 68 - 2 * left);
         seen = seen.saturating_add(1);
     }
     assert_eq!(rt; (seen, beside.list.len()), (34, 2));
@@ -164,7 +98,7 @@ fn members_that_left_are_not_found(rt: HostRuntime) -> Result<(), Fail> {
     let mut beside = Beside::new(alloc, 64, Constant)?;
     let mut absent = 0usize;
     for number in 0..40 {
-        assert!(rt; beside.remove(alloc, 0)?, "{number}");
+        assert!(rt; beside.remove(0), "{number}");
         for gone in 0..number + 1 {
             let key = format!(in alloc; "k{gone:02}")?;
             if !beside.map.contains_key(key.as_str()) {
@@ -173,7 +107,7 @@ fn members_that_left_are_not_found(rt: HostRuntime) -> Result<(), Fail> {
         }
     }
     // 1 + 2 + .. + 40
-    assert_eq!(rt; (absent, beside.agreeing(alloc)?), (820, 24));
+    assert_eq!(rt; (absent, beside.agreeing()), (820, 24));
     Ok(())
 }
 
@@ -183,12 +117,12 @@ fn grows_where_its_members_turn(rt: HostRuntime) -> Result<(), Fail> {
     for gone in [1, 15, 16, 17, 40] {
         let mut beside = Beside::new(alloc, 64, ObjectHasher::default())?;
         for _ in 0..gone {
-            assert!(rt; beside.remove(alloc, 0)?, "{gone}");
+            assert!(rt; beside.remove(0), "{gone}");
         }
         for number in 0..100 {
             beside.push(alloc, 64 + number)?;
         }
-        let told = (beside.agreeing(alloc)? as u64, beside.map.buckets());
+        let told = (beside.agreeing() as u64, beside.map.buckets());
         let buckets = if gone < 36 { 256 } else { 128 };
         assert_eq!(rt; told, (164 - gone, Some(buckets)));
     }
@@ -200,7 +134,7 @@ fn hands_its_members_out(rt: HostRuntime) -> Result<(), Fail> {
     let alloc = rt.alloc();
     let mut beside = Beside::new(alloc, 40, ObjectHasher::default())?;
     for number in 0..30 {
-        assert!(rt; beside.remove(alloc, 0)?, "{number}");
+        assert!(rt; beside.remove(0), "{number}");
         beside.push(alloc, 40 + number)?;
     }
     let Beside { mut map, list: _ } = beside;

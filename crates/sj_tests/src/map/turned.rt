@@ -4,7 +4,7 @@
 ghost use Rattle.std.specs.Prelude.{◌≡◌, ◌<◌};
 
 use super::Constant;
-use super::hashed::has_these;
+use super::beside::Beside;
 use sj_object::{HashMap, KeyHasher, ObjectHasher};
 use sj_text_core::Steps;
 use std::alloc::Global;
@@ -12,61 +12,51 @@ use std::marker::Brand;
 use std::sync::ledger::{Blank, Ledger};
 use std::test::Fail;
 
-/// A map, and its members as a plain list.
-#[derive(Drop)]
-struct Turning<S: KeyHasher> {
-    map: HashMap<String, usize, S>,
-    list: Vec<(String, usize)>,
+/// Puts a member last, which is made; whether it was lent.
+fn push_made<S: KeyHasher + Drop>(
+    alloc: Global,
+    beside: &mut Beside<S>,
+    number: u64,
+) -> Result<bool, Fail> {
+    let key = format!(in alloc; "k{number:02}")?;
+    let hash = beside.map.hasher().hash_text(key.as_str());
+    beside.list.push((key.clone()?, number))?;
+    let made = beside.map.get_or_insert_hashed_with(hash, key, || number)?;
+    Ok(*made == number)
 }
 
-impl<S: KeyHasher + Drop> Turning<S> {
-    /// The members `k00`, `k01` and so on, each made where it is absent.
-    fn new(alloc: Global, members: usize, hasher: S) -> Result<Self, Fail> {
-        let map = HashMap::with_capacity_and_hasher(alloc, 0, hasher)?;
-        let list = Vec::new(alloc);
-        let mut turning = Turning { map, list };
-        for number in 0..members {
-            turning.push(alloc, number)?;
-        }
-        Ok(turning)
+/// The members `k00`, `k01` and so on, each made where it is absent.
+fn all_made<S: KeyHasher + Drop>(
+    alloc: Global,
+    members: usize,
+    hasher: S,
+) -> Result<Beside<S>, Fail> {
+    let map = HashMap::with_capacity_and_hasher(alloc, 0, hasher)?;
+    let list = Vec::new(alloc);
+    let mut beside = Beside { map, list };
+    for number in 0..members {
+        push_made(alloc, &mut beside, number as u64)?;
     }
+    Ok(beside)
+}
 
-    /// Puts a member last, which is made; whether it was lent.
-    fn push(&mut self, alloc: Global, number: usize) -> Result<bool, Fail> {
-        let key = format!(in alloc; "k{number:02}")?;
-        let hash = self.map.hasher().hash_text(key.as_str());
-        self.list.push((key.clone()?, number))?;
-        let made = self.map.get_or_insert_hashed_with(hash, key, || number)?;
-        Ok(*made == number)
+/// Sets the value at a position by two calls on its key; whether each finds what is there.
+fn set<S: KeyHasher + Drop>(beside: &mut Beside<S>, position: usize) -> Result<bool, Fail> {
+    let Some((key, value)) = beside.list.get(position) else {
+        return Ok(false);
+    };
+    let (key, before) = (key.clone()?, *value);
+    let between = before.wrapping_add(1000);
+    let after = before.wrapping_add(2000);
+    let told = beside.map.insert(key.clone()?, between)?;
+    let hash = beside.map.hasher().hash_text(key.as_str());
+    let lent = beside.map.get_or_insert_hashed_with(hash, key, || 0)?;
+    let is_lent = *lent == between;
+    *lent = after;
+    if let Some(pair) = beside.list.get_mut(position) {
+        pair.1 = after;
     }
-
-    /// Takes the first member out; whether it is the list's.
-    fn shift(&mut self) -> bool {
-        if self.list.is_empty() {
-            return false;
-        }
-        let (key, value) = self.list.remove(0);
-        self.map.remove(key.as_str()) == Some(value)
-    }
-
-    /// Sets the value at a position by two calls on its key; whether each finds what is there.
-    fn set(&mut self, position: usize) -> Result<bool, Fail> {
-        let Some((key, value)) = self.list.get(position) else {
-            return Ok(false);
-        };
-        let (key, before) = (key.clone()?, *value);
-        let between = before.wrapping_add(1000);
-        let after = before.wrapping_add(2000);
-        let told = self.map.insert(key.clone()?, between)?;
-        let hash = self.map.hasher().hash_text(key.as_str());
-        let lent = self.map.get_or_insert_hashed_with(hash, key, || 0)?;
-        let is_lent = *lent == between;
-        *lent = after;
-        if let Some(pair) = self.list.get_mut(position) {
-            pair.1 = after;
-        }
-        Ok(told == Some(before) && is_lent)
-    }
+    Ok(told == Some(before) && is_lent)
 }
 
 /// Keys that left, and some that no member has.
@@ -75,8 +65,8 @@ const ABSENT: [&str; 4] = ["k00", "k000", "", "k"];
 /// How many members look-ups with a count of steps find with their values, and how many other keys they
 /// do not find.
 fn counted<S: KeyHasher, L: Ledger>(
-    map: &HashMap<String, usize, S>,
-    list: &[(String, usize)],
+    map: &HashMap<String, u64, S>,
+    list: &[(String, u64)],
     blank: Blank,
 ) -> (usize, usize)
     requires name { blank.name ≡ L.name }
@@ -103,12 +93,12 @@ fn counted<S: KeyHasher, L: Ledger>(
 const TURNS: usize = 140;
 
 /// Whether the map is like the list, also where members are set.
-fn is_like<S: KeyHasher + Drop>(turning: &mut Turning<S>, members: usize) -> Result<bool, Fail> {
+fn is_like<S: KeyHasher + Drop>(beside: &mut Beside<S>, members: usize) -> Result<bool, Fail> {
     let last = members.saturating_sub(1);
-    let is_set = turning.set(0)? && turning.set(members / 2)? && turning.set(last)?;
-    let (map, list) = (&turning.map, turning.list.as_slice());
+    let is_set = set(beside, 0)? && set(beside, members / 2)? && set(beside, last)?;
+    let (map, list) = (&beside.map, beside.list.as_slice());
     let are_counted = counted::<S, Brand>(map, list, Blank::new(1)) == (members, 4);
-    Ok(is_set && are_counted && has_these(map, list))
+    Ok(is_set && are_counted && beside.agreeing() == members)
 }
 
 /// How many turns are as on the list, and at how many of each ten the map is like it.
@@ -117,14 +107,15 @@ fn turns<S: KeyHasher + Drop>(
     members: usize,
     hasher: S,
 ) -> Result<(usize, usize), Fail> {
-    let mut turning = Turning::new(alloc, members, hasher)?;
+    let mut beside = all_made(alloc, members, hasher)?;
     let mut right = 0usize;
     let mut seen = 0usize;
     for turn in 0..TURNS {
-        if turning.shift() && turning.push(alloc, members.saturating_add(turn))? {
+        let number = members.saturating_add(turn) as u64;
+        if beside.remove(0) && push_made(alloc, &mut beside, number)? {
             right = right.saturating_add(1);
         }
-        if turn % 10 == 7 && is_like(&mut turning, members)? {
+        if turn % 10 == 7 && is_like(&mut beside, members)? {
             seen = seen.saturating_add(1);
         }
     }

@@ -22,7 +22,7 @@ loop-route-preserved c =
       | then-is_met+in_ok-put w ↦
           let p = c.is_met.ensures.0 w.if-is_met.true in
           let s = step-taken (MeetsRule t) f i rs qs c.if-is_met.routes r w.put.new.self (omega arith) (omega arith) inv.0 inv.1 is
-          (taken-so (MeetsRule t) f r w.put.new.self p w.in_ok-put.ensures) w.routes-is in
+          (taken-so (MeetsRule t) f r w.put.new.self p w.in_ok-put.ensures.ok) w.routes-is in
           let any = any-step t i rs qs r true (omega arith) inv.1 is (any-then t (take i rs) r p) in
           (s.0, s.1, subst (λ (b : Bool). IsTrue b ↔ MeetsAny t (take (i + 1) rs)) (sym w.is_any-is) any)
       | else-is_met w ↦

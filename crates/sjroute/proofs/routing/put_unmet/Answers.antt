@@ -19,7 +19,7 @@ loop-route-preserved c =
     elim c.if-is_unmet.branch [
       | then-is_unmet+in_ok-put w ↦
           step-taken IsUnmet f i rs qs c.if-is_unmet.routes r w.put.new.self (omega arith) (omega arith) inv.0 inv.1 is
-          (taken-so IsUnmet f r w.put.new.self (c.is_unmet.ensures.0 w.if-is_unmet.true) w.in_ok-put.ensures) w.routes-is
+          (taken-so IsUnmet f r w.put.new.self (c.is_unmet.ensures.0 w.if-is_unmet.true) w.in_ok-put.ensures.ok) w.routes-is
       | else-is_unmet w ↦
           let n : IsUnmet r.takes → ⊥ = λ h. not-both c.is_unmet.result (c.is_unmet.ensures.1 h) w.if-is_unmet.false in
           step-taken IsUnmet f i rs qs c.if-is_unmet.routes r r (omega arith) (omega arith) inv.0 inv.1 is (taken-not IsUnmet f r n) w.routes-is

@@ -18,7 +18,7 @@ loop-route-preserved c =
     elim c.if-is_unread.branch [
       | then-is_unread+in_ok-put_text w ↦
           step-taken IsUnread f i rs qs c.if-is_unread.routes r w.put_text.new.self (omega arith) (omega arith) inv.0 inv.1 is
-          (taken-so IsUnread f r w.put_text.new.self (c.is_unread.ensures.0 w.if-is_unread.true) w.in_ok-put_text.ensures) w.routes-is
+          (taken-so IsUnread f r w.put_text.new.self (c.is_unread.ensures.0 w.if-is_unread.true) w.in_ok-put_text.ensures.ok) w.routes-is
       | else-is_unread w ↦
           let n : IsUnread r.takes → ⊥ = λ h. not-both c.is_unread.result (c.is_unread.ensures.1 h) w.if-is_unread.false in
           step-taken IsUnread f i rs qs c.if-is_unread.routes r r (omega arith) (omega arith) inv.0 inv.1 is (taken-not IsUnread f r n) w.routes-is

@@ -1,0 +1,135 @@
+//! Merges of a patch into a document.
+
+use crate::documents::{buckets_of, read};
+use crate::fault::Fault;
+use crate::say::{say, say_call, say_kept};
+use crate::texts::text_of;
+use sj_document::{BorrowedValue, CopyText, Document, OwnedValue};
+use sj_merge::{into_merged, merge};
+use sj_object::{KeyText, deserialize};
+use sj_text_core::Writable;
+use std::alloc::{AllocError, Global};
+use std::borrow::CowStr;
+
+/// Takes a member out, merges into one that is a number, and puts two new ones.
+const PATCH: &[u8] = b"{\"k00\":null,\"k01\":{\"a\":1,\"b\":null},\"n\":[{}],\"o\":\"p\"}";
+
+/// What is merged: a document and its patch.
+type Given<T> = (Document<T>, Document<T>);
+
+/// Merges into the document of the text, by that call.
+pub fn run_call(
+    rt: &(impl Print + AllocGlobal),
+    form: &str,
+    call: &str,
+    text: &str,
+) -> Result<(), Fault> {
+    let alloc = rt.alloc();
+    let mut bytes = twice(alloc, text)?;
+    match form {
+        "owned" => {
+            let list = deserialize::<OwnedValue, String>(alloc, bytes.as_mut_slice());
+            make(rt, call, read(list)?)
+        }
+        "borrowed" => on_borrowed(rt, call, bytes.as_mut_slice()),
+        _ => Err(Fault::Usage),
+    }
+}
+
+/// An array of the text and the patch, and of both again.
+fn twice(alloc: Global, text: &str) -> Result<Vec<u8>, Fault> {
+    let target = text_of(alloc, text)?;
+    let mut list = Vec::new(alloc);
+    for before in [b'[', b','] {
+        list.push(before)?;
+        list.extend_from_slice(target.as_slice())?;
+        list.push(b',')?;
+        list.extend_from_slice(PATCH)?;
+    }
+    list.push(b']')?;
+    Ok(list)
+}
+
+fn on_borrowed(rt: &(impl Print + AllocGlobal), call: &str, bytes: &mut [u8]) -> Result<(), Fault> {
+    let list = deserialize::<BorrowedValue<'_>, CowStr<'_>>(rt.alloc(), bytes);
+    make(rt, call, read(list)?)
+}
+
+/// The last two items.
+fn last_two<T: KeyText + Drop>(items: &mut Vec<Document<T>>) -> Result<Given<T>, Fault> {
+    let patch = items.pop();
+    let target = items.pop();
+    match (target, patch) {
+        (Some(target), Some(patch)) => Ok((target, patch)),
+        _ => Err(Fault::Usage),
+    }
+}
+
+fn make<T: CopyText + Drop>(
+    rt: &(impl Print + AllocGlobal),
+    call: &str,
+    list: Document<T>,
+) -> Result<(), Fault> {
+    let Some(mut items) = list.into_array() else {
+        return Err(Fault::Usage);
+    };
+    let again = last_two(&mut items)?;
+    let first = last_two(&mut items)?;
+    match call {
+        "merge" => by_merge(rt, first, again.1),
+        "into_merged" => by_into_merged(rt, first, again),
+        _ => Err(Fault::Usage),
+    }
+}
+
+/// Merges between the first two writes, and where that was refused another such patch.
+fn by_merge<T: CopyText + Drop>(
+    rt: &(impl Print + AllocGlobal),
+    given: Given<T>,
+    again: Document<T>,
+) -> Result<(), Fault> {
+    let alloc = rt.alloc();
+    let (mut target, patch) = given;
+    let (before, buckets) = (target.encode(alloc)?, buckets_of(&target));
+    say_call(rt)?;
+    if let Err(AllocError) = merge(alloc, &mut target, patch) {
+        say(rt, "refused, ")?;
+        let is_same = target.encode(alloc)?.as_str() == before.as_str();
+        say_kept(rt, "target", is_same && buckets_of(&target) == buckets)?;
+        merge(alloc, &mut target, again)?;
+    }
+    say_merged(rt, &target)
+}
+
+/// What the call makes that takes its target.
+fn made<T: CopyText + Drop>(alloc: Global, given: Given<T>) -> Result<Document<T>, AllocError> {
+    let (target, patch) = given;
+    into_merged(alloc, target, patch)
+}
+
+/// The same by the call that takes its target, of which nothing is left where it was refused.
+fn by_into_merged<T: CopyText + Drop>(
+    rt: &(impl Print + AllocGlobal),
+    given: Given<T>,
+    again: Given<T>,
+) -> Result<(), Fault> {
+    let alloc = rt.alloc();
+    say_call(rt)?;
+    let merged = match made(alloc, given) {
+        Ok(merged) => merged,
+        Err(AllocError) => {
+            say(rt, "refused, ")?;
+            made(alloc, again)?
+        }
+    };
+    say_merged(rt, &merged)
+}
+
+fn say_merged<T: KeyText + Drop>(
+    rt: &(impl Print + AllocGlobal),
+    merged: &Document<T>,
+) -> Result<(), Fault> {
+    say(rt, "merged ")?;
+    say(rt, merged.encode(rt.alloc())?.as_str())?;
+    say(rt, "\n")
+}
