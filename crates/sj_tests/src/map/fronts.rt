@@ -1,5 +1,5 @@
-//! Maps whose members left at the front and then elsewhere, up to a quarter of the buckets and eight
-//! elsewhere, and what comes next.
+//! Maps of which none left, and whose members left at the front and then elsewhere, up to a quarter of
+//! the buckets and eight elsewhere, and what comes next.
 
 use super::Constant;
 use super::beside::{Beside, Case};
@@ -8,8 +8,10 @@ use std::alloc::Global;
 use std::test::Fail;
 
 /// Up to 64 members there are 64 buckets, and up to 128 twice as many: the last three cases are at a
-/// quarter of the buckets, one of these at eight elsewhere too.
-const CASES: [Case; 6] = [
+/// quarter of the buckets, one of these at eight elsewhere too. Where none left, the members are a list
+/// until one leaves from elsewhere than the end.
+const CASES: [Case; 7] = [
+    (48, 0, 0),
     (64, 2, 1),
     (64, 5, 8),
     (100, 24, 7),
@@ -117,7 +119,7 @@ fn members_leave_at_the_front_and_elsewhere(rt: HostRuntime) -> Result<(), Fail>
 /// Members come until there are more than buckets.
 #[test]
 fn buckets_double_where_members_left(rt: HostRuntime) -> Result<(), Fail> {
-    for case in [(64, 8, 8), (64, 15, 1), (64, 9, 5)] {
+    for case in [(64, 0, 0), (64, 8, 8), (64, 15, 1), (64, 9, 5)] {
         assert!(rt; is_so(rt.alloc(), case, Next::Push, 128)?, "{case:?}");
     }
     Ok(())
