@@ -122,6 +122,7 @@ impl<K, V> Store<K, V> {
     }
 
     /// Takes the member at a position out. The members after it close up.
+    #[inline(always)]
     pub fn remove(&mut self, position: usize) -> Option<(K, V)>
         requires within { position < length (pairs_of self.old) }
         requires indexed { IsIndexed self.old }
@@ -133,10 +134,7 @@ impl<K, V> Store<K, V> {
     {
         match self {
             Store::Plain(pairs) => Some(pairs.remove(position)),
-            Store::Hashed(hashed) => {
-                hashed.table.remove(position);
-                hashed.members.remove(position)
-            }
+            Store::Hashed(hashed) => hashed.remove(position),
         }
     }
 
@@ -170,6 +168,24 @@ impl<K, V> Store<K, V> {
 }
 
 impl<K, V> Hashed<K, V> {
+    /// Takes the member at a position out, and its hash. It stands apart, so that it takes no room in
+    /// a caller.
+    #[inline(never)]
+    fn remove(&mut self, position: usize) -> Option<(K, V)>
+        requires within { position < length (members_of self.old.members) }
+        requires table { IsTable self.old.table }
+        requires same { length (hashes_in self.old.table) ≡ length (members_of self.old.members) }
+        ensures pair { IfSome result (λ p. p ≡ slice_index_or (members_of self.old.members) position p) }
+        ensures some { IsSome result }
+        ensures pairs { members_of self.new.members ≡ remove (members_of self.old.members) position }
+        ensures hashes { hashes_in self.new.table ≡ remove (hashes_in self.old.table) position }
+        ensures table { IsTable self.new.table }
+        ensures buckets { length self.new.table.heads.items ≡ length self.old.table.heads.items }
+    {
+        self.table.remove(position);
+        self.members.remove(position)
+    }
+
     /// Takes the last member out, and its hash.
     #[inline(always)]
     fn pop(&mut self) -> Option<(K, V)>
