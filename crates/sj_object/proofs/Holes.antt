@@ -71,14 +71,6 @@ AreHoles-more g (q ∷ qs) n m l h = (h.0, (omega (arith, l, h.1.0), h.1.1))
 pub AreHoles-rest : (g q : ℕ) (qs : List ℕ) (n : ℕ) → AreHoles g (q ∷ qs) n → AreHoles g qs (n - 1)
 AreHoles-rest g q qs n h = AreHoles-more g qs q (n - 1) (omega (arith, h.1.0)) h.1.1
 
--- where the last place is none
-pub AreHoles-end : (g : ℕ) (qs : List ℕ) (n : ℕ) → AreHoles g qs n → (get_or qs 0 0 + 1 ≡ n → ⊥) → AreHoles g qs (n - 1)
-AreHoles-end g [] n h e = tt
-AreHoles-end g (q ∷ qs) n h e = (h.0, (by_test (q + 1 == n) refl, h.1.1)) where
-  by_test : (c : Bool) → (q + 1 == n) ≡ c → q < n - 1
-  by_test true t = absurd (e (grind (arith, nat_tests)))
-  by_test false t = grind (arith, nat_tests, h.1.0)
-
 -- those behind some of them
 pub AreHoles-drop : (g i : ℕ) (qs : List ℕ) (n : ℕ) → AreHoles g qs n → AreHoles g (drop i qs) n
 AreHoles-drop g zero qs n h = h

@@ -1,6 +1,6 @@
 //! The index of a map's members by their hashes.
 
-ghost use Rattle.std.specs.Prelude.{◌≡◌, ◌+◌, ◌-◌, ◌/◌, ◌<◌, ◌≤◌, ◌∷◌, ◌++◌, [], length, take, slice_index, Some, IfOk, OnOk, OnErr};
+ghost use Rattle.std.specs.Prelude.{◌≡◌, ◌+◌, ◌-◌, ◌/◌, ◌<◌, ◌≤◌, ◌∷◌, ◌++◌, [], length, take, slice_index, IsTrue, Some, IfOk, OnOk, OnErr};
 ghost use Rattle.std.specs.List.{remove};
 ghost use Rattle.std.specs.Vec.{vec_capacity};
 ghost use Rattle.sj_object.specs.Holes.{AreHoles};
@@ -217,27 +217,38 @@ impl Table {
         ensures buckets { length self.new.heads.items ≡ length self.old.heads.items }
         ensures table { IsTable self.new }
     {
-        self.cut_holes();
+        if self.has_last_hole() {
+            self.pop_behind_holes();
+        } else {
+            self.take_last();
+        }
+    }
+
+    /// Whether a hole stands last.
+    #[inline(always)]
+    fn has_last_hole(&self) -> bool
+        requires { IsTable self.now }
+        ensures some { IsTrue result → 0 < length self.now.holes.items }
+        ensures last { IsTrue result → slice_index self.now.holes.items 0 + 1 ≡ length self.now.hashes.items }
+        ensures none { ¬ (IsTrue result) → AreHoles self.now.gone self.now.holes.items (length self.now.hashes.items - 1) }
+    {
+        !self.holes.is_empty() && self.holes[0] + 1 == self.hashes.len()
+    }
+
+    /// Takes the last hash out of a table in which a hole stands last, by a call, since most have none.
+    #[inline(never)]
+    fn pop_behind_holes(&mut self)
+        requires within { 0 < length (hashes_in self.old) }
+        requires table { IsTable self.old }
+        ensures hashes { hashes_in self.new ≡ take (length (hashes_in self.old) - 1) (hashes_in self.old) }
+        ensures buckets { length self.new.heads.items ≡ length self.old.heads.items }
+        ensures table { IsTable self.new }
+    {
+        self.cut_last_holes();
         self.take_last();
     }
 
     /// Cuts off the holes that stand last.
-    #[inline(always)]
-    fn cut_holes(&mut self)
-        requires { IsTable self.old }
-        ensures hashes { hashes_in self.new ≡ hashes_in self.old }
-        ensures buckets { length self.new.heads.items ≡ length self.old.heads.items }
-        ensures table { IsTable self.new }
-        ensures last { AreHoles self.new.gone self.new.holes.items (length self.new.hashes.items - 1) }
-    {
-        if self.holes.is_empty() {
-            return;
-        }
-        self.cut_last_holes();
-    }
-
-    /// The same by a call, since most pops find none.
-    #[inline(never)]
     fn cut_last_holes(&mut self)
         requires { IsTable self.old }
         ensures hashes { hashes_in self.new ≡ hashes_in self.old }
@@ -245,7 +256,7 @@ impl Table {
         ensures table { IsTable self.new }
         ensures last { AreHoles self.new.gone self.new.holes.items (length self.new.hashes.items - 1) }
     {
-        while !self.holes.is_empty() && self.holes[0] + 1 == self.hashes.len() {
+        while self.has_last_hole() {
             self.cut_hole();
         }
     }
@@ -267,6 +278,7 @@ impl Table {
 
     /// Takes the last hash out, behind which there is no hole. Its member heads a chain, so no other
     /// link changes.
+    #[inline(always)]
     fn take_last(&mut self)
         requires within { 0 < length (hashes_in self.old) }
         requires table { IsTable self.old }

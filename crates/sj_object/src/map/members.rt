@@ -1,7 +1,8 @@
 //! The members of a map beside an index.
 
-ghost use Rattle.std.specs.Prelude.{◌≡◌, ◌<◌, ◌∷◌, ◌++◌, [], length, slice_set, slice_index_or, IsSome, IfSome, OnOk};
+ghost use Rattle.std.specs.Prelude.{◌≡◌, ◌-◌, ◌<◌, ◌∷◌, ◌++◌, [], length, take, slice_set, slice_index_or, IsSome, IfNone, IfSome, OnOk};
 ghost use Rattle.std.specs.List.{remove};
+ghost use Rattle.std.specs.Option.{option_to_list};
 ghost use Rattle.std.specs.Vec.{vec_len, vec_capacity};
 ghost use Rattle.sj_object.specs.Stored.{members_of, HasPlaceIn};
 
@@ -111,6 +112,19 @@ impl<K, V> Members<K, V> {
         match self {
             Members::Listed(pairs) => Some(pairs.remove(position)),
             Members::Ring(pairs) => pairs.remove(position),
+        }
+    }
+
+    /// Takes the last one out.
+    #[inline(always)]
+    pub fn pop(&mut self) -> Option<(K, V)>
+        ensures pairs { members_of self.old ≡ members_of self.new ++ option_to_list result }
+        ensures rest { members_of self.new ≡ take (length (members_of self.old) - 1) (members_of self.old) }
+        ensures none { IfNone result (members_of self.new ≡ []) }
+    {
+        match self {
+            Members::Listed(pairs) => pairs.pop(),
+            Members::Ring(pairs) => pairs.pop_back(),
         }
     }
 

@@ -27,6 +27,7 @@ impl<K: KeyText, V, S: KeyHasher> HashMap<K, V, S> {
     }
 
     /// Takes the last member out.
+    #[inline(always)]
     pub fn pop(&mut self) -> Option<(K, V)>
     where
         ensures entries { self.old.entries ≡ self.new.entries ++ entries_of K.text_of (option_to_list result) }

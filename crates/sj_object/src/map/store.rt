@@ -10,7 +10,6 @@ ghost use Rattle.sj_object.specs.Stored.{members_of, pairs_of, buckets_of, HasPl
 use super::index::Table;
 use super::members::Members;
 use std::alloc::Global;
-use std::collections::VecDeque;
 use std::mem;
 
 /// The members of a map in order: a plain list, or members with an index. These stand in a box, so
@@ -198,36 +197,12 @@ impl<K, V> Hashed<K, V> {
         ensures table { IsTable self.new.table }
         ensures buckets { length self.new.table.heads.items ≡ length self.old.table.heads.items }
     {
-        match &mut self.members {
-            Members::Listed(pairs) => {
-                if pairs.is_empty() {
-                    return None;
-                }
-                self.table.pop();
-                pairs.pop()
-            }
-            Members::Ring(pairs) => pop_ring(pairs, &mut self.table),
+        if self.members.len() == 0 {
+            return None;
         }
+        self.table.pop();
+        self.members.pop()
     }
-}
-
-/// The same of a ring. It stands apart, so that it takes no room in a caller.
-#[inline(never)]
-fn pop_ring<K, V>(ring: &mut VecDeque<(K, V)>, table: &mut Table) -> Option<(K, V)>
-    requires table { IsTable table.old }
-    requires same { length (hashes_in table.old) ≡ length ring.old.items }
-    ensures pairs { ring.old.items ≡ ring.new.items ++ option_to_list result }
-    ensures rest { ring.new.items ≡ take (length ring.old.items - 1) ring.old.items }
-    ensures none { IfNone result (ring.new.items ≡ []) }
-    ensures hashes { hashes_in table.new ≡ take (length (hashes_in table.old) - 1) (hashes_in table.old) }
-    ensures table { IsTable table.new }
-    ensures buckets { length table.new.heads.items ≡ length table.old.heads.items }
-{
-    if ring.is_empty() {
-        return None;
-    }
-    table.pop();
-    ring.pop_back()
 }
 
 /// The members in order, without their index.
