@@ -10,6 +10,8 @@ pub enum Kept {
     Fill,
     /// Each key is looked up.
     Find,
+    /// As many keys are looked up that are not there.
+    Miss,
     /// Each member is seen.
     Walk,
     /// The last but one is removed and the last is popped. Both come back.
@@ -54,9 +56,10 @@ pub enum Work {
 /// A case's name, the keys of its map, and what is done to it.
 pub type Case = (&'static str, Keys, Work);
 
-pub const CASES: [Case; 19] = [
+pub const CASES: [Case; 20] = [
     ("fill", Numbered, Work::Kept(Kept::Fill)),
     ("find", Numbered, Work::Kept(Kept::Find)),
+    ("miss", Numbered, Work::Kept(Kept::Miss)),
     ("walk", Numbered, Work::Kept(Kept::Walk)),
     ("pop", Numbered, Work::Emptied(Removed::Nothing)),
     ("take", Numbered, Work::Taken),

@@ -82,10 +82,19 @@ pub fn prepared<'k>(alloc: Global, kept: Kept, texts: &'k [Known]) -> io::Result
     Ok(map)
 }
 
+/// The keys of which the calls are made, where the map has so many of the other ones.
+pub fn keys_of<'k>(kept: Kept, texts: &'k [Known], others: &'k [Known]) -> &'k [Known] {
+    if matches!(kept, Kept::Miss) {
+        others
+    } else {
+        texts
+    }
+}
+
 /// How many calls are made at once.
 pub fn calls(kept: Kept, members: usize) -> usize {
     match kept {
-        Kept::Fill | Kept::Find | Kept::Walk => members,
+        Kept::Fill | Kept::Find | Kept::Miss | Kept::Walk => members,
         Kept::Ends | Kept::Turn | Kept::First | Kept::FirstOfThinned => 1,
     }
 }
@@ -101,7 +110,7 @@ fn once<'k>(
 ) -> io::Result<u64> {
     match kept {
         Kept::Fill => Ok(filled(alloc, texts)?.len() as u64),
-        Kept::Find => Ok(found(map, texts, before)),
+        Kept::Find | Kept::Miss => Ok(found(map, texts, before)),
         Kept::Walk => Ok(walked(map, before)),
         Kept::Ends => Ok(ended(map, texts)),
         Kept::Turn => Ok(turned(map, texts, place)),

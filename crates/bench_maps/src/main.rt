@@ -7,8 +7,9 @@
 //! each look-up's time has it in it. Small sizes are looked up in a plain list too, by a loop.
 //!
 //! `removals ROUNDS` has the least times of maps that are filled, emptied and searched, case by case
-//! (`cases.rt` has their names), and `removals CASE MEMBERS ROUNDS` runs one case alone so many
-//! times and prints a sum of what it saw, so that its instructions can be counted.
+//! (`cases.rt` has their names), `removals CASE ROUNDS` those of one case, and `removals CASE MEMBERS
+//! ROUNDS` runs one case so many times and prints a sum of what it saw, so that its instructions can
+//! be counted.
 #![tactic(auto)]
 
 ghost use Rattle.std.specs.Prelude.{◌≡◌, string_bytes};

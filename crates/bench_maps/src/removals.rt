@@ -3,7 +3,7 @@
 use crate::cases::{CASES, Case, Kept, Removed, Work, named};
 use crate::edits::filled;
 use crate::emptied::{emptied, maps_of, removed_of, taken};
-use crate::kept::{calls, prepared, repeated};
+use crate::kept::{calls, keys_of, prepared, repeated};
 use crate::{Keys, Known, each, order_of, texts_of};
 use std::alloc::{AllocError, Global};
 use std::io;
@@ -36,8 +36,15 @@ impl Measured {
 }
 
 /// The calls on a map that stays, of so many rounds.
-fn of_kept(rt: &HostRuntime, kept: Kept, texts: &[Known], rounds: u32) -> io::Result<Measured> {
+fn of_kept(
+    rt: &HostRuntime,
+    kept: Kept,
+    texts: &[Known],
+    others: &[Known],
+    rounds: u32,
+) -> io::Result<Measured> {
     let alloc = rt.alloc();
+    let keys = keys_of(kept, texts, others);
     let calls = calls(kept, texts.len());
     let repeats = if calls == 1 {
         2000
@@ -49,7 +56,7 @@ fn of_kept(rt: &HostRuntime, kept: Kept, texts: &[Known], rounds: u32) -> io::Re
     let mut measured = Measured::new();
     for _ in 0..rounds {
         let start = rt.thread_cpu_time()?;
-        let sum = repeated(alloc, kept, &mut map, texts, places.as_slice())?;
+        let sum = repeated(alloc, kept, &mut map, keys, places.as_slice())?;
         let end = rt.thread_cpu_time()?;
         measured.add(each(start, end, repeats.wrapping_mul(calls)), sum);
     }
@@ -97,9 +104,15 @@ fn of_taken(rt: &HostRuntime, texts: &[Known], rounds: u32) -> io::Result<Measur
     Ok(measured)
 }
 
-fn measure(rt: &HostRuntime, work: Work, texts: &[Known], rounds: u32) -> io::Result<Measured> {
+fn measure(
+    rt: &HostRuntime,
+    work: Work,
+    texts: &[Known],
+    others: &[Known],
+    rounds: u32,
+) -> io::Result<Measured> {
     match work {
-        Work::Kept(kept) => of_kept(rt, kept, texts, rounds),
+        Work::Kept(kept) => of_kept(rt, kept, texts, others, rounds),
         Work::Emptied(removed) => of_emptied(rt, removed, texts, rounds),
         Work::Taken => of_taken(rt, texts, rounds),
     }
@@ -122,7 +135,8 @@ fn tell_case(rt: &HostRuntime, case: Case, rounds: u32) -> io::Result<()> {
             continue;
         }
         let texts = texts_of(alloc, keys, members, "key")?;
-        let measured = measure(rt, work, texts.as_slice(), rounds)?;
+        let others = texts_of(alloc, keys, members, "not")?;
+        let measured = measure(rt, work, texts.as_slice(), others.as_slice(), rounds)?;
         put_cell(&mut line, alloc, measured.least)?;
         sum = sum.wrapping_add(measured.sum);
     }
@@ -143,13 +157,20 @@ fn tell_all(rt: &HostRuntime, rounds: u32) -> io::Result<()> {
 }
 
 /// A sum of what a case saw that is run so many times.
-fn sum_of(alloc: Global, work: Work, texts: &[Known], rounds: usize) -> io::Result<u64> {
+fn sum_of(
+    alloc: Global,
+    work: Work,
+    texts: &[Known],
+    others: &[Known],
+    rounds: usize,
+) -> io::Result<u64> {
     let mut sum = 0u64;
     match work {
         Work::Kept(kept) => {
             let places = order_of(alloc, texts.len(), rounds)?;
             let mut map = prepared(alloc, kept, texts)?;
-            sum = repeated(alloc, kept, &mut map, texts, places.as_slice())?;
+            let keys = keys_of(kept, texts, others);
+            sum = repeated(alloc, kept, &mut map, keys, places.as_slice())?;
         }
         Work::Emptied(removed) => {
             let keys = removed_of(alloc, texts, removed)?;
@@ -174,15 +195,29 @@ fn tell_one(rt: &HostRuntime, name: &str, members: usize, rounds: usize) -> io::
         return println!(rt; "no such case");
     };
     let texts = texts_of(alloc, keys, members, "key")?;
-    let sum = sum_of(alloc, work, texts.as_slice(), rounds)?;
+    let others = texts_of(alloc, keys, members, "not")?;
+    let sum = sum_of(alloc, work, texts.as_slice(), others.as_slice(), rounds)?;
     println!(rt; "{name} {members} {rounds}: {sum}")
 }
 
-/// All cases for so many rounds, or one alone, as the words say.
+/// Prints the times of the case with that name.
+fn tell_named(rt: &HostRuntime, name: &str, rounds: u32) -> io::Result<()> {
+    match named(name) {
+        Some(case) => tell_case(rt, case, rounds),
+        None => println!(rt; "no such case"),
+    }
+}
+
+/// The times of all cases in so many rounds, or of one, or one case alone, as the words say.
 pub fn report(rt: &HostRuntime, words: &[String]) -> io::Result<()> {
     match words {
         [] => Ok(()),
         [rounds] => tell_all(rt, rounds.as_str().parse::<u32>().unwrap_or(1)),
+        [name, rounds] => tell_named(
+            rt,
+            name.as_str(),
+            rounds.as_str().parse::<u32>().unwrap_or(1),
+        ),
         [name, members, rounds] => {
             let members = members.as_str().parse::<usize>().unwrap_or(0);
             let rounds = rounds.as_str().parse::<usize>().unwrap_or(0);
