@@ -82,7 +82,7 @@ pub fn prepared<'k>(alloc: Global, kept: Kept, texts: &'k [Known]) -> io::Result
     Ok(map)
 }
 
-/// The keys of which the calls are made, where the map has so many of the other ones.
+/// The keys that the calls are given: the map's own texts, or for misses the others, which it lacks.
 pub fn keys_of<'k>(kept: Kept, texts: &'k [Known], others: &'k [Known]) -> &'k [Known] {
     if matches!(kept, Kept::Miss) {
         others

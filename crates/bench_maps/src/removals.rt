@@ -208,7 +208,7 @@ fn tell_named(rt: &HostRuntime, name: &str, rounds: u32) -> io::Result<()> {
     }
 }
 
-/// The times of all cases in so many rounds, or of one, or one case alone, as the words say.
+/// Tells the times of all cases or of one, or runs one case so many times, as the words say.
 pub fn report(rt: &HostRuntime, words: &[String]) -> io::Result<()> {
     match words {
         [] => Ok(()),
