@@ -1,6 +1,7 @@
 -- How many nodes a document has, and what is left to do while it is let go. Only private clauses cite it.
-use Rattle.std.specs.Prelude.{ℕ, ◌+◌, ◌*◌, Option, Some, None}
+use Rattle.std.specs.Prelude.{ℕ, ◌+◌, ◌*◌, List, Option, Some, None}
 use Rattle.std.specs.List.{sum_by}
+use Rattle.sj_object.specs.Entries.{Entry}
 use Rattle.sj_document.specs.declared.value.Document.{Document, fold-Document}
 use Rattle.sj_document.specs.declared.value.Document.TheOpen.{Document-F}
 
@@ -17,6 +18,10 @@ nodes {T} = fold-Document T ℕ level_nodes
 abbrev pub nodes_of : {T : Type 0} → Option (Document T) → ℕ
 nodes_of None = 0
 nodes_of (Some d) = nodes d
+
+-- of the values of all members
+abbrev pub nodes_in : {T : Type 0} → List (Entry T (Document T)) → ℕ
+nodes_in {T} entries = sum_by (λ (e : Entry T (Document T)). nodes e.1) entries
 
 -- falls with each node that goes, and with each step down while none goes
 abbrev pub work : ℕ → ℕ → ℕ

@@ -5,9 +5,9 @@
 //! first part, until it comes out again as the last that is left there.
 
 ghost use Rattle.std.specs.Prelude.{◌≡◌, ◌↔◌, ◌+◌, ◌<◌, Some, IfNone, IsTrue};
-ghost use Rattle.sj_document.specs.Nodes.{nodes, nodes_of, work};
+ghost use Rattle.sj_document.specs.Nodes.{nodes, nodes_of, nodes_in, work};
 
-use crate::value::Document;
+use crate::value::{Document, Object};
 use sj_object::KeyText;
 use std::mem;
 
@@ -30,10 +30,7 @@ impl<T: KeyText + Drop> Document<T> {
     {
         match self {
             Document::Array(items) => items.pop(),
-            Document::Object(members) => match members.pop() {
-                Some((_, value)) => Some(value),
-                None => None,
-            },
+            Document::Object(members) => pop_value(members),
             _ => None,
         }
     }
@@ -60,6 +57,18 @@ impl<T: KeyText + Drop> Document<T> {
             Document::Array(items) => Box::into_inner(items).destroy_empty(),
             Document::Object(members) => Box::into_inner(members).destroy_empty(),
         }
+    }
+}
+
+/// Takes the last member out, and gives its value. It stands apart, so that items do not pay for it.
+#[inline(never)]
+fn pop_value<T: KeyText + Drop>(members: &mut Object<T>) -> Option<Document<T>>
+    ensures fewer { nodes_in members.old.entries ≡ nodes_in members.new.entries + nodes_of result }
+    ensures none { IfNone result (nodes_in members.new.entries ≡ 0) }
+{
+    match members.pop() {
+        Some((_, value)) => Some(value),
+        None => None,
     }
 }
 

@@ -1,8 +1,8 @@
-use Rattle.std.proofs.Common.{◌≡◌, ◌+◌, sym, ap, ◌∙◌, rules, Box, Vec, Global}
-use Rattle.sj_document.specs.Nodes.{nodes, nodes_of}
+use Rattle.std.proofs.Common.{◌≡◌, ◌+◌, sym, ap, ◌∙◌, rules, arith, Box, Vec, Global}
+use Rattle.sj_document.specs.Nodes.{nodes, nodes_of, nodes_in}
 use Rattle.sj_document.specs.declared.value.Document.{Document, Array, Object, the_lemmas}
 use Rattle.sj_document.proofs.Trees.{Map}
-use Rattle.sj_document.proofs.Nodes.{nodes-Array, nodes-Object, of_items, of_members, items_popped, members_popped, members_rest, none_popped, items_zero}
+use Rattle.sj_document.proofs.Nodes.{nodes-Array, nodes-Object, of_items, items_popped, none_popped, items_zero, still_none}
 use Rattle.sj_document.proofs.value.Document.pop_part.Goals as goal
 
 pub returns-in-Array-clause-fewer : goal.returns-in-Array-clause-fewer
@@ -18,24 +18,15 @@ returns-in-Array-clause-none g c =
     let b : Box (Vec (Document g.row.T.Denot) Global) Global = record c.in-Array.items { value = c.pop.new.self } in
     none_popped c.pop.result c.deref_mut.result.now.len c.pop.new.self.len _ c.pop.ensures.cases (λ z. ap nodes (let e : _ ≡ Array b = search (rules, the_lemmas) in e) ∙ nodes-Array b ∙ items_zero c.pop.new.self.items (sym c.pop.new.self.ok.0 ∙ z))
 
-pub returns-in-Some-clause-fewer : goal.returns-in-Some-clause-fewer
-returns-in-Some-clause-fewer g c =
-    let t = g.T.KeyText.text_of in
-    let b : Box (Map g.row.T.Denot) Global = record c.in-Object.members { value = c.pop-in-Object.new.self } in
-    let same : c.deref_mut-in-Object.result.now ≡ c.in-Object.members.value = c.deref_mut-in-Object.ensures.value ∙ ap (λ b. b.value) c.in-Object.members-is in
-    ap nodes c.in-Object.is ∙ nodes-Object c.in-Object.members ∙ ap (λ m. of_members m.entries + 1) (sym same)
-    ∙ members_popped t c.deref_mut-in-Object.result.now.entries c.pop-in-Object.new.self.entries (c.in-Some.field-0-0, c.in-Some.value) c.in-Some.ensures.entries
-    ∙ ap (λ n. n + nodes c.in-Some.value) (sym (ap nodes (let e : _ ≡ Object b = search (rules, the_lemmas) in e) ∙ nodes-Object b))
-
 pub returns-in-Object-clause-fewer : goal.returns-in-Object-clause-fewer
 returns-in-Object-clause-fewer g c =
-    let b : Box (Map g.row.T.Denot) Global = record c.in-Object.members { value = c.pop-in-Object.new.self } in
+    let b : Box (Map g.row.T.Denot) Global = record c.in-Object.members { value = c.pop_value.new.members } in
     let same : c.deref_mut-in-Object.result.now ≡ c.in-Object.members.value = c.deref_mut-in-Object.ensures.value ∙ ap (λ b. b.value) c.in-Object.members-is in
-    ap nodes c.in-Object.is ∙ nodes-Object c.in-Object.members ∙ ap (λ m. of_members m.entries + 1) (sym same)
-    ∙ members_rest c.deref_mut-in-Object.result.now.entries c.pop-in-Object.new.self.entries c.in-None.ensures.entries
-    ∙ ap (λ n. n + 0) (sym (ap nodes (let e : _ ≡ Object b = search (rules, the_lemmas) in e) ∙ nodes-Object b))
+    ap nodes c.in-Object.is ∙ nodes-Object c.in-Object.members ∙ ap (λ m. nodes_in m.entries + 1) (sym same)
+    ∙ omega (arith, c.pop_value.ensures.fewer)
+    ∙ ap (λ n. n + nodes_of c.pop_value.result) (sym (ap nodes (let e : _ ≡ Object b = search (rules, the_lemmas) in e) ∙ nodes-Object b))
 
 pub returns-in-Object-clause-none : goal.returns-in-Object-clause-none
 returns-in-Object-clause-none g c =
-    let b : Box (Map g.row.T.Denot) Global = record c.in-Object.members { value = c.pop-in-Object.new.self } in
-    ap nodes (let e : _ ≡ Object b = search (rules, the_lemmas) in e) ∙ nodes-Object b ∙ ap (λ es. of_members es + 1) c.in-None.ensures.none
+    let b : Box (Map g.row.T.Denot) Global = record c.in-Object.members { value = c.pop_value.new.members } in
+    still_none c.pop_value.result (nodes_in c.pop_value.new.members.entries) _ (λ z. ap nodes (let e : _ ≡ Object b = search (rules, the_lemmas) in e) ∙ nodes-Object b ∙ omega (arith, z)) c.pop_value.ensures.none
