@@ -1,4 +1,4 @@
-.PHONY: demo test programs docs check-docs check-edits check-use check-program check-depth check-refusals check-broken
+.PHONY: demo test programs docs check-docs check-edits check-use check-program check-depth check-refusals check-broken check-bench
 
 # Runs README's first program, in about a minute. It proves nothing.
 demo:
@@ -58,3 +58,7 @@ check-broken:
 	tools/broken_nodes.py crates/refusals/out/refusals --seconds 5
 	tools/faults.py crates/sjroute/out/sjroute --seconds 5
 	tools/routed.py crates/sjroute/out/sjroute --seconds 5
+
+# Counts what the benchmark's programs take, beside bench/instructions.txt. Needs valgrind and gcc, and `make test` before it.
+check-bench:
+	bench/instructions

@@ -1,8 +1,8 @@
 // Refuses one request for memory of a program. Built by `gcc -shared -fPIC` and set as LD_PRELOAD.
 //
-// Requests are counted from the program's first write to standard output to its second. With
-// REFUSE=N the Nth of them is answered by null (with 0, or without it, none is), and how many there
-// were goes to the file that REFUSE_COUNT names.
+// Requests are counted from the program's first write to standard output to its second, or, where
+// REFUSE_ALL is set, from its start to its end. With REFUSE=N the Nth of them is answered by null
+// (with 0, or without it, none is), and how many there were goes to the file that REFUSE_COUNT names.
 #include <errno.h>
 #include <fcntl.h>
 #include <stddef.h>
@@ -20,10 +20,12 @@ void *__libc_memalign(size_t alignment, size_t size);
 static long writes = 0;
 static long requests = 0;
 static long refused = 0;
+static int counts_all = 0;
 
-__attribute__((constructor)) static void read_number(void) {
+__attribute__((constructor)) static void read_words(void) {
   const char *number = getenv("REFUSE");
   refused = number ? atol(number) : 0;
+  counts_all = getenv("REFUSE_ALL") != NULL;
 }
 
 __attribute__((destructor)) static void tell_requests(void) {
@@ -39,7 +41,7 @@ __attribute__((destructor)) static void tell_requests(void) {
 
 // Counts a request; whether it is the one that is refused.
 static int is_refused(void) {
-  if (writes != 1 || ++requests != refused) {
+  if ((writes != 1 && !counts_all) || ++requests != refused) {
     return 0;
   }
   errno = ENOMEM;

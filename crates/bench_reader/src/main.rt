@@ -12,11 +12,17 @@
 //! CHOICE FORM COUNT` makes so many look-ups of one case alone and prints what they find, so that
 //! their instructions can be counted: SHAPE is `scalars`, `mixed`, `pairs`, `records`, `arrays` or
 //! `wide`, KEY `first`, `last` or `absent`, CHOICE `first` or `last`, FORM `packed` or `plain`.
+//!
+//! `counted read|print TARGET KIND COUNT` reads a text of that kind or prints what it was read to so
+//! often, with TARGET `tape`, `borrowed` or `owned`; `counted merge kept|taken COUNT` merges a patch
+//! into a document, and `counted commands FORM COUNT` gives so many short commands to a document.
 //! Without words the program does nothing.
 #![tactic(auto)]
 
 ghost use Rattle.std.specs.Prelude.{◌≤◌};
 
+mod changed;
+mod counted;
 mod documents;
 mod equality;
 mod lazy;
@@ -181,6 +187,7 @@ fn number(words: &[String], place: usize) -> u32
 fn main(rt: HostRuntime) -> io::Result<()> {
     let words: Vec<String> = env::args(&rt)?.collect(rt.alloc())?;
     match words.as_slice() {
+        [_, first, rest @ ..] if first.as_str() == "counted" => counted::report(&rt, rest),
         [_, first, rest @ ..] if first.as_str() == "documents" => report_all(&rt, rest, true),
         [_, first, rest @ ..] if first.as_str() == "equality" => {
             equality::report(&rt, number(rest, 0), number(rest, 1) as usize * 1_000_000)
