@@ -15,6 +15,7 @@ programs:
 	cd crates/sjval && rt run -- owned < stdin > /dev/null
 	cd crates/refusals && rt run -- insert insert 32 > /dev/null
 	cd crates/sjroute && rt run -- --help > /dev/null
+	cd crates/deep && rt run -- copies owned 10 > /dev/null
 
 # Writes what the sources make of the pages: docs/calling, and README's numbers.
 docs:
@@ -44,9 +45,10 @@ check-program:
 	tools/sjroute.sh crates/sjroute/out/sjroute
 	tools/console.py docs/SJROUTE.md crates/sjroute/out/sjroute
 
-# Gives the built program edits that make documents 50,000 levels deep, on a small stack. Needs python3.
+# Edits that make documents 50,000 levels deep, and calls on documents of 1,000,000 levels, on a small stack.
+# Needs python3, and the programs built.
 check-depth:
-	tools/deep.py crates/sjval/out/sjval
+	tools/deep.py crates/sjval/out/sjval crates/deep/out/deep
 
 # Refuses each request for memory of each call in turn. Needs gcc and python3, and the programs built.
 check-refusals:

@@ -1,19 +1,24 @@
 #!/usr/bin/env python3
-"""Runs the program on documents that edits make deep, on a stack of 512 KB, and compares each reply with a model that has no recursion.
+"""Runs two programs on documents that edits make deep, on a stack of 512 KB, and compares each reply with a model that has no recursion.
 
-Usage: tools/deep.py PROGRAM [LEVELS], of which there are 50,000 else. Each session is run in each form, by keys and by known keys, with
-paths as arrays and as pointers. It has to end with status 0 and the replies of the model. The last line is 'N passed, M failed'.
+Usage: tools/deep.py SJVAL DEEP [LEVELS [MADE]]
+
+SJVAL answers sessions whose commands make LEVELS levels (50,000 else), in each form, by keys and by known keys, with paths as arrays and
+as pointers. DEEP makes MADE levels by edits (1,000,000 else), and answers commands there in each form and way; it prints copies of such
+documents, and what they are turned into. Each run has to end with status 0 and what the model says. The last line is
+'N passed, M failed'.
 """
 
 import json
-import resource
+import os
 import subprocess
 import sys
+from concurrent.futures import ThreadPoolExecutor
 
 STACK = 512 * 1024
 
-# A line's own value may be 1,024 deep; it is copied into a borrowed or lazy document by a call for each level.
-CHUNK = 250
+# How many levels a line's own value has. A line may be 1,024 deep.
+CHUNK = 1_000
 
 # Past so many levels all are arrays: the texts of the paths grow with the square of the levels.
 MIXED = 200_000
@@ -187,17 +192,11 @@ def session(levels, is_pointer):
     model = Model([], is_pointer)
     while model.depth() < levels:
         is_mixed = levels <= MIXED
-        tree, steps = chunk(CHUNK if is_mixed else 2 * CHUNK, is_mixed)
+        tree, steps = chunk(CHUNK, is_mixed)
         model.run('push', model.depth(), [], tree)
         model.go(0, *steps)
+    at_the_bottom(model)
     bottom = model.depth()
-    for below, commands in ([], AT_THE_ARRAY), ([0], AT_THE_OBJECT), ([0, 'n'], AT_THE_NUMBER):
-        for name, *rest in commands:
-            model.run(name, bottom, below, *rest)
-    model.run('str', bottom, [0, 'n'])
-    model.run('kind', bottom, [0, 'n', 0])
-    model.run('encode_pp', bottom - PART, [])
-    model.run('encode', 0, [])
     # A part goes, then all below the middle; the rest goes when something else is put.
     model.run(*(['remove', bottom - 1, [], 'k'] if levels <= MIXED else ['pop', bottom - 1, []]))
     model.run('put', bottom // 2, [], None)
@@ -207,30 +206,90 @@ def session(levels, is_pointer):
     return '\n'.join(model.lines) + '\n', ''.join(reply + '\n' for reply in model.replies)
 
 
-def limited():
-    resource.setrlimit(resource.RLIMIT_STACK, (STACK, STACK))
+def at_the_bottom(model):
+    """Each command at the innermost array, at what was put into it, and at that; prints of a part and of all."""
+    bottom = model.depth()
+    for below, commands in ([], AT_THE_ARRAY), ([0], AT_THE_OBJECT), ([0, 'n'], AT_THE_NUMBER):
+        for name, *rest in commands:
+            model.run(name, bottom, below, *rest)
+    model.run('str', bottom, [0, 'n'])
+    model.run('kind', bottom, [0, 'n', 0])
+    model.run('encode_pp', bottom - PART, [])
+    model.run('encode', 0, [])
 
 
-def main():
-    program = sys.argv[1]
-    levels = int(sys.argv[2]) if len(sys.argv) > 2 else 50_000
-    passed = failed = 0
+class Made(Model):
+    """The same of a document of so many levels around an empty array, of which the innermost PART levels are the tree and the levels above
+    stand as texts: the steps of the way to the tree, and what a print has before it and behind it."""
+
+    def __init__(self, levels):
+        tree, steps = chunk(PART + 1, True)
+        super().__init__(tree, False)
+        self.go(*steps)
+        above = range(levels - 1, PART - 1, -1)
+        self.above = ','.join('1' if level % 2 else '"k"' for level in above)
+        self.before = ''.join(f'[{level},' if level % 2 else '{"a":null,"k":' for level in above)
+        self.behind = ''.join(']' if level % 2 else ',"z":"é\\""}' for level in reversed(above))
+
+    def path(self, depth, below):
+        return '[' + ','.join(filter(None, [self.above, super().path(depth, below)[1:-1]])) + ']'
+
+    def all(self):
+        """The print of all."""
+        return self.before + printed(self.trees[0]) + self.behind
+
+
+def made(levels):
+    """Command lines at a document of so many levels, and their replies: each command at its bottom, prints of it, and a write at the top that
+    lets it go."""
+    model = Made(levels)
+    at_the_bottom(model)
+    lines = [*model.lines[2:], '["encode",[]]', '["put",[],{"new":[1]}]', '["encode",[]]']
+    replies = [*model.replies, model.all(), model.all(), '{"new":[1]}']
+    return '\n'.join(lines) + '\n', '\n'.join(replies) + '\n'
+
+
+def copied(levels):
+    """What copies of a document of so many levels print."""
+    return (Made(levels).all() + '\n') * 2 + 'within\n'
+
+
+def passes(words, given, wanted):
+    """Whether the program, given that, ends with status 0 and writes what is wanted; else it is told."""
+    limited = ['bash', '-c', f'ulimit -s {STACK // 1024} && exec "$@"', 'bash', *words]
+    ran = subprocess.run(limited, input=given, stdout=subprocess.PIPE, stderr=subprocess.PIPE, check=False)
+    if ran.returncode == 0 and ran.stdout == wanted and not ran.stderr:
+        return True
+    lines, want = ran.stdout.split(b'\n'), wanted.split(b'\n')
+    at = next((at for at, (one, other) in enumerate(zip(lines, want)) if one != other), min(len(lines), len(want)))
+    print(f'failed: {" ".join(words)}: status {ran.returncode}, {len(lines)} lines of {len(want)}, the first other one is {at}: '
+          f'{lines[at][:100] if at < len(lines) else b""} {ran.stderr[:300]}')
+    return False
+
+
+def runs(sjval, deep, levels, made_levels):
+    """Each run, as its words, what it is given and what it has to write."""
     for is_pointer in (False, True):
         given, wanted = session(levels, is_pointer)
         given, wanted = given.encode(), wanted.encode()
         for way in WAYS:
-            ran = subprocess.run([program, *way], input=given, stdout=subprocess.PIPE, stderr=subprocess.PIPE, preexec_fn=limited, check=False)
-            if ran.returncode == 0 and ran.stdout == wanted and not ran.stderr:
-                passed += 1
-                continue
-            failed += 1
-            replies, want = ran.stdout.split(b'\n'), wanted.split(b'\n')
-            at = next((at for at, (one, other) in enumerate(zip(replies, want)) if one != other), min(len(replies), len(want)))
-            print(f'failed: {" ".join(way)}, {"pointers" if is_pointer else "arrays"}, {levels} levels: status {ran.returncode}, '
-                  f'{len(replies)} lines of {len(want)}, the first other one is {at}: {replies[at][:100] if at < len(replies) else b""}')
-            print(ran.stderr[:300])
-    print(f'{passed} passed, {failed} failed')
-    return failed != 0
+            yield [sjval, *way], given, wanted
+    given, wanted = made(made_levels)
+    given, wanted = given.encode(), wanted.encode()
+    for form, *known in WAYS:
+        yield [deep, 'commands', form, *(known or ['text']), str(made_levels)], given, wanted
+    wanted = copied(made_levels).encode()
+    for form in ('owned', 'borrowed', 'lazy'):
+        yield [deep, 'copies', form, str(made_levels)], b'', wanted
+
+
+def main():
+    sjval, deep, *numbers = sys.argv[1:]
+    levels, made_levels = [*map(int, numbers), *[50_000, 1_000_000][len(numbers):]]
+    with ThreadPoolExecutor(os.cpu_count()) as pool:
+        results = list(pool.map(lambda run: passes(*run), runs(sjval, deep, levels, made_levels)))
+    print(f'{sum(results)} passed, {len(results) - sum(results)} failed')
+    return not all(results)
 
 
 if __name__ == '__main__':

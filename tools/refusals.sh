@@ -233,6 +233,10 @@ for form in owned borrowed; do
   done
 done
 
+for form in owned borrowed tape lent; do
+  each "within $form" $'call: refused, then within\n' $'call: within\n'
+done
+
 # makes WORDS MADE
 makes() {
   each "$1" "call: AllocError, then $2"$'\n' "call: made, again $2"$'\n'

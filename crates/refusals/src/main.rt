@@ -12,7 +12,7 @@
 //!     refusals session_last FORM INPUT | pointer | no_pointer | pointer_in FORM
 //!     refusals pointer_lazy FORM CALL | kinds FORM | parts FORM | reads WHAT | from WHAT
 //!     refusals display FORM | stream CALL | fault CALL | changes | command LINE
-//!     refusals merge FORM CALL [MEMBERS]
+//!     refusals merge FORM CALL [MEMBERS] | within FORM
 //!
 //! `refusals nodes LIST ..` makes a tape of each list of nodes.
 //!
@@ -23,6 +23,7 @@
 mod applies;
 mod changes;
 mod copies;
+mod depths;
 mod displays;
 mod documents;
 mod fault;
@@ -131,6 +132,7 @@ fn run_documents(rt: &(impl Print + AllocGlobal), words: &[String]) -> Result<()
         "kinds" => kinds::reads(rt, second),
         "parts" => parts::reads(rt, second),
         "changes" => changes::change(rt),
+        "within" => depths::ask(rt, second),
         _ => Err(Fault::Usage),
     }
 }

@@ -18,3 +18,5 @@ pub mod Loans
 pub mod Lent
 pub mod Descents
 pub mod Results
+pub mod Reach
+pub mod Piled

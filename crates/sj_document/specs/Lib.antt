@@ -20,3 +20,5 @@ pub use Rattle.sj_object.specs.Builder
 pub use Rattle.sj_tape.specs.Value
 pub mod Taken
 pub mod Descents
+pub mod Reach
+pub mod Piled

@@ -18,5 +18,5 @@ pub use sj_text_core::{
 pub use value::{
     BorrowedValue, Change, CopyText, Document, Leads, LendItem, LendMember, Object, OwnedValue,
     Replace, Taken, borrowed_from_tape, change_item, change_member, climb, descend,
-    owned_from_tape, replace_at, same, swap_item, swap_member, swap_token,
+    is_within_depth, owned_from_tape, replace_at, same, swap_item, swap_member, swap_token,
 };

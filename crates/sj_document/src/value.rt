@@ -16,11 +16,13 @@ mod index;
 mod lend;
 mod make;
 mod path;
+mod piled;
 mod scalar;
 mod serialize;
 mod swap;
 mod taken;
 mod typed;
+mod within;
 
 pub use build::{borrowed_from_tape, owned_from_tape};
 pub use change::{Change, Replace, change_item, change_member};
@@ -35,6 +37,7 @@ use std::alloc::{AllocError, Global};
 use std::borrow::CowStr;
 pub use swap::{swap_item, swap_member, swap_token};
 pub use taken::Taken;
+pub use within::is_within_depth;
 
 /// A document whose keys and texts are `T`.
 ///

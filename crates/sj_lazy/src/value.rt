@@ -19,6 +19,7 @@ mod scalar;
 mod serialize;
 mod typed;
 mod upgrade;
+mod within;
 
 use sj_document::{BorrowedValue, Document};
 use sj_object::KeyText;

@@ -55,10 +55,11 @@ fn find_in_mut<'v, T: KeyText>(
 ) -> Option<&'v mut Document<T>>
     ensures { option_map (λ v. tree T.text_of v.now) result ≡ pointed (map string_bytes tokens.now) (tree T.text_of value.old) }
 {
-    match tokens {
-        [] => Some(value),
-        [first, rest @ ..] => find_in_mut(step_mut(value, first.as_str())?, rest),
+    let mut at = value;
+    for token in tokens {
+        at = step_mut(at, token.as_str())?;
     }
+    Some(at)
 }
 
 /// What `find` finds, to write. What the document is then is said by `replace`, and not here.

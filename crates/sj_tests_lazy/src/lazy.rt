@@ -1,5 +1,6 @@
 mod choices;
 mod comparisons;
+mod depths;
 mod first_lines;
 mod forms;
 mod makes;

@@ -1,6 +1,7 @@
 //! Tests that are one for both forms: each makes its calls on owned texts, and then on borrowed.
 
 mod changes;
+mod depths;
 mod edits;
 mod laws;
 mod merges;

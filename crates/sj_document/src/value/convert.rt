@@ -4,11 +4,13 @@ ghost use Rattle.std.specs.Prelude.{◌≡◌, IfOk, map};
 ghost use Rattle.sj_object.specs.Members.{entry_members};
 ghost use Rattle.sj_document.specs.Document.{tree};
 
+use crate::value::piled::{Begun, LEVELS, Source, make_piled};
 use crate::value::taken::Taken;
 use crate::value::{Document, Object};
 use sj_object::{HashMap, KeyText, MapOf, ObjectHasher};
 use std::alloc::{AllocError, Global};
 use std::borrow::CowStr;
+use std::vec;
 
 /// A text that is made of one of another kind.
 pub(crate) trait TextFrom<T: KeyText>: KeyText {
@@ -42,22 +44,36 @@ impl<'v> TextFrom<CowStr<'v>> for CowStr<'static> {
 }
 
 /// The document with the same tree, whose texts are made of the old ones.
-#[cycle(convert)]
 pub(crate) fn convert<T: KeyText + Drop, U: TextFrom<T> + Drop>(
     alloc: Global,
     value: Document<T>,
 ) -> Result<Document<U>, AllocError>
     ensures { IfOk result (λ v. tree U.text_of v ≡ tree T.text_of value) }
 {
+    convert_within(alloc, value, LEVELS)
+}
+
+/// The same, with so many levels before the pile.
+#[cycle(convert)]
+fn convert_within<T: KeyText + Drop, U: TextFrom<T> + Drop>(
+    alloc: Global,
+    value: Document<T>,
+    levels: usize,
+) -> Result<Document<U>, AllocError>
+    ensures { IfOk result (λ v. tree U.text_of v ≡ tree T.text_of value) }
+{
+    if levels == 0 {
+        return convert_piled(alloc, value);
+    }
     match value.take_apart() {
         Taken::Static(scalar) => Ok(Document::Static(scalar)),
         Taken::String(text) => Ok(Document::String(U::text_from(alloc, text)?)),
         Taken::Array(items) => {
-            let items = convert_items(alloc, Box::into_inner(items))?;
+            let items = convert_items(alloc, Box::into_inner(items), levels - 1)?;
             Ok(Document::Array(Box::new(alloc, items)?))
         }
         Taken::Object(members) => {
-            let members = convert_members(alloc, Box::into_inner(members))?;
+            let members = convert_members(alloc, Box::into_inner(members), levels - 1)?;
             Ok(Document::Object(Box::new(alloc, members)?))
         }
     }
@@ -67,12 +83,13 @@ pub(crate) fn convert<T: KeyText + Drop, U: TextFrom<T> + Drop>(
 fn convert_items<T: KeyText + Drop, U: TextFrom<T> + Drop>(
     alloc: Global,
     items: Vec<Document<T>>,
+    levels: usize,
 ) -> Result<Vec<Document<U>>, AllocError>
     ensures { IfOk result (λ v. map (tree U.text_of) v.items ≡ map (tree T.text_of) items.items) }
 {
     let mut made = Vec::with_capacity(alloc, items.len())?;
     for item in items {
-        made.push(convert(alloc, item)?)?;
+        made.push(convert_within(alloc, item, levels)?)?;
     }
     Ok(made)
 }
@@ -81,6 +98,7 @@ fn convert_items<T: KeyText + Drop, U: TextFrom<T> + Drop>(
 fn convert_members<T: KeyText + Drop, U: TextFrom<T> + Drop>(
     alloc: Global,
     members: Object<T>,
+    levels: usize,
 ) -> Result<Object<U>, AllocError>
     ensures { IfOk result (λ m. entry_members (tree U.text_of) m.entries ≡ entry_members (tree T.text_of) members.entries) }
 {
@@ -91,8 +109,69 @@ fn convert_members<T: KeyText + Drop, U: TextFrom<T> + Drop>(
     )?;
     for (key, member) in members {
         let name = U::text_from(alloc, key)?;
-        let member = convert(alloc, member)?;
+        let member = convert_within(alloc, member, levels)?;
         made.set(name, member)?;
     }
     Ok(made)
+}
+
+/// The document made with a pile. It stands apart, so that a level takes no room of the stack for it.
+#[cold]
+#[inline(never)]
+fn convert_piled<T: KeyText + Drop, U: TextFrom<T> + Drop>(
+    alloc: Global,
+    value: Document<T>,
+) -> Result<Document<U>, AllocError>
+    ensures { IfOk result (λ v. tree U.text_of v ≡ tree T.text_of value) }
+{
+    make_piled::<Document<T>, U>(value, alloc)
+}
+
+impl<T: KeyText + Drop, U: TextFrom<T> + Drop> Source<U> for Document<T> {
+    type Items = vec::IntoIter<Document<T>>;
+
+    type Members = sj_object::IntoIter<T, Document<T>>;
+
+    ghost use Rattle.std.specs.Vec.Iter.{into_iter_items};
+
+    ghost tree_of = { tree T.text_of };
+
+    ghost items_left = { λ it. map (tree T.text_of) (into_iter_items it) };
+
+    ghost members_left = { λ it. map (λ p. (T.text_of p.0, tree T.text_of p.1)) it };
+
+    fn begin(
+        self,
+        alloc: Global,
+    ) -> Result<
+        Begun<vec::IntoIter<Document<T>>, sj_object::IntoIter<T, Document<T>>, U>,
+        AllocError,
+    > {
+        match self.take_apart() {
+            Taken::Static(scalar) => Ok(Begun::Leaf(Document::Static(scalar))),
+            Taken::String(text) => Ok(Begun::Leaf(Document::String(U::text_from(alloc, text)?))),
+            Taken::Array(items) => {
+                let len = items.len();
+                Ok(Begun::Items(Box::into_inner(items).into_iter(), len))
+            }
+            Taken::Object(members) => {
+                let len = members.len();
+                Ok(Begun::Members(Box::into_inner(members).into_iter(), len))
+            }
+        }
+    }
+
+    fn next_item(items: &mut vec::IntoIter<Document<T>>) -> Option<Document<T>> {
+        items.next()
+    }
+
+    fn next_member(
+        members: &mut sj_object::IntoIter<T, Document<T>>,
+        alloc: Global,
+    ) -> Result<Option<(U, Document<T>)>, AllocError> {
+        match members.next() {
+            Some((key, value)) => Ok(Some((U::text_from(alloc, key)?, value))),
+            None => Ok(None),
+        }
+    }
 }

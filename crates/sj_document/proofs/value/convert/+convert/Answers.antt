@@ -11,13 +11,13 @@ use Rattle.sj_document.proofs.Trees.{tree-Array, tree-Object}
 use Rattle.sj_document.proofs.Sorts.{tree-String}
 use Rattle.sj_document.proofs.value.convert.+convert.Goals as goal
 
-pub convert-convert_members-requires : goal.convert-convert_members-requires
-convert-convert_members-requires g r c κs within =
+pub convert_within-convert_members-requires : goal.convert_within-convert_members-requires
+convert_within-convert_members-requires g r c κs within =
     let t = g.T.KeyText.text_of in
     (omega (arith, c.decreases, ap depth (ap (tree t) (c.take_apart.ensures ∙ ap whole c.in-Object.is) ∙ tree-Object t c.in-Object.members), ap (λ m. members_depth (entry_members (tree t) m.entries)) c.into_inner-in-Object.ensures), within)
 
-pub convert-returns-in_ok-new-in-Object : goal.convert-returns-in_ok-new-in-Object
-convert-returns-in_ok-new-in-Object g r c =
+pub convert_within-returns-in_ok-new-in-Object : goal.convert_within-returns-in_ok-new-in-Object
+convert_within-returns-in_ok-new-in-Object g r c =
     let t = g.T.KeyText.text_of in
     tree-Object g.U.KeyText.text_of c.in_ok-new-in-Object.field-0
     ∙ ap obj (ap (λ m. entry_members (tree g.U.KeyText.text_of) m.entries) c.in_ok-new-in-Object.ensures.ok ∙ c.in_ok-members-in-Object.ensures ∙ ap (λ m. entry_members (tree t) m.entries) c.into_inner-in-Object.ensures)
@@ -48,18 +48,18 @@ convert_members-loop-key-preserved g r c =
       within = omega (arith, c.loop-key.invariant.within, ap (λ es. members_depth (entry_members (tree t) es)) ahead);
     }
 
-pub convert-convert_items-requires : goal.convert-convert_items-requires
-convert-convert_items-requires g r c κs within =
+pub convert_within-convert_items-requires : goal.convert_within-convert_items-requires
+convert_within-convert_items-requires g r c κs within =
     let t = g.T.KeyText.text_of in
     (omega (arith, c.decreases, ap depth (ap (tree t) (c.take_apart.ensures ∙ ap whole c.in-Array.is) ∙ tree-Array t c.in-Array.items), ap (λ v. items_depth (items_from (map (tree t) v.items))) c.into_inner.ensures), within)
 
-pub convert-returns-in_ok-text_from-in-String : goal.convert-returns-in_ok-text_from-in-String
-convert-returns-in_ok-text_from-in-String g r c =
+pub convert_within-returns-in_ok-text_from-in-String : goal.convert_within-returns-in_ok-text_from-in-String
+convert_within-returns-in_ok-text_from-in-String g r c =
     let t = g.T.KeyText.text_of in
     tree-String g.U.KeyText.text_of c.in_ok-text_from-in-String.field-0 ∙ ap text c.in_ok-text_from-in-String.ensures ∙ sym (ap (tree t) (c.take_apart.ensures ∙ ap whole c.in-String.is) ∙ tree-String t c.in-String.text)
 
-pub convert-returns-in_ok-new-in-Array : goal.convert-returns-in_ok-new-in-Array
-convert-returns-in_ok-new-in-Array g r c =
+pub convert_within-returns-in_ok-new-in-Array : goal.convert_within-returns-in_ok-new-in-Array
+convert_within-returns-in_ok-new-in-Array g r c =
     let t = g.T.KeyText.text_of in
     let u = g.U.KeyText.text_of in
     tree-Array u c.in_ok-new-in-Array.field-0

@@ -27,8 +27,8 @@ invariant-convert_members-loop-key g l =
       within : members_depth (entry_members (tree t) rest) ≤ members_depth (entry_members (tree t) l.fn.members.entries);
     }
 
-abbrev pub decreases-convert : goal.decreases-convert
-decreases-convert g l = 2 * depth (tree g.T.KeyText.text_of l.value)
+abbrev pub decreases-convert_within : goal.decreases-convert_within
+decreases-convert_within g l = 2 * depth (tree g.T.KeyText.text_of l.value)
 
 abbrev pub decreases-convert_items : goal.decreases-convert_items
 decreases-convert_items g l = 2 * items_depth (items_from (map (tree g.T.KeyText.text_of) l.items.items)) + 1

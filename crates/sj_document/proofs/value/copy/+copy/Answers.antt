@@ -31,8 +31,8 @@ copy_items-copy-requires g r c κs within =
 
 pub copy_items-loop-item-preserved : goal.copy_items-loop-item-preserved
 copy_items-loop-item-preserved g r c =
-    copied_next g.T.KeyText.text_of c.deref-item-items.result.now c.loop-item.copies.items c.push.new.self.items c.loop-item.item-index c.item-item.result c.in-Ok.copied
-    c.loop-item-test.true c.item-item.is c.loop-item.invariant c.in-Ok.ensures c.in_default-push.ensures.items
+    copied_next g.T.KeyText.text_of c.deref-item-items.result.now c.loop-item.copies.items c.push.new.self.items c.loop-item.item-index c.item-item.result c.in_ok-copy.field-0
+    c.loop-item-test.true c.item-item.is c.loop-item.invariant c.in_ok-copy.ensures c.in_ok-push.ensures.items
 
 pub copy_members-loop-key-init : goal.copy_members-loop-key-init
 copy_members-loop-key-init g r c =
@@ -54,9 +54,9 @@ copy_members-loop-key-preserved g r c =
     record {
       can = tt;
       ends = tt;
-      copied = ap (λ es. put_all (tree t) (entry_members (tree t) es) rest) c.in-Ok-put_copy.ensures
-          ∙ ap (λ ms. put_all (tree t) ms rest) (entry_members-put (tree t) (c.in-Ok.name, t c.in-Ok.name) c.in-Ok-copy.copied old)
-          ∙ (λ i. put_all (tree t) (members.put (c.in-Ok.ensures i) (c.in-Ok-copy.ensures i) (entry_members (tree t) old)) rest)
+      copied = ap (λ es. put_all (tree t) (entry_members (tree t) es) rest) c.in_ok-set.ensures
+          ∙ ap (λ ms. put_all (tree t) ms rest) (entry_members-put (tree t) (c.in_ok-name.name, t c.in_ok-name.name) c.in_ok-copied.copied old)
+          ∙ (λ i. put_all (tree t) (members.put (c.in_ok-name.ensures i) (c.in_ok-copied.ensures i) (entry_members (tree t) old)) rest)
           ∙ ap (put_all (tree t) (entry_members (tree t) old)) (sym ahead) ∙ c.loop-key.invariant.copied;
       within = omega (arith, c.loop-key.invariant.within, ap (λ es. members_depth (entry_members (tree t) es)) ahead);
     }
@@ -64,7 +64,7 @@ copy_members-loop-key-preserved g r c =
 pub copy-copy_items-requires : goal.copy-copy_items-requires
 copy-copy_items-requires g r c κs within =
     let t = g.T.KeyText.text_of in
-    (omega (arith, c.decreases, ap depth (ap (tree t) c.in-Array.is ∙ tree-Array t c.in-Array.items), ap (λ v. items_depth (items_from (map (tree t) v.items))) c.deref.ensures), within)
+    (omega (arith, c.decreases, ap depth (ap (tree t) c.in-Array.is ∙ tree-Array t c.in-Array.items), ap (λ v. items_depth (items_from (map (tree t) v.items))) c.deref-in-Array.ensures), within)
 
 pub copy-returns-in_ok-copy-in-String : goal.copy-returns-in_ok-copy-in-String
 copy-returns-in_ok-copy-in-String g r c =
@@ -75,5 +75,5 @@ pub copy-returns-in_ok-new-in-Array : goal.copy-returns-in_ok-new-in-Array
 copy-returns-in_ok-new-in-Array g r c =
     let t = g.T.KeyText.text_of in
     tree-Array t c.in_ok-new-in-Array.field-0
-    ∙ ap (λ us. list (items_from us)) (ap (λ v. map (tree t) v.items) c.in_ok-new-in-Array.ensures.ok ∙ c.in_ok-copies-in-Array.ensures ∙ ap (λ v. map (tree t) v.items) c.deref.ensures)
+    ∙ ap (λ us. list (items_from us)) (ap (λ v. map (tree t) v.items) c.in_ok-new-in-Array.ensures.ok ∙ c.in_ok-copies-in-Array.ensures ∙ ap (λ v. map (tree t) v.items) c.deref-in-Array.ensures)
     ∙ sym (ap (tree t) c.in-Array.is ∙ tree-Array t c.in-Array.items)
