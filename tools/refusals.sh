@@ -76,7 +76,9 @@ free 'fault told' $'call: not an array, expected u16, found u64\n'
 
 free 'stream lines' $'call: found\n'
 free 'stream warm' $'call: found\n'
+free 'stream warm_placed' $'call: found\n'
 each 'stream cold' $'call: OutOfMemory, again line 3 read\n' $'call: line 1 read, again line 3 read\n'
+each 'stream cold_placed' $'call: OutOfMemory, again line 3 read\n' $'call: line 1 read, again line 3 read\n'
 goes_on 'stream unread_lines' $'call: out of memory\nagain line 1\n' $'call: line 1\nagain line 1\n'
 each 'stream spare' $'call: OutOfMemory\nagain 6 nodes\n' $'call: 6 nodes\nagain 6 nodes\n'
 

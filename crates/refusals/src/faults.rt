@@ -72,6 +72,7 @@ fn meet(rt: &impl Print) -> Result<(), Fault> {
     };
     let line = Unread {
         line: 7,
+        place: None,
         why: ErrorKind::TooDeep,
     };
     say_call(rt)?;

@@ -3,10 +3,11 @@
 use crate::fault::Fault;
 use crate::say::{say, say_call};
 use crate::texts::text_of;
-use sj_lines::Lines;
+use sj_lines::{Lines, line_count};
 use sj_stream::{Repeats, Stream, unread_lines};
 use sj_tape::{ErrorKind, Spare, Tape, to_tape_with_spare};
 use sj_text_core::Refused;
+use std::alloc::Global;
 
 const LINES: &[u8] = b"{\"a\":[1,2]}\n\n[3,{\"b\":4}]\n";
 
@@ -14,22 +15,28 @@ const LINES: &[u8] = b"{\"a\":[1,2]}\n\n[3,{\"b\":4}]\n";
 pub fn run_call(rt: &(impl Print + AllocGlobal), call: &str) -> Result<(), Fault> {
     match call {
         "lines" => lines(rt),
-        "cold" => cold(rt),
-        "warm" => warm(rt),
+        "cold" => cold(rt, false),
+        "cold_placed" => cold(rt, true),
+        "warm" => warm(rt, false),
+        "warm_placed" => warm(rt, true),
         "unread_lines" => unread(rt),
         "spare" => spare(rt),
         _ => Err(Fault::Usage),
     }
 }
 
-/// Goes over the lines of an input.
+/// Goes over the lines of an input, which is then put behind itself.
 fn lines(rt: &(impl Print + AllocGlobal)) -> Result<(), Fault> {
     let mut bytes = LINES.to_vec(rt.alloc())?;
     say_call(rt)?;
+    let count = line_count(&bytes);
     let mut lines = Lines::new(bytes.as_mut_slice());
     let first = next_number(&mut lines);
     let second = next_number(&mut lines);
-    let is_right = first == 1 && second == 3 && lines.next().is_none();
+    let is_end = lines.next().is_none();
+    let mut behind = Lines::behind(3, bytes.as_mut_slice());
+    let third = next_number(&mut behind);
+    let is_right = count == 3 && first == 1 && second == 3 && is_end && third == 4;
     say(rt, if is_right { "found\n" } else { "OTHER LINES\n" })
 }
 
@@ -52,21 +59,31 @@ fn tell_step(rt: &(impl Print + AllocGlobal), stream: &mut Stream<'_>) -> Result
     }
 }
 
+/// A stream of the input, with places or without.
+fn stream_of(alloc: Global, input: &mut [u8], placed: bool) -> Stream<'_> {
+    let stream = Stream::new(alloc, input);
+    if placed {
+        stream.with_places()
+    } else {
+        stream
+    }
+}
+
 /// Takes a stream's first step, and then the second.
-fn cold(rt: &(impl Print + AllocGlobal)) -> Result<(), Fault> {
+fn cold(rt: &(impl Print + AllocGlobal), placed: bool) -> Result<(), Fault> {
     let mut bytes = LINES.to_vec(rt.alloc())?;
-    let mut stream = Stream::new(rt.alloc(), bytes.as_mut_slice());
     say_call(rt)?;
+    let mut stream = stream_of(rt.alloc(), bytes.as_mut_slice(), placed);
     tell_step(rt, &mut stream)?;
     say(rt, ", again ")?;
     tell_step(rt, &mut stream)?;
     say(rt, "\n")
 }
 
-/// Takes the second step of a stream, and looks at its document.
-fn warm(rt: &(impl Print + AllocGlobal)) -> Result<(), Fault> {
+/// Takes the second step of a stream, and looks at its document and at the text.
+fn warm(rt: &(impl Print + AllocGlobal), placed: bool) -> Result<(), Fault> {
     let mut bytes = LINES.to_vec(rt.alloc())?;
-    let mut stream = Stream::new(rt.alloc(), bytes.as_mut_slice());
+    let mut stream = stream_of(rt.alloc(), bytes.as_mut_slice(), placed);
     let first = matches!(stream.advance(), Some(Ok(1)));
     say_call(rt)?;
     let second = matches!(stream.advance(), Some(Ok(3)));
@@ -74,8 +91,12 @@ fn warm(rt: &(impl Print + AllocGlobal)) -> Result<(), Fault> {
         Some(document) => document.get_idx(1).and_then(|item| item.get_u8("b")),
         None => None,
     };
+    let is_text = match stream.text() {
+        Some(text) => placed && text == b"[3,{\"b\":4}]".as_slice(),
+        None => !placed,
+    };
     let is_end = stream.advance().is_none();
-    let is_right = first && second && found == Some(4) && is_end;
+    let is_right = first && second && found == Some(4) && is_text && is_end;
     say(rt, if is_right { "found\n" } else { "NOT FOUND\n" })
 }
 

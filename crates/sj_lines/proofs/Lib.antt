@@ -1,2 +1,3 @@
 pub mod LineLemmas
 mod Steps
+pub mod Counts

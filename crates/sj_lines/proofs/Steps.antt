@@ -1,5 +1,5 @@
 -- One line is taken off the front of what is ahead.
-use Rattle.std.proofs.Common.{◌≡◌, ℕ, suc, ◌<◌, ◌≤◌, Bool, true, false, List, [], ◌∷◌, length, take, drop, refl, sym, ap, ◌∙◌, if◌then◌else◌, arith, map, not}
+use Rattle.std.proofs.Common.{◌≡◌, ℕ, suc, ◌+◌, ◌<◌, ◌≤◌, Bool, true, false, List, [], ◌∷◌, ◌++◌, length, take, drop, refl, sym, ap, ◌∙◌, if◌then◌else◌, arith, map, not}
 use Rattle.sj_text_core.specs.Places.{is_empty}
 use Rattle.sj_lines.specs.Lines.{full_lines, line_text, line_texts, numbered}
 
@@ -49,3 +49,15 @@ one_text false n s ps ss e = ap (λ l. s ∷ l) e
 pub numbered-texts : (n : ℕ) (ls : List (List ℕ)) → map (λ p. p.1) (numbered n ls) ≡ line_texts ls
 numbered-texts n [] = refl
 numbered-texts n (l ∷ ls) = one_text (is_empty (line_text l)) n (line_text l) (numbered (suc n) ls) (line_texts ls) (numbered-texts (suc n) ls)
+
+one_number : (x : Bool) (n : ℕ) (s : List ℕ) (all ps qs : List (ℕ × List ℕ)) → all ≡ ps ++ qs
+    → (if x then all else (n, s) ∷ all) ≡ (if x then ps else (n, s) ∷ ps) ++ qs
+one_number true n s all ps qs e = e
+one_number false n s all ps qs e = ap (λ l. (n, s) ∷ l) e
+
+pub numbered-append : (n : ℕ) (ls ms : List (List ℕ)) → numbered n (ls ++ ms) ≡ numbered n ls ++ numbered (n + length ls) ms
+numbered-append n [] ms = let e : n ≡ n + 0 = omega arith in ap (λ k. numbered k ms) e
+numbered-append n (l ∷ ls) ms =
+    let e : suc n + length ls ≡ n + length (l ∷ ls) = omega arith in
+    one_number (is_empty (line_text l)) n (line_text l) (numbered (suc n) (ls ++ ms)) (numbered (suc n) ls) (numbered (n + length (l ∷ ls)) ms)
+    (numbered-append (suc n) ls ms ∙ ap (λ k. numbered (suc n) ls ++ numbered k ms) e)

@@ -5,16 +5,19 @@
 //!
 //! ```
 //! let mut input = b"[1]\r\n\n[2]".to_vec(alloc)?;
-//! let mut lines = Lines::new(&mut input);
-//! lines.next(); // the text [1], of line 1
-//! lines.next(); // the text [2], of line 3: a line without a text is passed over, and counted
-//! lines.next(); // None
+//! for line in Lines::new(&mut input) {
+//!     println!(rt; "line {}: {} bytes", line.number, line.text.len())?; // line 1: 3 bytes, and line 3: 3 bytes
+//! }
 //! ```
+//!
+//! A line without a text is passed over, and counted.
 #![tactic(auto)]
 
+mod count;
 pub mod laws;
 mod length;
 mod lines;
 
+pub use count::line_count;
 pub use length::{line_len, text_len};
 pub use lines::{Line, Lines};

@@ -1,6 +1,6 @@
 //! The lines of an input that have a text, one after another.
 
-ghost use Rattle.std.specs.Prelude.{◌≡◌, ◌+◌, ◌<◌, ◌^◌, ◌∷◌, [], length, IfNone, IfSome};
+ghost use Rattle.std.specs.Prelude.{◌≡◌, ◌+◌, ◌<◌, ◌^◌, length};
 
 use crate::length::{line_len, text_len};
 use std::mem;
@@ -14,7 +14,7 @@ pub struct Line<'i> {
     pub text: &'i mut [u8],
 }
 
-/// The lines of an input, one after another.
+/// The lines of an input that have a text, one after another: an iterator.
 #[derive(Drop)]
 pub struct Lines<'i> {
     rest: &'i mut [u8],
@@ -23,7 +23,8 @@ pub struct Lines<'i> {
 }
 
 impl<'i> Lines<'i> {
-    ghost use Rattle.sj_lines.specs.Lines.{texts};
+    ghost use Rattle.std.specs.Prelude.{suc};
+    ghost use Rattle.sj_lines.specs.Lines.{full_lines, numbered, texts};
     ghost use Rattle.sj_lines.specs.Ahead.{ahead};
 
     /// Those of an input. It asks for no memory.
@@ -36,11 +37,30 @@ impl<'i> Lines<'i> {
         }
     }
 
-    /// The next line that has a text.
-    pub fn next(&mut self) -> Option<Line<'i>>
-        ensures none { IfNone result (ahead self.old ≡ []) }
-        ensures some { IfSome result (λ l. ahead self.old ≡ (l.number, l.text.now) ∷ ahead self.new) }
+    /// Those of an input behind so many lines, whose numbers go on: the first line has the number
+    /// `before` + 1. It asks for no memory.
+    pub fn behind(before: usize, input: &'i mut [u8]) -> Lines<'i>
+        requires { before + length input.old < 2 ^ 64 }
+        ensures { ahead result ≡ numbered (suc before) (full_lines input.entry.now) }
     {
+        Lines {
+            rest: input,
+            line: before,
+        }
+    }
+}
+
+impl<'i> Iterator for Lines<'i> {
+    type Item = Line<'i>;
+
+    ghost use Rattle.std.specs.Iterator.{YieldsFirstBy, item_count};
+    ghost use Rattle.sj_lines.specs.Ahead.{ahead, numbered_text};
+
+    ghost next_gives = { YieldsFirstBy numbered_text ahead };
+
+    ghost remaining = { item_count ahead };
+
+    fn next(&mut self) -> Option<Line<'i>> {
         loop {
             let rest = mem::take(&mut self.rest);
             if rest.is_empty() {

@@ -1,5 +1,5 @@
 -- The lines of a piece, and of what is behind it.
-use Rattle.std.proofs.Common.{◌≡◌, ℕ, zero, suc, ◌<◌, Bool, true, false, List, [], ◌∷◌, ◌++◌, Option, Some, None, IfSome, length, refl, sym, ap, ◌∙◌, subst, append_assoc, append-nil, take, get_or, arith, ◌+◌, ◌-◌, if◌then◌else◌, ◌==◌, inl, inr, eqb-true}
+use Rattle.std.proofs.Common.{◌≡◌, ℕ, ◌<◌, Bool, true, false, List, [], ◌∷◌, ◌++◌, Option, Some, None, IfSome, length, refl, sym, ap, ◌∙◌, subst, append_assoc, append-nil, take, get_or, arith, ◌+◌, ◌-◌, if◌then◌else◌, ◌==◌, inl, inr, eqb-true}
 use Rattle.std.specs.Prelude.{◌⊎◌}
 use Rattle.std.proofs.lemmas.List.{take_more, take_all}
 use Rattle.std.specs.Io.KnownBytes.{Consumes}

@@ -1,8 +1,8 @@
 -- Steps one after another are a reading of all texts.
-use Rattle.std.proofs.Common.{◌≡◌, ℕ, List, [], ◌∷◌, ◌++◌, Option, Result, Ok, Err, refl, subst, sym, ap, ◌∙◌, append_assoc, append-nil}
-use Rattle.sj_text_core.specs.Tree.{Tree}
-use Rattle.sj_stream.specs.declared.stream.Unread.{Unread}
-use Rattle.sj_stream.specs.Stream.{Steps}
+use Rattle.std.proofs.Common.{◌≡◌, ℕ, List, [], ◌∷◌, ◌++◌, Result, Ok, Err, refl, subst, sym, ap, ◌∙◌, append_assoc, append-nil}
+use Rattle.sj_stream.specs.declared.unread.Unread.{Unread}
+use Rattle.sj_stream.specs.declared.stream.Stream.{Stream}
+use Rattle.sj_stream.specs.Stream.{Steps, current, waiting}
 use Rattle.sj_stream.specs.Readings.{Answer, Answers, AreRefusals, refusals, onto_refusals}
 
 -- what was read of the texts, so that a reading of those ahead is one of all
@@ -22,14 +22,15 @@ refusals-append : (rs bs : List Answer) → refusals (rs ++ bs) ≡ refusals rs 
 refusals-append [] bs = refl
 refusals-append (a ∷ rs) bs = ap (onto_refusals a.0) (refusals-append rs bs) ∙ sym (onto-append a.0 (refusals rs) (refusals bs))
 
-pub ran-more : (all old new : List (ℕ × List ℕ)) (us : List Unread) (a : Result ℕ Unread) (t : Option Tree) → Ran all old us → Steps old a t new
-    → Ran all new (us ++ onto_refusals a [])
-ran-more all old new us a t r s = record {
-  answers = r.answers ++ (a, t) ∷ [];
-  goes_on = λ bs h. subst (λ (l : List Answer). Answers all l) (sym (append_assoc r.answers ((a, t) ∷ []) bs))
-      (r.goes_on ((a, t) ∷ bs) (subst (λ (ps : List (ℕ × List ℕ)). Answers ps ((a, t) ∷ bs)) (sym s.1) (refl, s.2, h)));
-  refused = refusals-append r.answers ((a, t) ∷ []) ∙ ap (λ l. l ++ onto_refusals a []) r.refused;
-}
+pub ran-more : (all : List (ℕ × List ℕ)) (old new : Stream) (us : List Unread) (a : Result ℕ Unread) → Ran all (waiting old) us → Steps old a new
+    → Ran all (waiting new) (us ++ onto_refusals a [])
+ran-more all old new us a r s =
+    let one : Answer = (a, current new) in record {
+      answers = r.answers ++ one ∷ [];
+      goes_on = λ bs h. subst (λ (l : List Answer). Answers all l) (sym (append_assoc r.answers (one ∷ []) bs))
+          (r.goes_on (one ∷ bs) (subst (λ (ps : List (ℕ × List ℕ)). Answers ps (one ∷ bs)) (sym s.1) (refl, s.2, h)));
+      refused = refusals-append r.answers (one ∷ []) ∙ ap (λ l. l ++ onto_refusals a []) r.refused;
+    }
 
 pub ran-all : (all ahead : List (ℕ × List ℕ)) (us : List Unread) → Ran all ahead us → ahead ≡ [] → AreRefusals all us
 ran-all all ahead us r e = (

@@ -1,3 +1,7 @@
+pub mod Answers
+pub mod Places
+pub mod Kept
+pub mod Reader
 pub mod Stream
 pub mod Readings
 pub use Rattle.sj_lines.specs.Lines

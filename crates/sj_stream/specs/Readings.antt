@@ -1,8 +1,8 @@
 -- A reading of all texts of an input, to the end of its stream.
 use Rattle.std.specs.Prelude.{◌≡◌, ℕ, List, [], ◌∷◌, Option, Result, Ok, Err, ⊤}
 use Rattle.sj_text_core.specs.Tree.{Tree}
-use Rattle.sj_stream.specs.declared.stream.Unread.{Unread}
-use Rattle.sj_stream.specs.Stream.{line_of, IsRead}
+use Rattle.sj_stream.specs.declared.unread.Unread.{Unread}
+use Rattle.sj_stream.specs.Answers.{line_of, IsRead}
 
 -- what a step answers, and the tree that it reads
 abbrev pub Answer : Type 0

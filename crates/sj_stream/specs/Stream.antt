@@ -1,36 +1,29 @@
 -- What is ahead in a stream, and what a step answers.
-use Rattle.std.specs.Prelude.{◌≡◌, ◌≢◌, ◌↔◌, ℕ, List, ◌∷◌, Option, Some, None, Result, Ok, Err, IsUtf8}
-use Rattle.sj_text_core.specs.Tree.{Tree, IsWithin}
-use Rattle.sj_text_core.specs.Grammar.{Spells, IsReadable}
-use Rattle.sj_text_core.specs.declared.error.ErrorKind.TheVariants.{InvalidUtf8, OutOfMemory}
+use Rattle.std.specs.Prelude.{◌≡◌, ℕ, List, ◌∷◌, Bool, Option, Result}
+use Rattle.sj_text_core.specs.Tree.{Tree}
 use Rattle.sj_lines.specs.Ahead.{ahead}
-use Rattle.sj_stream.specs.declared.stream.Slot.{Slot}
-use Rattle.sj_stream.specs.declared.stream.Slot.TheVariants.{Read, Spare}
-use Rattle.sj_stream.specs.declared.stream.Unread.{Unread}
 use Rattle.sj_stream.specs.declared.stream.Stream.{Stream}
+use Rattle.sj_stream.specs.declared.unread.Unread.{Unread}
+use Rattle.sj_stream.specs.Answers.{line_of, IsRead}
+use Rattle.sj_stream.specs.Places.{IsPlaced}
+use Rattle.sj_stream.specs.Reader.{tree_read, tells_places, line_kept}
 
 -- the texts ahead of a stream
 abbrev pub waiting : Stream → List (ℕ × List ℕ)
 waiting s = ahead s.lines
 
-abbrev pub slot_tree : Slot → Option Tree
-slot_tree (Read t) = Some t
-slot_tree (Spare s) = None
-
 -- the tree of the line that was read last, where it was read
 abbrev pub current : Stream → Option Tree
-current s = slot_tree s.slot
+current s = tree_read s.reader
 
--- which line an answer is of
-abbrev pub line_of : Result ℕ Unread → ℕ
-line_of (Ok n) = n
-line_of (Err u) = u.line
+-- whether the places of faults are told
+abbrev pub tells : Stream → Bool
+tells s = tells_places s.reader
 
--- t is what the text spells, or the text was refused and why says what may be said of it
-abbrev pub IsRead : List ℕ → Result ℕ Unread → Option Tree → Type 0
-IsRead s (Ok n) t = (u : Tree) × (t ≡ Some u) × Spells s u × IsWithin u
-IsRead s (Err u) t = (t ≡ None) × (u.why ≡ InvalidUtf8 ↔ ¬ (IsUtf8 s)) × (u.why ≢ InvalidUtf8 → u.why ≢ OutOfMemory → ¬ (IsReadable s))
+-- the text of the line that was read last, where it is kept
+abbrev pub kept : Stream → Option (List ℕ)
+kept s = line_kept s.reader
 
--- one text was taken off the front of those ahead, and this is its answer and its tree
-abbrev pub Steps : List (ℕ × List ℕ) → Result ℕ Unread → Option Tree → List (ℕ × List ℕ) → Type 0
-Steps old a t new = (s : List ℕ) × (old ≡ (line_of a, s) ∷ new) × IsRead s a t
+-- one text was taken off the front of those ahead, and this is its answer, with its tree and its place
+abbrev pub Steps : Stream → Result ℕ Unread → Stream → Type 0
+Steps old a new = (s : List ℕ) × (waiting old ≡ (line_of a, s) ∷ waiting new) × IsRead s a (current new) × IsPlaced (tells old) s a (kept new)

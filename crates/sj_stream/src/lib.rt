@@ -19,8 +19,12 @@
 //! ```
 #![tactic(auto)]
 
+mod line_reader;
 mod stream;
+mod unread;
 
+pub use line_reader::LineReader;
 pub use sj_lines::{Line, Lines};
 pub use sj_tape::{ErrorKind, Repeats, Value};
-pub use stream::{Stream, Unread, unread_lines};
+pub use stream::{Stream, unread_lines};
+pub use unread::{Place, Unread};

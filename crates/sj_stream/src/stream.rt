@@ -1,69 +1,61 @@
 //! The documents of an input, one after another, in memory that is used again.
 
-ghost use Rattle.std.specs.Prelude.{◌≡◌, None, [], IfNone, IfSome, IfOk, option_map};
+ghost use Rattle.std.specs.Prelude.{◌≡◌, None, true, false, [], IfNone, IfSome, IfOk, option_map};
 ghost use Rattle.sj_lines.specs.Lines.{texts};
 ghost use Rattle.sj_stream.specs.Readings.{AreRefusals};
 
+use crate::line_reader::LineReader;
+use crate::unread::Unread;
 use sj_lines::Lines;
-use sj_tape::{ErrorKind, JsonError, Repeats, Spare, Tape, Value, to_tape_with_spare};
+use sj_tape::{Repeats, Value};
 use std::alloc::{AllocError, Global};
-use std::mem;
-use thiserror::Error;
-
-/// A line that is not read.
-#[derive(Clone, Copy, Debug, PartialEq, Eq, Error)]
-#[error("line {line}: {why}")]
-pub struct Unread {
-    /// Which line of the input it is, from 1 on.
-    pub line: usize,
-    /// Why it is not read.
-    pub why: ErrorKind,
-}
-
-/// The number of the line is given up.
-impl From<Unread> for JsonError {
-    ghost use Rattle.std.specs.Prelude.{◌≡◌};
-    ghost use Rattle.sj_text_core.specs.Faults.{unread};
-
-    ghost from_gives = { λ line e. e ≡ unread line.why };
-
-    fn from(line: Unread) -> JsonError {
-        JsonError::from(line.why)
-    }
-}
-
-/// The document that stands, or the memory of the one before.
-#[derive(Drop)]
-pub(crate) enum Slot<'i> {
-    Read(Tape<'i>),
-    Spare(Spare<'i>),
-}
 
 /// The documents of an input of lines, each of which is one text.
 ///
 /// Lines without a text are passed over, and counted. Only a document that has more nodes than
-/// each before it makes the stream ask for memory.
+/// each before it makes the stream ask for memory, and with places a line that is longer than each
+/// before it.
 #[derive(Drop)]
 pub struct Stream<'i> {
-    alloc: Global,
     lines: Lines<'i>,
-    slot: Slot<'i>,
+    reader: LineReader<'i>,
 }
 
 impl<'i> Stream<'i> {
     ghost use Rattle.sj_tape.specs.Value.{tree, choice};
-    ghost use Rattle.sj_lines.specs.Lines.{texts};
-    ghost use Rattle.sj_stream.specs.Stream.{waiting, current, Steps};
+    ghost use Rattle.sj_lines.specs.Ahead.{ahead};
+    ghost use Rattle.sj_stream.specs.Stream.{waiting, current, tells, kept, Steps};
 
     /// That of an input. It asks for no memory.
     pub fn new(alloc: Global, input: &'i mut [u8]) -> Stream<'i>
         ensures waiting { waiting result ≡ texts input.entry.now }
         ensures current { current result ≡ None }
+        ensures tells { tells result ≡ false }
+    {
+        Stream::of_lines(alloc, Lines::new(input))
+    }
+
+    /// That of lines, as `Lines::behind` and `sj_pieces` number them. It asks for no memory.
+    pub fn of_lines(alloc: Global, lines: Lines<'i>) -> Stream<'i>
+        ensures waiting { waiting result ≡ ahead lines.entry }
+        ensures current { current result ≡ None }
+        ensures tells { tells result ≡ false }
     {
         Stream {
-            alloc,
-            lines: Lines::new(input),
-            slot: Slot::Spare(Spare::new(alloc)),
+            lines,
+            reader: LineReader::new(alloc),
+        }
+    }
+
+    /// The same, which from now on keeps each line's text as it came, and tells the places of faults.
+    pub fn with_places(self) -> Stream<'i>
+        ensures waiting { waiting result ≡ waiting self.entry }
+        ensures current { current result ≡ current self.entry }
+        ensures tells { tells result ≡ true }
+    {
+        Stream {
+            lines: self.lines,
+            reader: self.reader.with_places(),
         }
     }
 
@@ -71,25 +63,11 @@ impl<'i> Stream<'i> {
     /// where there is none any more. The next line is read whatever came of this one.
     pub fn advance(&mut self) -> Option<Result<usize, Unread>>
         ensures none { IfNone result (waiting self.old ≡ []) }
-        ensures some { IfSome result (λ a. Steps (waiting self.old) a (current self.new) (waiting self.new)) }
+        ensures some { IfSome result (λ a. Steps self.old a self.new) }
+        ensures tells { tells self.new ≡ tells self.old }
     {
         let line = self.lines.next()?;
-        let number = line.number;
-        let slot = mem::replace(&mut self.slot, Slot::Spare(Spare::new(self.alloc)));
-        let spare = spare_of(self.alloc, slot);
-        match to_tape_with_spare(line.text, spare) {
-            Ok(tape) => {
-                self.slot = Slot::Read(tape);
-                Some(Ok(number))
-            }
-            Err(refused) => {
-                self.slot = Slot::Spare(refused.value);
-                Some(Err(Unread {
-                    line: number,
-                    why: refused.why,
-                }))
-            }
-        }
+        Some(self.reader.read(line))
     }
 
     /// The document of the line that was read last; None where it was not read, or where none was.
@@ -97,17 +75,15 @@ impl<'i> Stream<'i> {
         ensures tree { option_map tree result ≡ current self.now }
         ensures choice { IfSome result (λ v. choice v ≡ repeats) }
     {
-        match &self.slot {
-            Slot::Read(tape) => Some(tape.as_value_repeats(repeats)),
-            Slot::Spare(_) => None,
-        }
+        self.reader.value(repeats)
     }
-}
 
-fn spare_of<'i>(alloc: Global, slot: Slot<'i>) -> Spare<'i> {
-    match slot {
-        Slot::Read(tape) => tape.into_spare(alloc),
-        Slot::Spare(spare) => spare,
+    /// The text of the line that was read last, as it came; None where no places are told, where memory
+    /// for it was refused, and where none was read.
+    pub fn text(&self) -> Option<&[u8]>
+        ensures { option_map (λ t. t.now) result ≡ kept self.now }
+    {
+        self.reader.text()
     }
 }
 

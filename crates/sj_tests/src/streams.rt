@@ -1,7 +1,8 @@
 //! Streams of documents. What is read is what Python's json reads of the same lines.
 
-use sj_lines::Lines;
-use sj_stream::{Repeats, Stream, unread_lines};
+use sj_lines::{Lines, line_count};
+use sj_pieces::Pieces;
+use sj_stream::{LineReader, Repeats, Stream, unread_lines};
 use sj_text_core::Writable;
 use std::alloc::Global;
 use std::test::Fail;
@@ -89,5 +90,91 @@ fn lines_have_numbers_and_texts(rt: HostRuntime) -> Result<(), Fail> {
         }
     }
     assert!(rt; lines.next().is_none());
+    Ok(())
+}
+
+/// Inputs behind ten lines, and what is told of them with places; the columns are those behind the longest
+/// beginning of a readable text, by a model that knows no machine.
+const PLACED: [(&[u8], &str); 3] = [
+    (
+        b"[1\n[2]\n \n[3] [4]\r\n\n[5]",
+        "line 11, column 3: syntax error; [2]; line 13, column 2: syntax error; line 14, column 5: syntax error; [5]; ",
+    ),
+    (
+        b"\xff\n\"\\ud800\"\n{\"n\":1.5}\n340282366920938463463374607431768211456",
+        "line 11, column 1: invalid UTF-8; line 12, column 8: lone surrogate; line 13, column 7: number with a fraction or an exponent; line 14, column 39: number too large; ",
+    ),
+    (
+        b"nul\n{\"id\":}\n\n\"\\u0041\"",
+        "line 11, column 4: syntax error; line 12, column 7: syntax error; \"\\u0041\"; ",
+    ),
+];
+
+/// What is told of the input by a stream with places, the texts as they came.
+fn told_with_places(alloc: Global, input: &[u8]) -> Result<String, Fail> {
+    let mut bytes = Vec::from_slice(alloc, input)?;
+    let mut stream = Stream::of_lines(alloc, Lines::behind(10, &mut bytes)).with_places();
+    let mut told = Vec::new(alloc);
+    while let Some(step) = stream.advance() {
+        match (step, stream.text()) {
+            (Ok(_), Some(text)) => told.extend_from_slice(text)?,
+            (Err(unread), Some(_)) => {
+                told.extend_from_slice(format!(in alloc; "{unread}")?.as_bytes())?
+            }
+            (_, None) => told.extend_from_slice(b"no text")?,
+        }
+        told.extend_from_slice(b"; ")?;
+    }
+    Ok(String::from_utf8(told)?)
+}
+
+#[test]
+fn places_are_told(rt: HostRuntime) -> Result<(), Fail> {
+    let alloc = rt.alloc();
+    for &(input, wanted) in &PLACED {
+        assert_eq!(rt; told_with_places(alloc, input)?.as_str(), wanted);
+    }
+    let mut bytes = Vec::from_slice(alloc, b"[1\n[2]")?;
+    let mut reader = LineReader::new(alloc);
+    assert!(rt; reader.value(Repeats::First).is_none() && reader.text().is_none());
+    let mut read = 0;
+    for line in Lines::new(&mut bytes) {
+        match reader.read(line) {
+            Ok(number) => {
+                read += number;
+                assert!(rt; reader.value(Repeats::First).is_some() && reader.text().is_none());
+            }
+            Err(unread) => assert!(rt; unread.line == 1 && unread.place.is_none()),
+        }
+    }
+    assert_eq!(rt; read, 2);
+    Ok(())
+}
+
+/// Of 100 lines of 3,000 bytes, which are two pieces, the last is behind 99 others.
+#[test]
+fn numbers_go_on_across_pieces(rt: HostRuntime) -> Result<(), Fail> {
+    let alloc = rt.alloc();
+    let mut input = Vec::new(alloc);
+    for _ in 0..100 {
+        input.resize(input.len() + 2999, b' ')?;
+        input.push(b'\n')?;
+    }
+    assert_eq!(rt; line_count(&input), 100);
+    let mut pieces = Pieces::new(input.as_slice());
+    let mut piece = Vec::new(alloc);
+    let (mut count, mut last) = (0, 0);
+    for _ in 0..3 {
+        if !pieces.next_piece(&mut piece)? {
+            break;
+        }
+        count += 1;
+        assert_eq!(rt; pieces.lines_before(), last);
+        for line in pieces.lines(&mut piece) {
+            assert_eq!(rt; line.number, last + 1);
+            last = line.number;
+        }
+    }
+    assert_eq!(rt; (count, last), (2, 100));
     Ok(())
 }

@@ -1,13 +1,16 @@
 -- Lines routed one after another.
-use Rattle.std.proofs.Common.{◌≡◌, ◌≢◌, ℕ, Bool, List, [], ◌∷◌, Option, Some, None, Result, Ok, Err, IsUtf8, refl, sym, ap, ◌∙◌, subst, inl, inr}
+use Rattle.std.proofs.Common.{◌≡◌, ◌≢◌, ℕ, Bool, true, List, [], ◌∷◌, Option, Some, None, Result, Ok, Err, IsUtf8, refl, sym, ap, ◌∙◌, subst, inl, inr}
 use Rattle.std.specs.Prelude.{◌⊎◌, ◌↔◌, IsTrue}
 use Rattle.sj_text_core.specs.Tree.{Tree, IsWithin}
 use Rattle.sj_text_core.specs.Grammar.{IsReadable, Spells}
 use Rattle.sj_text_core.specs.declared.error.ErrorKind.{ErrorKind}
 use Rattle.sj_text_core.specs.declared.error.ErrorKind.TheVariants.{InvalidUtf8, Syntax, LoneSurrogate, Float, NumberTooLarge, TooDeep, OutOfMemory}
 use Rattle.sj_text_core.proofs.Proper.{spells_utf8}
-use Rattle.sj_stream.specs.Stream.{IsRead, Steps}
-use Rattle.sj_stream.specs.declared.stream.Unread.{Unread}
+use Rattle.sj_stream.specs.Answers.{IsRead, line_of}
+use Rattle.sj_stream.specs.Places.{IsPlaced}
+use Rattle.sj_stream.specs.Stream.{Steps, current, kept, tells, waiting}
+use Rattle.sj_stream.specs.declared.stream.Stream.{Stream}
+use Rattle.sj_stream.specs.declared.unread.Unread.{Unread}
 use Rattle.sjroute.specs.Routed.{AllTaken, IsBroken, IsMessage, IsUnread, MeetsAny, Routed, TakesMessage, line_to, text_to}
 use Rattle.sjroute.specs.declared.routing.Route.{Route}
 
@@ -25,23 +28,24 @@ goes-on all first p old new rs ms g e one = λ last h. g last (subst (λ (ps : L
 pub goes-last : (all : List (ℕ × List ℕ)) (first now : List Route) (ahead : List (ℕ × List ℕ)) → GoesOn all first ahead now → ahead ≡ [] → Routed all first now
 goes-last all first now ahead g e = g now (subst (λ (ps : List (ℕ × List ℕ)). Routed ps now now) (sym e) refl)
 
--- the first of one list is the first of the other
-head_of : (ℕ × List ℕ) → List (ℕ × List ℕ) → ℕ × List ℕ
-head_of d [] = d
-head_of d (p ∷ ps) = p
+some_text-is : (x y : List ℕ) → Some x ≡ Some y → x ≡ y
+some_text-is x y e = ap (λ (o : Option (List ℕ)). elim o [ Some v ↦ v | None ↦ x ]) e
 
-tail_of : List (ℕ × List ℕ) → List (ℕ × List ℕ)
-tail_of [] = []
-tail_of (p ∷ ps) = ps
+some-none : (x : List ℕ) → Some x ≡ None → ⊥
+some-none x e = cc
 
--- the stream and the lines go on together
-pub same-line : (w v h k : List (ℕ × List ℕ)) (p : ℕ × List ℕ) (a : Result ℕ Unread) (t : Option Tree) → w ≡ h → h ≡ p ∷ k → Steps w a t v
-    → (v ≡ k) × IsRead p.1 a t
-unfolding tail_of head_of
-same-line w v h k p a t e f s =
-    let lines = sym s.1 ∙ e ∙ f in (
-      ap tail_of lines,
-      subst (λ (b : List ℕ). IsRead b a t) (ap (λ (ps : List (ℕ × List ℕ)). (head_of p ps).1) lines) s.2,
+kept-text : (x text : List ℕ) (a : Result ℕ Unread) (k : Option (List ℕ)) → Some text ≡ k → IsPlaced true x a k → x ≡ text
+kept-text x text (Ok n) k e h = sym (some_text-is text x (e ∙ h))
+kept-text x text (Err u) k e (h, inl g) = sym (some_text-is text x (e ∙ g))
+kept-text x text (Err u) k e (h, inr g) = absurd (some-none text (e ∙ g.0))
+
+-- the text that is kept is the one that was taken off
+pub taken-text : (old new : Stream) (text : List ℕ) (a : Result ℕ Unread) → tells old ≡ true → Some text ≡ kept new → Steps old a new
+    → (waiting old ≡ (line_of a, text) ∷ waiting new) × IsRead text a (current new)
+taken-text old new text a told e s =
+    let same : s.0 ≡ text = kept-text s.0 text a (kept new) e (subst (λ (b : Bool). IsPlaced b s.0 a (kept new)) told s.3) in (
+      s.1 ∙ ap (λ (x : List ℕ). (line_of a, x) ∷ waiting new) same,
+      subst (λ (x : List ℕ). IsRead x a (current new)) same s.2,
     )
 
 some-is : (t u : Tree) → Some t ≡ Some u → t ≡ u

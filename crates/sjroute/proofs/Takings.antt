@@ -1,7 +1,7 @@
 -- Outputs that take a message, one after another.
 use Rattle.std.proofs.Common.{◌≡◌, ℕ, zero, suc, ◌+◌, ◌<◌, length, take, drop, set, get_or, add-one, arith, Bool, true, false, List, [], ◌∷◌, ◌++◌, refl, sym, ap, ◌∙◌, subst, append-nil, append_assoc, inl, inr, if◌then◌else◌}
 use Rattle.std.proofs.lemmas.List.{take_more, take_more_set, drop-set-lt}
-use Rattle.std.specs.Prelude.{◌↔◌, ◌⊎◌, IsTrue}
+use Rattle.std.specs.Prelude.{◌↔◌, IsTrue}
 use Rattle.sj_text_core.specs.Tree.{Tree}
 use Rattle.sjroute.specs.Routed.{AllTaken, Grown, IsUnmet, MeetsAny, MeetsRule, Taken, TakesMessage, line_of, line_to}
 use Rattle.sjroute.specs.declared.routing.Takes.{Takes}

@@ -1,6 +1,6 @@
 //! Why the program ended before its input did.
 
-use crate::rules::RuleFault;
+use crate::flaw::RuleFault;
 use sj_fault::Fault as Place;
 use sj_text_core::{ErrorKind, JsonError};
 use std::alloc::{AllocError, AllocFailed};

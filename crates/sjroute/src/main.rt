@@ -5,6 +5,8 @@
 #![tactic(auto)]
 
 mod fault;
+mod files;
+mod flaw;
 mod found;
 mod outputs;
 mod piece;

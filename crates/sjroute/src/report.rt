@@ -1,7 +1,7 @@
 //! What is told on standard error.
 
-use crate::piece::Broken;
 use crate::routing::Route;
+use sj_stream::Unread;
 use std::io;
 
 /// How many lines there were.
@@ -32,12 +32,9 @@ pub fn tell(rt: &impl Eprint, counts: Counts, routes: &[Route]) -> io::Result<()
 }
 
 /// Tells where lines were not read. What can't be told is left.
-pub fn tell_broken(rt: &impl Eprint, broken: &[Broken], before: u64) {
+pub fn tell_broken(rt: &impl Eprint, broken: &[Unread]) {
     for line in broken {
-        let number = before.saturating_add(line.number);
-        let column = line.column;
-        let why = line.why;
-        let _ = eprintln!(rt; "line {number}, column {column}: {why}");
+        let _ = eprintln!(rt; "{line}");
     }
 }
 

@@ -1,5 +1,6 @@
 //! The routes of a file of rules.
 
+use crate::flaw::{Flaw, RuleFault};
 use crate::routing::{Route, Takes};
 use crate::rule::{Rule, Test};
 use sj_kinds::Kind;
@@ -7,58 +8,38 @@ use sj_owned::Value;
 use sj_owned::prelude::*;
 use sj_pointer::{Pointer, PointerError, pointer};
 use std::alloc::{AllocError, AllocFailed, Global};
-use thiserror::Error;
 
-/// What a route has to be.
-#[derive(Clone, Copy, Debug, PartialEq, Eq, Error)]
-pub enum Flaw {
-    #[error("an object")]
-    NoObject,
-    #[error("no member but output, pointer, key, value, kind, merge and takes")]
-    Member,
-    #[error("a string as \"output\", which no other route has")]
-    Output,
-    #[error("\"unmet\" or \"unread\" as \"takes\", and no rule beside it")]
-    Takes,
-    #[error("a JSON pointer as \"pointer\", or a string as \"key\", and not both")]
-    Place,
-    #[error("\"null\", \"bool\", \"number\", \"string\", \"array\" or \"object\" as \"kind\", and no \"value\" beside it")]
-    Kind,
-}
-
-/// Why a file of rules has no routes.
-#[derive(Clone, Copy, Debug, PartialEq, Eq, Error)]
-pub enum RuleFault {
-    #[error("expected an array of routes")]
-    NoRoutes,
-    /// The route at that place is none.
-    #[error("at /{0}: expected {1}")]
-    Route(usize, Flaw),
-    #[error("out of memory")]
+/// Why an item is no route.
+#[derive(Drop)]
+enum Wrong<'m> {
+    Route(Flaw),
+    /// For its member of that name.
+    Member(&'m str, Flaw),
     OutOfMemory,
 }
 
-/// Why a member of a route is not what it has to be.
-#[derive(Clone, Copy, Debug, PartialEq, Eq)]
-enum Wrong {
-    Flaw(Flaw),
-    OutOfMemory,
-}
-
-impl From<Flaw> for Wrong {
-    fn from(flaw: Flaw) -> Wrong {
-        Wrong::Flaw(flaw)
+impl Wrong<'_> {
+    /// The fault of the item at that place.
+    fn at(self, alloc: Global, index: usize) -> RuleFault {
+        match self {
+            Wrong::Route(flaw) => RuleFault::Route(index, flaw),
+            Wrong::Member(name, flaw) => match pointer_to(alloc, name) {
+                Ok(place) => RuleFault::Member(index, place, flaw),
+                Err(_) => RuleFault::OutOfMemory,
+            },
+            Wrong::OutOfMemory => RuleFault::OutOfMemory,
+        }
     }
 }
 
-impl From<AllocError> for Wrong {
-    fn from(_error: AllocError) -> Wrong {
+impl From<AllocError> for Wrong<'_> {
+    fn from(_error: AllocError) -> Self {
         Wrong::OutOfMemory
     }
 }
 
-impl<T: Drop> From<AllocFailed<T>> for Wrong {
-    fn from(_error: AllocFailed<T>) -> Wrong {
+impl<T: Drop> From<AllocFailed<T>> for Wrong<'_> {
+    fn from(_error: AllocFailed<T>) -> Self {
         Wrong::OutOfMemory
     }
 }
@@ -67,6 +48,9 @@ impl<T: Drop> From<AllocFailed<T>> for Wrong {
 const MEMBERS: [&str; 7] = [
     "output", "pointer", "key", "value", "kind", "merge", "takes",
 ];
+
+/// Those that are of a rule.
+const OF_RULES: [&str; 4] = ["pointer", "key", "value", "kind"];
 
 /// The routes that the document lists, in order.
 pub fn routes_of(alloc: Global, document: &Value) -> Result<Vec<Route>, RuleFault> {
@@ -81,25 +65,23 @@ pub fn routes_of(alloc: Global, document: &Value) -> Result<Vec<Route>, RuleFaul
                     return Err(RuleFault::OutOfMemory);
                 }
             }
-            Err(Wrong::Flaw(flaw)) => return Err(RuleFault::Route(index, flaw)),
-            Err(Wrong::OutOfMemory) => return Err(RuleFault::OutOfMemory),
+            Err(wrong) => return Err(wrong.at(alloc, index)),
         }
     }
     Ok(routes)
 }
 
 /// The route of an item behind those.
-fn route_of(alloc: Global, item: &Value, before: &[Route]) -> Result<Route, Wrong> {
+fn route_of<'m>(alloc: Global, item: &'m Value, before: &[Route]) -> Result<Route, Wrong<'m>> {
     let Some(members) = item.as_object() else {
-        return Err(Wrong::Flaw(Flaw::NoObject));
+        return Err(Wrong::Route(Flaw::NoObject));
     };
-    if !members.keys().all(|key| MEMBERS.contains(&key.as_str())) {
-        return Err(Wrong::Flaw(Flaw::Member));
+    for key in members.keys() {
+        if !MEMBERS.contains(&key.as_str()) {
+            return Err(Wrong::Member(key.as_str(), Flaw::Unknown));
+        }
     }
-    let output = match item.get_str("output") {
-        Some(output) if !before.iter().any(|route| route.output.as_str() == output) => output,
-        _ => return Err(Wrong::Flaw(Flaw::Output)),
-    };
+    let output = output_of(item, before)?;
     let merge = match item.get("merge") {
         Some(patch) => Some(patch.clone()?),
         None => None,
@@ -113,42 +95,65 @@ fn route_of(alloc: Global, item: &Value, before: &[Route]) -> Result<Route, Wron
     })
 }
 
+/// The item's output, which no route before it has.
+fn output_of<'m>(item: &'m Value, before: &[Route]) -> Result<&'m str, Wrong<'m>> {
+    let Some(output) = item.get("output") else {
+        return Err(Wrong::Route(Flaw::NoOutput));
+    };
+    let Some(output) = output.as_str() else {
+        return Err(Wrong::Member("output", Flaw::NoString));
+    };
+    if before.iter().any(|route| route.output.as_str() == output) {
+        return Err(Wrong::Member("output", Flaw::IsOutput));
+    }
+    Ok(output)
+}
+
 /// Which lines the item's output takes.
-fn takes_of(alloc: Global, item: &Value) -> Result<Takes, Wrong> {
+fn takes_of<'m>(alloc: Global, item: &'m Value) -> Result<Takes, Wrong<'m>> {
     let Some(takes) = item.get("takes") else {
         return Ok(Takes::Met(Rule {
             place: place_of(alloc, item)?,
             test: test_of(item)?,
         }));
     };
-    let has_rule = ["pointer", "key", "value", "kind"]
-        .iter()
-        .any(|member| item.contains_key(member));
+    for member in OF_RULES {
+        if item.contains_key(member) {
+            return Err(Wrong::Member("takes", Flaw::Beside(member)));
+        }
+    }
     match takes.as_str() {
-        Some("unmet") if !has_rule => Ok(Takes::Unmet),
-        Some("unread") if !has_rule && !item.contains_key("merge") => Ok(Takes::Unread),
-        _ => Err(Wrong::Flaw(Flaw::Takes)),
+        Some("unmet") => Ok(Takes::Unmet),
+        Some("unread") if item.contains_key("merge") => {
+            Err(Wrong::Member("merge", Flaw::MergeUnread))
+        }
+        Some("unread") => Ok(Takes::Unread),
+        _ => Err(Wrong::Member("takes", Flaw::NoTakes)),
     }
 }
 
 /// The place that the item's rule asks about: the whole message where it names none.
-fn place_of(alloc: Global, item: &Value) -> Result<Pointer, Wrong> {
-    let read = match (item.get("pointer"), item.get("key")) {
-        (None, None) => pointer(alloc, ""),
+fn place_of<'m>(alloc: Global, item: &'m Value) -> Result<Pointer, Wrong<'m>> {
+    match (item.get("pointer"), item.get("key")) {
+        (None, None) => read_pointer(alloc, ""),
         (Some(text), None) => match text.as_str() {
-            Some(text) => pointer(alloc, text),
-            None => return Err(Wrong::Flaw(Flaw::Place)),
+            Some(text) => read_pointer(alloc, text),
+            None => Err(Wrong::Member("pointer", Flaw::NoString)),
         },
         (None, Some(key)) => match key.as_str() {
-            Some(key) => pointer(alloc, pointer_to(alloc, key)?.as_str()),
-            None => return Err(Wrong::Flaw(Flaw::Place)),
+            Some(key) => read_pointer(alloc, pointer_to(alloc, key)?.as_str()),
+            None => Err(Wrong::Member("key", Flaw::NoString)),
         },
-        (Some(_), Some(_)) => return Err(Wrong::Flaw(Flaw::Place)),
-    };
-    match read {
+        (Some(_), Some(_)) => Err(Wrong::Member("key", Flaw::Beside("pointer"))),
+    }
+}
+
+fn read_pointer(alloc: Global, text: &str) -> Result<Pointer, Wrong<'static>> {
+    match pointer(alloc, text) {
         Ok(place) => Ok(place),
         Err(PointerError::OutOfMemory) => Err(Wrong::OutOfMemory),
-        Err(PointerError::NoSlash | PointerError::BadTilde) => Err(Wrong::Flaw(Flaw::Place)),
+        Err(PointerError::NoSlash) => Err(Wrong::Member("pointer", Flaw::NoSlash)),
+        Err(PointerError::BadTilde) => Err(Wrong::Member("pointer", Flaw::BadTilde)),
     }
 }
 
@@ -166,14 +171,14 @@ fn pointer_to(alloc: Global, key: &str) -> Result<String, AllocError> {
 }
 
 /// What has to stand there.
-fn test_of(item: &Value) -> Result<Test, Wrong> {
+fn test_of<'m>(item: &'m Value) -> Result<Test, Wrong<'m>> {
     match (item.get("value"), item.get("kind")) {
         (None, None) => Ok(Test::There),
         (Some(value), None) => Ok(Test::Same(value.clone()?)),
         (None, Some(kind)) => match kind.as_str().and_then(Kind::of_name) {
             Some(kind) => Ok(Test::Kind(kind)),
-            None => Err(Wrong::Flaw(Flaw::Kind)),
+            None => Err(Wrong::Member("kind", Flaw::NoKind)),
         },
-        (Some(_), Some(_)) => Err(Wrong::Flaw(Flaw::Kind)),
+        (Some(_), Some(_)) => Err(Wrong::Member("kind", Flaw::Beside("value"))),
     }
 }

@@ -1,5 +1,7 @@
 //! The program, on any runtime.
 
+ghost use Rattle.std.specs.Prelude.{◌+◌, ◌<◌, ◌^◌, length};
+
 use crate::fault::Fault;
 use crate::outputs::{Output, open, write_all};
 use crate::piece::route_piece;
@@ -7,8 +9,7 @@ use crate::reading::read_routes;
 use crate::report::{Counts, tell, tell_broken, tell_progress};
 use crate::routing::Route;
 use crate::words::{HELP, Task, asked};
-use memchr::{memchr_iter, memrchr};
-use sj_pieces::next_piece;
+use sj_pieces::Pieces;
 use std::io::{self, BufReader, ErrorKind};
 use std::rt::{Env, Files};
 
@@ -59,18 +60,19 @@ fn route_all<R>(
 where
     R: Files + Input + Print + Eprint + AllocGlobal,
 {
-    let mut reader = BufReader::with_capacity(rt.alloc(), ROOM, rt.reader()).map_err(input_fault)?;
+    let reader = BufReader::with_capacity(rt.alloc(), ROOM, rt.reader()).map_err(input_fault)?;
+    let mut pieces = Pieces::new(reader);
     let mut piece = Vec::new(rt.alloc());
-    let mut copy = Vec::new(rt.alloc());
-    let mut before = 0_u64;
     for turn in 0..PIECES {
-        let read = next_piece(&mut reader, &mut piece);
-        if read.is_err() {
-            piece.truncate(memrchr(b'\n', &piece).map_or(0, |end| end + 1));
-        }
-        let ends = memchr_iter(b'\n', &piece).count();
-        route_one(rt, routes, outputs, counts, &mut piece, &mut copy, before)?;
-        before = before.saturating_add(ends as u64);
+        let read = pieces.next_piece(&mut piece);
+        route_one(
+            rt,
+            routes,
+            outputs,
+            counts,
+            pieces.lines_before(),
+            &mut piece,
+        )?;
         if !read.map_err(input_fault)? {
             return Ok(());
         }
@@ -81,25 +83,23 @@ where
     Ok(())
 }
 
-/// Routes the lines of a piece, in room for its copy, and writes them, behind so many lines. What waits is
-/// written also where one of them ends the run.
+/// Routes the lines of a piece behind so many lines, and writes them. What waits is written also where one
+/// of them ends the run.
 fn route_one<R>(
     rt: &R,
     routes: &mut [Route],
     outputs: &mut [Output<R::File>],
     counts: &mut Counts,
+    before: usize,
     piece: &mut [u8],
-    copy: &mut Vec<u8>,
-    before: u64,
 ) -> Result<(), Fault>
 where
     R: Files + Print + Eprint + AllocGlobal,
+    requires { before + length piece.old < 2 ^ 64 }
 {
-    copy.clear();
-    copy.extend_from_slice(piece)?;
     let mut broken = Vec::new(rt.alloc());
-    let routed = route_piece(rt.alloc(), routes, piece, copy, counts, &mut broken);
-    tell_broken(rt, &broken, before);
+    let routed = route_piece(rt.alloc(), routes, before, piece, counts, &mut broken);
+    tell_broken(rt, &broken);
     write_all(rt, routes, outputs)?;
     routed?;
     Ok(())

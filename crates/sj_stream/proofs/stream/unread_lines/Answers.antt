@@ -1,8 +1,8 @@
 use Rattle.std.proofs.Common.{List, [], ◌++◌, sym, subst, ap, ◌∙◌, append-nil}
-use Rattle.sj_stream.specs.declared.stream.Unread.{Unread}
+use Rattle.sj_stream.specs.declared.unread.Unread.{Unread}
 use Rattle.sj_lines.specs.Lines.{texts}
 use Rattle.sj_stream.specs.Readings.{onto_refusals}
-use Rattle.sj_stream.specs.Stream.{waiting, current}
+use Rattle.sj_stream.specs.Stream.{waiting}
 use Rattle.sj_stream.proofs.Runs.{Ran, ran-none, ran-more, ran-all}
 use Rattle.sj_stream.proofs.stream.unread_lines.Goals as goal
 
@@ -14,13 +14,13 @@ pub loop-answer-preserved-in-Continue-1 : goal.loop-answer-preserved-in-Continue
 loop-answer-preserved-in-Continue-1 c =
     let new = c.advance.new.self in
     let e = ap (λ a. c.loop-answer.found.items ++ onto_refusals a []) c.in-Err.is ∙ sym c.in_ok-push.ensures.items in
-    subst (λ (us : List Unread). Ran (texts c.args.input.now) (waiting new) us) e (ran-more _ _ (waiting new) _ c.in-Some.answer (current new) c.loop-answer.invariant c.in-Some.ensures.some)
+    subst (λ (us : List Unread). Ran (texts c.args.input.now) (waiting new) us) e (ran-more _ c.loop-answer.stream new _ c.in-Some.answer c.loop-answer.invariant c.in-Some.ensures.some)
 
 pub loop-answer-preserved : goal.loop-answer-preserved
 loop-answer-preserved c =
     let new = c.advance.new.self in
     let e = ap (λ a. c.loop-answer.found.items ++ onto_refusals a []) c.in_default-answer.is ∙ append-nil c.loop-answer.found.items in
-    subst (λ (us : List Unread). Ran (texts c.args.input.now) (waiting new) us) e (ran-more _ _ (waiting new) _ c.in-Some.answer (current new) c.loop-answer.invariant c.in-Some.ensures.some)
+    subst (λ (us : List Unread). Ran (texts c.args.input.now) (waiting new) us) e (ran-more _ c.loop-answer.stream new _ c.in-Some.answer c.loop-answer.invariant c.in-Some.ensures.some)
 
 pub returns : goal.returns
 returns c = ran-all _ _ _ c.loop-answer.invariant c.in_default.ensures.none

@@ -1,4 +1,4 @@
-use Rattle.std.proofs.Common.{◌≡◌, Bool, true, false, List, sym, subst, rules}
+use Rattle.std.proofs.Common.{◌≡◌, Bool, true, false, sym, subst, rules}
 use Rattle.sj_tape.specs.Value.{tree}
 use Rattle.sjroute.specs.Routed.{AllTaken, TakesMessage, line_to}
 use Rattle.sjroute.proofs.Takings.{all_met, all_both}

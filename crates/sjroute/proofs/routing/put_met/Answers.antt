@@ -1,4 +1,4 @@
-use Rattle.std.proofs.Common.{rules, ◌≡◌, true, ◌+◌, get_or, ap, arith, sym, subst, Bool, take, ◌++◌, ◌∷◌, []}
+use Rattle.std.proofs.Common.{rules, ◌≡◌, true, ◌+◌, get_or, ap, arith, sym, subst, Bool, take}
 use Rattle.std.specs.Prelude.{◌↔◌, IsTrue}
 use Rattle.sj_tape.specs.Value.{tree}
 use Rattle.sjroute.specs.Routed.{MeetsAny, MeetsRule, line_to}

@@ -1,10 +1,10 @@
 use Rattle.std.proofs.Common.{rules, ◌≡◌, ℕ, suc, ◌+◌, ◌<◌, ◌≤◌, ◌∷◌, List, length, take, sym, ◌∙◌, ap, add-one, arith, length-take}
 use Rattle.sj_lines.specs.Lines.{full_lines, line_text, numbered}
 use Rattle.sj_lines.proofs.Steps.{First, given, passed}
-use Rattle.sj_lines.proofs.lines.Lines.next.Goals as goal
+use Rattle.sj_lines.proofs.lines.LinesIterator.next.Goals as goal
 
-pub returns-then-len-gt0-clause-some : goal.returns-then-len-gt0-clause-some
-returns-then-len-gt0-clause-some c =
+pub returns-then-len-gt0-clause-steps : goal.returns-then-len-gt0-clause-steps
+returns-then-len-gt0-clause-steps c =
     let k = c.loop-self.self.line in
     let rest = c.take-rest.result.now in
     let line = c.split_at_mut-line.result.0.now in
@@ -16,6 +16,11 @@ returns-then-len-gt0-clause-some c =
     let e : suc k ≡ k + 1 = sym (add-one k) in
     let took : c.loop-self.self.rest.now ≡ rest = search (c.take-rest.ensures.value, c.take-rest.ensures.after, rules) in
     c.loop-self.invariant ∙ ap (λ (r : List ℕ). numbered (suc k) (full_lines r)) took ∙ given k rest line behind text f t some ∙ (λ i. (e i, text) ∷ numbered (suc (e i)) (full_lines behind))
+
+pub returns-then-len-gt0-clause-goes : goal.returns-then-len-gt0-clause-goes
+returns-then-len-gt0-clause-goes c =
+    let left = ap (λ (l : List (ℕ × List ℕ)). length l) (returns-then-len-gt0-clause-steps c) in
+    search (rules, left)
 
 pub loop-self-preserved : goal.loop-self-preserved
 loop-self-preserved c =
