@@ -13,6 +13,7 @@ import itertools
 import multiprocessing
 import queue
 import random
+import re
 import subprocess
 import sys
 import time
@@ -192,6 +193,12 @@ def wanted(given, words):
     return (0, written, b''), written.count(b'\n')
 
 
+def without_place(told):
+    """The first line of a refusal, where the second has a place; tools/faults.py compares places."""
+    name, feed, place = told.partition(b'\n')
+    return name + feed if re.fullmatch(rb'line \d+, column \d+: [a-zA-Z0-9 -]+\n', place) else b'no place behind ' + told
+
+
 def tried(program, ways, seed):
     """Runs one input in each way; how many cases passed and failed, and of each failure the words and what came."""
     sys.setrecursionlimit(20000)
@@ -201,7 +208,7 @@ def tried(program, ways, seed):
         want, counted = wanted(given, words.split())
         try:
             ran = subprocess.run([program, *words.split()], input=given, capture_output=True, timeout=60)
-            got = ran.returncode, ran.stdout, ran.stderr
+            got = ran.returncode, ran.stdout, without_place(ran.stderr) if ran.returncode == 3 else ran.stderr
         except subprocess.TimeoutExpired:
             got = 'no end within a minute', b'', b''
         if got == want:

@@ -75,10 +75,10 @@ session 'CR LF' owned '[1]\r\n---\r\n["encode",[]]\r\n' 0 '[1]\n' ''
 session 'borrowed' borrowed '{"a":1,"a":2}\n---\n["len",[]]\n["pop",[]]\n["encode",[]]\n' 0 '1\nnot an array\n{"a":1}\n' ''
 session 'lazy, read and written' lazy '{"key": "value", "snot": 42}\n---\n["str",["key"]]\n["insert",[],"new",42]\n["keys",[]]\n["fits",["snot"],"i8"]\n["remove",[],"snot"]\n["encode",[]]\n' 0 '"value"\nnone\n["key","snot","new"]\ntrue\n42\n{"key":"value","new":42}\n' ''
 session 'lazy, repeats until a write' lazy '{"a":1,"a":2}\n---\n["len",[]]\n["pop",[]]\n["encode",[]]\n' 0 '2\nnot an array\n{"a":1}\n' ''
-session 'a text refused as lazy' lazy '[1,]' 3 '' 'text refused: Syntax\n'
+session 'a text refused as lazy' lazy '[1,]' 3 '' 'text refused: Syntax\nline 1, column 4: syntax error\n'
 session 'a pretty print' borrowed '{"a":[1,{}]}\n---\n["encode_pp",[]]\n' 0 '{\n  "a": [\n    1,\n    {}\n  ]\n}\n' ''
 session 'escapes' borrowed '{"q\\"k":"a\\/b\\u0041"}\n---\n["encode",[]]\n' 0 '{"q\\"k":"a/bA"}\n' ''
-session 'a text refused as borrowed' borrowed '[1,]' 3 '' 'text refused: Syntax\n'
+session 'a text refused as borrowed' borrowed '[1,]' 3 '' 'text refused: Syntax\nline 1, column 4: syntax error\n'
 session 'a line that is no command' owned 'null\n---\n["nonsense"]\n' 0 'bad command\n' ''
 session 'no words' '' 'null' 2 '' "$usage"
 session 'a word too many' 'owned known known' 'null' 2 '' "$usage"
@@ -90,16 +90,16 @@ session 'a word that is not UTF-8' $'\xff' 'null' 2 '' "$usage"
 session 'a second word that is not UTF-8' $'owned \xff' 'null' 2 '' "$usage"
 session 'lazy by known key' 'lazy known' 'null' 2 '' "$usage"
 session 'lazy by known key with the last' 'lazy known last' 'null' 2 '' "$usage"
-session 'the empty text' owned '' 3 '' 'text refused: Syntax\n'
-session 'no UTF-8' owned '"\xff"' 3 '' 'text refused: InvalidUtf8\n'
-session 'a fraction' owned '[1.5]' 3 '' 'text refused: Float\n'
-session 'half a pair' owned '"\\ud83d"' 3 '' 'text refused: LoneSurrogate\n'
-session 'a large number' owned '340282366920938463463374607431768211456' 3 '' 'text refused: NumberTooLarge\n'
-session 'the first line is ---' owned '---\n["encode",[]]\n' 3 '' 'text refused: Syntax\n'
+session 'the empty text' owned '' 3 '' 'text refused: Syntax\nline 1, column 1: syntax error\n'
+session 'no UTF-8' owned '"\xff"' 3 '' 'text refused: InvalidUtf8\nline 1, column 2: invalid UTF-8\n'
+session 'a fraction' owned '[1,\n 2.5]\n---\n' 3 '' 'text refused: Float\nline 2, column 3: number with a fraction or an exponent\n'
+session 'half a pair' owned '"\\ud83d"' 3 '' 'text refused: LoneSurrogate\nline 1, column 8: lone surrogate\n'
+session 'a large number' owned '340282366920938463463374607431768211456' 3 '' 'text refused: NumberTooLarge\nline 1, column 39: number too large\n'
+session 'the first line is ---' owned '---\n["encode",[]]\n' 3 '' 'text refused: Syntax\nline 1, column 1: syntax error\n'
 
 printf '[%.0s' {1..1025} | "$program" owned > out 2> err
 status=$?
-expect 'nested too deep' 3 '' 'text refused: TooDeep\n'
+expect 'nested too deep' 3 '' 'text refused: TooDeep\nline 1, column 1025: nested too deep\n'
 
 "$program" < / > out 2> err
 status=$?
@@ -150,7 +150,7 @@ for words in owned 'owned known' borrowed 'borrowed known'; do
   session "first values, $words" "$words" "$repeats" 0 '1\n4\n2\n["a","b"]\nnot an array\n{"a":1,"b":{"c":4}}\nnone\n{"q":1}\n' ''
   session "last values, $words" "$words last" "$repeats" 0 '[6]\n5\n2\n["a","b"]\nnot an array\n{"a":[6],"b":{"c":5}}\nnone\n{"q":1}\n' ''
   session "last in the place of the first, $words" "$words last" '{"a":1,"b":2,"a":3}\n---\n["encode",[]]\n' 0 '{"a":3,"b":2}\n' ''
-  session "a text refused, $words" "$words last" '[1,]' 3 '' 'text refused: Syntax\n'
+  session "a text refused, $words" "$words last" '[1,]' 3 '' 'text refused: Syntax\nline 1, column 4: syntax error\n'
   table "$words"
 done
 

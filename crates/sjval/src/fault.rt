@@ -1,5 +1,6 @@
 //! Why the program gave no replies.
 
+use sj_fault::{Fault as Place, fault_at};
 use sj_run::SessionFault;
 use sj_text_core::ErrorKind;
 use std::alloc::AllocError;
@@ -11,8 +12,10 @@ use thiserror::Error;
 pub enum Fault {
     #[error("usage: sjval owned|borrowed|lazy [known] [last]")]
     Usage,
+    /// Why the document was refused, and where no readable text goes on so; None where memory for a
+    /// copy to look at was refused.
     #[error("text refused: {0:?}")]
-    Refused(ErrorKind),
+    Refused(ErrorKind, Option<Place>),
     #[error("out of memory")]
     OutOfMemory,
     #[error("too long")]
@@ -26,7 +29,7 @@ impl Fault {
     pub fn status(&self) -> u8 {
         match self {
             Fault::Usage => 2,
-            Fault::Refused(_) => 3,
+            Fault::Refused(..) => 3,
             Fault::OutOfMemory | Fault::TooLong => 4,
             Fault::Failed => 5,
         }
@@ -45,11 +48,12 @@ impl From<io::Error> for Fault {
     }
 }
 
-impl From<SessionFault> for Fault {
-    fn from(fault: SessionFault) -> Fault {
+impl Fault {
+    /// The fault of a session whose document is that copy.
+    pub fn of_session(fault: SessionFault, document: Option<&[u8]>) -> Fault {
         match fault {
             SessionFault::Usage => Fault::Usage,
-            SessionFault::Refused(kind) => Fault::Refused(kind),
+            SessionFault::Refused(kind) => Fault::Refused(kind, document.and_then(fault_at)),
             SessionFault::OutOfMemory => Fault::OutOfMemory,
             SessionFault::TooLong => Fault::TooLong,
         }

@@ -14,7 +14,9 @@ mod words;
 use crate::fault::Fault;
 use crate::input::read_input;
 use crate::words::{chosen, words};
+use sj_commands::cut_at_mark;
 use sj_run::session_repeats;
+use std::alloc::{AllocError, Global};
 use std::io::{self, Write};
 use std::process::ExitCode;
 use std::rt::Env;
@@ -24,17 +26,27 @@ fn run(rt: &(impl Env + Input + Print + AllocGlobal)) -> Result<(), Fault> {
         return Err(Fault::Usage);
     };
     let mut input = read_input(rt.alloc(), rt.reader())?;
+    let document = document_of(rt.alloc(), &input);
     let mut out = Vec::new(rt.alloc());
-    session_repeats(
+    let answered = session_repeats(
         rt.alloc(),
         form,
         way,
         repeats,
         input.as_mut_slice(),
         &mut out,
-    )?;
+    );
+    if let Err(fault) = answered {
+        return Err(Fault::of_session(fault, document.as_deref()));
+    }
     io::writer(rt).write_all(out.as_slice())?;
     Ok(())
+}
+
+/// A copy of the document, since a session changes the bytes; None without memory for it.
+fn document_of(alloc: Global, input: &[u8]) -> Option<Vec<u8>> {
+    let copy: Result<Vec<u8>, AllocError> = input[..cut_at_mark(input).document].to_vec(alloc);
+    copy.ok()
 }
 
 fn main(rt: HostRuntime) -> ExitCode {
@@ -42,6 +54,9 @@ fn main(rt: HostRuntime) -> ExitCode {
         Ok(()) => ExitCode::SUCCESS,
         Err(fault) => {
             let _ = eprintln!(rt; "{fault}");
+            if let Fault::Refused(_, Some(place)) = &fault {
+                let _ = eprintln!(rt; "{place}");
+            }
             ExitCode::from(fault.status())
         }
     }
