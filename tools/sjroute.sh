@@ -93,23 +93,55 @@ wrong 'rules with a fraction' '[{"output":"o","key":"a","value":1.5}]' 'line 1, 
 wrong 'rules that end too soon' '[{"output":"o"}' 'line 1, column 16: syntax error'
 wrong 'rules that are no array' '{"output":"o"}' 'expected an array of routes'
 wrong 'a route that is no object' '[{"output":"o"},7]' 'at /1: expected an object'
-wrong 'a member of no meaning' '[{"output":"o","vlaue":1}]' 'at /0: expected no member but output, pointer, key, value, kind, merge and takes'
-output='expected a string as "output", which no other route has'
-wrong 'no output' '[{"key":"a"}]' "at /0: $output"
-wrong 'an output that is no string' '[{"output":1}]' "at /0: $output"
-wrong 'one output twice' '[{"output":"o"},{"output":"p"},{"output":"o"}]' "at /2: $output"
-place='expected a JSON pointer as "pointer", or a string as "key", and not both'
-wrong 'no pointer' '[{"output":"o","pointer":"a"}]' "at /0: $place"
-wrong 'a tilde alone' '[{"output":"o","pointer":"/a~"}]' "at /0: $place"
-wrong 'a key that is no string' '[{"output":"o","key":7}]' "at /0: $place"
-wrong 'a pointer and a key' '[{"output":"o","key":"a","pointer":""}]' "at /0: $place"
-kind='expected "null", "bool", "number", "string", "array" or "object" as "kind", and no "value" beside it'
-wrong 'a kind that is none' '[{"output":"o","kind":"text"}]' "at /0: $kind"
-wrong 'a kind and a value' '[{"output":"o","kind":"null","value":null}]' "at /0: $kind"
-takes='expected "unmet" or "unread" as "takes", and no rule beside it'
-wrong 'takes of no meaning' '[{"output":"o","takes":"all"}]' "at /0: $takes"
-wrong 'takes beside a rule' '[{"output":"o","takes":"unmet","key":"a"}]' "at /0: $takes"
-wrong 'lines that are not read, merged' '[{"output":"o","takes":"unread","merge":{}}]' "at /0: $takes"
+wrong 'a member of no meaning' '[{"output":"o","vlaue":1}]' 'at /0/vlaue: expected no such member'
+wrong 'a member of no meaning, with a slash' '[{"output":"o","a/b~":1}]' 'at /0/a~1b~0: expected no such member'
+wrong 'no output' '[{"key":"a"}]' 'at /0: expected "output", the name of a file or "-"'
+wrong 'an output that is no string' '[{"output":1}]' 'at /0/output: expected a string'
+other='another output than that of a route before it'
+wrong 'one output twice' '[{"output":"o"},{"output":"p"},{"output":"o"}]' "at /2/output: expected $other"
+wrong 'no slash in front' '[{"output":"o","pointer":"n"}]' 'at /0/pointer: expected a pointer, which is empty or begins with a slash'
+wrong 'a tilde alone' '[{"output":"o","pointer":"/a~"}]' 'at /0/pointer: expected a 0 or a 1 behind each tilde'
+wrong 'a pointer that is no string' '[{"output":"o","pointer":["a"]}]' 'at /0/pointer: expected a string'
+wrong 'a key that is no string' '[{"output":"o","key":7}]' 'at /0/key: expected a string'
+wrong 'a pointer and a key' '[{"output":"o","key":"a","pointer":""}]' 'at /0/key: expected no "pointer" beside it'
+wrong 'a kind that is none' '[{"output":"o"},{"output":"p","kind":"text"}]' 'at /1/kind: expected "null", "bool", "number", "string", "array" or "object"'
+wrong 'a kind and a value' '[{"output":"o","kind":"null","value":null}]' 'at /0/kind: expected no "value" beside it'
+wrong 'takes of no meaning' '[{"output":"o","takes":"all"}]' 'at /0/takes: expected "unmet" or "unread"'
+wrong 'takes beside a rule' '[{"output":"o","takes":"unmet","key":"a"}]' 'at /0/takes: expected no "key" beside it'
+wrong 'lines that are not read, merged' '[{"output":"o","takes":"unread","merge":{}}]' 'at /0/merge: expected none for lines that are not read'
+
+# outputs that are one file, by any of their names: refused before any is opened, so that each stands as it was
+mkdir folder
+echo kept > kept
+ln -s kept link
+wrong 'an output that is the file of rules' '[{"output":"new"},{"output":"./rules.json"}]' 'at /1/output: expected another output than the file of rules'
+wrong 'two names of one file' '[{"output":"kept"},{"output":"folder/../kept"}]' "at /1/output: expected $other"
+wrong 'a link and its file' '[{"output":"link"},{"output":"kept"}]' "at /1/output: expected $other"
+wrong 'two names of a file that is not there yet' '[{"output":"new"},{"output":"-"},{"output":"folder//.././new"}]' "at /2/output: expected $other"
+holds 'what was there before' kept 'kept\n'
+input='sjroute: rules.json: at /0/output: expected another output than the file of standard input\n'
+echo '[{"output":"folder/../kept"}]' > rules.json
+"$program" rules.json < kept > out 2> err
+status=$?
+expect 'an output that is the input' 3 '' "$input"
+holds 'the input' kept 'kept\n'
+echo '[{"output":"-"}]' > rules.json
+"$program" rules.json < kept >> kept 2> err
+status=$?
+: > out
+expect 'a standard output that is the input' 3 '' "$input"
+holds 'the same input' kept 'kept\n'
+echo '[{"output":"-"},{"output":"kept"}]' > rules.json
+"$program" rules.json < / >> kept 2> err
+status=$?
+expect 'a standard output that is an output' 3 '' "sjroute: rules.json: at /1/output: expected $other\n"
+if [ ! -e new ]; then
+  passed=$((passed + 1))
+else
+  failed=$((failed + 1))
+  echo 'failed: an output was opened in front of a refusal'
+fi
+route 'one device by two names' '[{"output":"/dev/null"},{"output":"/dev/../dev/null"}]' '1\n' 0 '' '1 lines, 0 not read, 0 met no rule\n1 to /dev/null\n1 to /dev/../dev/null\n'
 
 all='[{"output":"-"}]'
 route 'no routes, no input' '[]' '' 0 '' '0 lines, 0 not read, 0 met no rule\n'
@@ -146,6 +178,13 @@ expect 'a standard output that fails' 5 '' '1 lines, 0 not read, 0 met no rule\n
 "$program" rules.json < / > out 2> err
 status=$?
 expect 'an input that fails' 5 '' '0 lines, 0 not read, 0 met no rule\n0 to -\nsjroute: standard input: cannot be read\n'
+
+# numbers go on behind 40,000 lines, which are more than one piece
+{ yes '{"id":1}' | head -n 40000; echo; echo '{"id":}'; } > many.in
+echo "$all" > rules.json
+"$program" rules.json < many.in 2> err | wc -l > out
+status=$?
+expect 'a broken line behind many pieces' 0 '40000\n' 'line 40002, column 7: syntax error\n40001 lines, 1 not read, 0 met no rule\n40000 to -\n'
 
 # memory: 30 MB of short lines in 24 MB, and a line of 8 MB in 96 MB, which does not fit 24 MB
 long() { head -c "$1" /dev/zero | tr "\0" x | sed 's/.*/["&"]/'; echo; }

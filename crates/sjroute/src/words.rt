@@ -20,7 +20,8 @@ whose rules it meets. RULES is a file with a list of routes:
 A rule is met where something stands at \"pointer\", or at \"key\", that is \"value\" or of
 that \"kind\": null, bool, number, string, array or object. The line is written as it
 came, or, with \"merge\", as that merge patch (RFC 7396) makes it. \"-\" is standard
-output. Lines that are not read are told on standard error, with line and column.
+output, and a file that is there is emptied first. Lines that are not read are told
+on standard error, with line and column.
 
 statuses: 0 done, 1 done but for lines that were not read, 2 usage, 3 wrong rules,
 4 out of memory, 5 input or output failed
