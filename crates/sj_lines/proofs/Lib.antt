@@ -1,3 +1,2 @@
 pub mod LineLemmas
 mod Steps
-pub mod Counts

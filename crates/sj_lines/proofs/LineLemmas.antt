@@ -17,7 +17,7 @@ pub concat-full_lines : (b : List ℕ) → concat (full_lines b) ≡ b
 concat-full_lines [] = refl
 concat-full_lines (c ∷ b) = concat-first c b (full_lines b) (c == 10) (concat-full_lines b)
 
-pub is_false : (t : Bool) → (t ≡ true → ⊥) → t ≡ false
+is_false : (t : Bool) → (t ≡ true → ⊥) → t ≡ false
 is_false true h = absurd (h refl)
 is_false false h = refl
 
