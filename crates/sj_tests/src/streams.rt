@@ -141,7 +141,7 @@ fn places_are_told(rt: HostRuntime) -> Result<(), Fail> {
     for line in Lines::new(&mut bytes) {
         match reader.read(line) {
             Ok(number) => {
-                read += number;
+                read = number;
                 assert!(rt; reader.value(Repeats::First).is_some() && reader.text().is_none());
             }
             Err(unread) => assert!(rt; unread.line == 1 && unread.place.is_none()),
@@ -164,14 +164,14 @@ fn numbers_go_on_across_pieces(rt: HostRuntime) -> Result<(), Fail> {
     let mut pieces = Pieces::new(input.as_slice());
     let mut piece = Vec::new(alloc);
     let (mut count, mut last) = (0, 0);
-    for _ in 0..3 {
+    for turn in 1..4 {
         if !pieces.next_piece(&mut piece)? {
             break;
         }
-        count += 1;
+        count = turn;
         assert_eq!(rt; pieces.lines_before(), last);
         for line in pieces.lines(&mut piece) {
-            assert_eq!(rt; line.number, last + 1);
+            assert_eq!(rt; line.number, last.saturating_add(1));
             last = line.number;
         }
     }
