@@ -1,11 +1,13 @@
 #!/usr/bin/env python3
 """Looks whether each Rust snippet of the pages stands, word for word, in a source that the gate compiles.
 
-Usage: tools/snippets.py [PAGE..]; README.md and docs/*.md if none is given. A block that begins with ```rust has to be consecutive
+Usage: tools/snippets.py [PAGE..]; README.md and docs/**/*.md if none is given. A block that begins with ```rust has to be consecutive
 lines of one .rt file of a crate that is no crate of tests, at any indentation; blank lines part it into pieces that may stand apart
-in that file. Each line of an example in a library's comments has to stand in crates/sj_recipes, or in a test where that has it not:
-without what follows `//`, and maybe inside of a longer line. Tells each piece or line that is in none, and ends with 1 where it told
-one; the last line has the numbers.
+in that file. In a page COOKBOOK.md a block has to be the whole of one file of crates/sj_recipes/src, without the lines of its head that
+begin with `//!` and the blank line behind them; and each `use crate::FILE::..` in it has to name a file that is a block of that page.
+Each line of an example in a library's comments has to stand in crates/sj_recipes, or in a test where that has it not: without what
+follows `//`, and maybe inside of a longer line. Tells each piece or line that is in none, and ends with 1 where it told one; the last
+line has the numbers.
 """
 import re
 import sys
@@ -13,6 +15,7 @@ import textwrap
 from pathlib import Path
 
 ROOT = Path(__file__).resolve().parent.parent
+RECIPES = ROOT / "crates" / "sj_recipes" / "src"
 
 
 def plain(text):
@@ -60,29 +63,53 @@ def untried():
     return count, wrong
 
 
+def blocks(page):
+    """The Rust blocks of a page, each with its line and its text."""
+    text = page.read_text()
+    for block in re.finditer(r"^```rust\n(.*?)^```$", text, re.S | re.M):
+        yield text[: block.start()].count("\n") + 1, block[1]
+
+
+def unstanding(page, sources):
+    """What of a page stands in no source, and how many pieces the page has."""
+    count, wrong = 0, []
+    for line, block in blocks(page):
+        pieces = [plain(block)]
+        if not stands(pieces[0], sources):
+            pieces = [plain(p) for p in re.split(r"\n\n(?=\S)", plain(block))]
+        count += len(pieces)
+        wrong += [f"{page}:{line}: in no source: {p.splitlines()[0]}" for p in pieces if not stands(p, sources)]
+    return count, wrong
+
+
+def unlike_files(page):
+    """The blocks of a page that are no whole file, or use a file that the page has not; and how many blocks there are."""
+    files = {re.sub(r"\A(//!.*\n)+\n", "", p.read_text()): p for p in sorted(RECIPES.rglob("*.rt"))}
+    found = [(line, block, files.get(block)) for line, block in blocks(page)]
+    shown = {".".join(file.relative_to(RECIPES).with_suffix("").parts) for _, _, file in found if file}
+    wrong = []
+    for line, block, file in found:
+        if not file:
+            wrong.append(f"{page}:{line}: no whole file: {plain(block).splitlines()[0]}")
+        for path in re.findall(r"\bcrate::([\w:]+)", block):
+            parts = path.split("::")
+            if not any(".".join(parts[:n]) in shown for n in range(1, len(parts) + 1)):
+                wrong.append(f"{page}:{line}: not on the page: crate::{path}")
+    return len(found), wrong
+
+
 def main():
     pages = [Path(p) for p in sys.argv[1:]] or [ROOT / "README.md", *sorted((ROOT / "docs").rglob("*.md"))]
     sources = [p.read_text() for p in sorted((ROOT / "crates").glob("*/src/**/*.rt")) if "sj_tests" not in str(p)]
-    count = wrong = 0
-    shown = 0
-    if not sys.argv[1:]:
-        shown, lines = untried()
-        wrong += len(lines)
-        for line in lines:
-            print(line)
+    shown, wrong = (0, []) if sys.argv[1:] else untried()
+    count = 0
     for page in pages:
-        text = page.read_text()
-        for block in re.finditer(r"^```rust\n(.*?)^```$", text, re.S | re.M):
-            line = text[: block.start()].count("\n") + 1
-            pieces = [plain(block[1])]
-            if not stands(pieces[0], sources):
-                pieces = [plain(p) for p in re.split(r"\n\n(?=\S)", plain(block[1]))]
-            for piece in pieces:
-                count += 1
-                if not stands(piece, sources):
-                    print(f"{page}:{line}: in no source: {piece.splitlines()[0]}")
-                    wrong += 1
-    print(f"{len(pages)} pages, {count} snippets, {shown} lines of examples, {wrong} in no source")
+        pieces, lines = unlike_files(page) if page.name == "COOKBOOK.md" else unstanding(page, sources)
+        count += pieces
+        wrong += lines
+    for line in wrong:
+        print(line)
+    print(f"{len(pages)} pages, {count} snippets, {shown} lines of examples, {len(wrong)} in no source")
     return 1 if wrong else 0
 
 

@@ -2,7 +2,7 @@
 
 use sj_owned::{AccessError, JsonError, Refused, Value};
 use sj_path::PointerError;
-use std::alloc::AllocError;
+use std::alloc::{AllocError, AllocFailed};
 use thiserror::Error;
 
 /// Why a setting was not changed.
@@ -12,12 +12,20 @@ pub enum Fault {
     NoServer,
     #[error("no hosts in the settings")]
     NoHosts,
+    #[error("no position {0} among the hosts")]
+    NoPosition(usize),
     #[error("{0}")]
     Json(JsonError),
 }
 
 impl From<AllocError> for Fault {
     fn from(error: AllocError) -> Fault {
+        Fault::Json(JsonError::from(error))
+    }
+}
+
+impl<T: Drop> From<AllocFailed<T>> for Fault {
+    fn from(error: AllocFailed<T>) -> Fault {
         Fault::Json(JsonError::from(error))
     }
 }

@@ -6,10 +6,12 @@ use sj_object::{HashMap, ObjectHasher};
 use sj_owned::OwnedValue;
 use sj_owned::prelude::*;
 use sj_path::{pointer, position};
+use sj_pieces::Pieces;
 use sj_print::{BaseGenerator, DumpGenerator};
-use sj_stream::Stream;
+use sj_stream::{LineReader, Stream};
 use sj_text_core::{Repeats, StaticNode};
 use std::borrow::CowStr;
+use std::io::BufReader;
 
 /// Of `sj_text_core` and `sj_print`.
 pub fn scalars(rt: &(impl Print + AllocGlobal)) -> anyhow::Result<()> {
@@ -142,14 +144,19 @@ pub fn pointers(rt: &(impl Print + AllocGlobal)) -> anyhow::Result<()> {
     Ok(())
 }
 
-/// Of `sj_lines` and `sj_stream`.
-pub fn inputs(rt: &(impl Print + AllocGlobal)) -> anyhow::Result<()> {
+/// Of `sj_lines`.
+pub fn lines(rt: &(impl Print + AllocGlobal)) -> anyhow::Result<()> {
     let alloc = rt.alloc();
     let mut input = b"[1]\r\n\n[2]".to_vec(alloc)?;
-    let mut lines = Lines::new(&mut input);
-    while let Some(line) = lines.next() {
+    for line in Lines::new(&mut input) {
         println!(rt; "line {}: {} bytes", line.number, line.text.len())?;
     }
+    Ok(())
+}
+
+/// Of `sj_stream`.
+pub fn streams(rt: &(impl Print + AllocGlobal)) -> anyhow::Result<()> {
+    let alloc = rt.alloc();
     let mut input = b"{\"id\":1}\n{\"id\":}\n{\"id\":3}\n".to_vec(alloc)?;
     let mut stream = Stream::new(alloc, &mut input);
     while let Some(step) = stream.advance() {
@@ -161,6 +168,41 @@ pub fn inputs(rt: &(impl Print + AllocGlobal)) -> anyhow::Result<()> {
                 println!(rt; "{line}: {id:?}")?;
             }
             Err(unread) => println!(rt; "{unread}")?,
+        }
+    }
+    Ok(())
+}
+
+/// Of `sj_stream::LineReader`.
+pub fn line_readers(rt: &(impl Print + AllocGlobal)) -> anyhow::Result<()> {
+    let alloc = rt.alloc();
+    let mut input = b"{\"id\":1}\n{\"id\":}\n{\"id\":3}\n".to_vec(alloc)?;
+    let mut reader = LineReader::new(alloc).with_places();
+    for line in Lines::new(&mut input) {
+        match reader.read(line) {
+            Ok(number) => {
+                let id = reader
+                    .value(Repeats::First)
+                    .and_then(|document| document.get_u64("id"));
+                println!(rt; "{number}: {id:?}")?;
+            }
+            Err(unread) => println!(rt; "{unread}")?,
+        }
+    }
+    Ok(())
+}
+
+/// Of `sj_pieces`. Behind a recipe that reads the same input to its end, it prints nothing.
+pub fn pieces(rt: &(impl Input + Print + AllocGlobal)) -> anyhow::Result<()> {
+    let alloc = rt.alloc();
+    let mut pieces = Pieces::new(BufReader::new(alloc, rt.reader())?);
+    let mut piece = Vec::new(alloc);
+    for _ in 0..u64::MAX {
+        if !pieces.next_piece(&mut piece)? {
+            break;
+        }
+        for line in pieces.lines(&mut piece) {
+            println!(rt; "line {}: {} bytes", line.number, line.text.len())?;
         }
     }
     Ok(())

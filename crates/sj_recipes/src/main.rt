@@ -1,59 +1,101 @@
 //! The recipes of docs/COOKBOOK.md, each run once. What they print stands in `stdout`.
 #![tactic(auto)]
 
-mod build;
-mod change;
 mod fault;
 mod heads;
 mod known_keys;
-mod lines;
-mod node;
-mod print;
-mod read;
+mod programs;
+mod recipes;
 
+use programs::edits::{Edit, edit_all};
+use programs::filter::filter;
+use recipes::*;
 use sj_owned::Value;
 use sj_owned::prelude::*;
+use sj_path::pointer;
+use std::io;
 
 const SETTINGS: &str = r#"{"server":{"port":8080},"port":70000,"hosts":["a"],"topic":"news"}"#;
 
 /// What reads.
 fn reads(rt: &(impl Print + AllocGlobal)) -> anyhow::Result<()> {
     let alloc = rt.alloc();
-    let settings = read::read_settings(alloc, SETTINGS)?;
+    let settings = read_and_keep::read_settings(alloc, SETTINGS)?;
     println!(rt; "{}", settings.encode(alloc)?)?;
     println!(rt; "{:?}", settings.get_u16("port"))?;
-    match read::port_of(&settings) {
+    match read_one_number::port_of(&settings) {
         Ok(port) => println!(rt; "{port:?}")?,
         Err(fault) => println!(rt; "{fault}")?,
     }
-    println!(rt; "{}", read::host_of(&settings))?;
-    println!(rt; "{:?}", read::server_port(&settings))?;
-    println!(rt; "{:?}", read::port_at(alloc, &settings, "/server/port")?)?;
-    let last = read::read_last(alloc, r#"{"a":1,"b":2,"a":3}"#)?;
+    println!(rt; "{}", defaults::host_of(&settings))?;
+    println!(rt; "{:?}", reach_a_nested_member::server_port(&settings))?;
+    let port = reach_a_nested_member::port_at(alloc, &settings, "/server/port")?;
+    println!(rt; "{port:?}")?;
+    let last = the_last_of_repeated_keys::read_last(alloc, r#"{"a":1,"b":2,"a":3}"#)?;
     println!(rt; "{}", last.encode(alloc)?)?;
-    let hosts = read::read_settings(alloc, r#"["a",1,"b"]"#)?;
-    println!(rt; "{:?}", read::words(alloc, hosts)?)?;
+    let hosts = read_and_keep::read_settings(alloc, r#"["a",1,"b"]"#)?;
+    println!(rt; "{:?}", take_a_document_apart::words(alloc, hosts)?)?;
     let documents = [settings, last];
-    match read::first_of_topic(&documents, "news") {
+    match look_one_key_up_in_many::first_of_topic(&documents, "news") {
         Some(found) => println!(rt; "{}", found.encode(alloc)?)?,
         None => println!(rt; "none")?,
+    }
+    match where_a_text_is_wrong::read_or_tell(alloc, "{\n  \"a\": tru}") {
+        Ok(document) => println!(rt; "{document}")?,
+        Err(fault) => println!(rt; "{fault}")?,
     }
     Ok(())
 }
 
-/// What changes.
+/// What changes members.
 fn changes(rt: &(impl Print + AllocGlobal)) -> anyhow::Result<()> {
     let alloc = rt.alloc();
-    let mut settings = read::read_settings(alloc, SETTINGS)?;
-    change::set_debug(alloc, &mut settings)?;
-    println!(rt; "{}", change::set_port(alloc, &mut settings, 9090)?)?;
-    change::add_host(alloc, &mut settings, "b")?;
-    change::set_in_server(alloc, &mut settings, "name", "kiosk")?;
-    println!(rt; "{}", change::remove_topic(&mut settings)?.is_some())?;
+    let mut settings = read_and_keep::read_settings(alloc, SETTINGS)?;
+    set_a_member::set_debug(alloc, &mut settings)?;
+    let is_set = replace_a_nested_value::set_port(alloc, &mut settings, 9090)?;
+    println!(rt; "{is_set}")?;
+    append_an_item::add_host(alloc, &mut settings, "b")?;
+    add_a_nested_member::set_in_server(alloc, &mut settings, "name", "kiosk")?;
+    println!(rt;
+        "{}",
+        remove_a_member::remove_topic(&mut settings)?.is_some()
+    )?;
     println!(rt; "{}", settings.encode(alloc)?)?;
-    match change::set_or_keep(&mut settings, Value::from(1_u8)) {
+    match keep_what_was_refused::set_or_keep(&mut settings, Value::from(1_u8)) {
         Ok(()) => println!(rt; "set")?,
         Err(value) => println!(rt; "kept {value}")?,
+    }
+    Ok(())
+}
+
+/// What changes items, copies, and objects on the way.
+fn further_changes(rt: &(impl Print + AllocGlobal)) -> anyhow::Result<()> {
+    let alloc = rt.alloc();
+    let mut settings = read_and_keep::read_settings(alloc, SETTINGS)?;
+    an_item_at_a_position::insert_host(alloc, &mut settings, 0, "b")?;
+    an_item_at_a_position::insert_host(alloc, &mut settings, 2, "c")?;
+    println!(rt; "{}", an_item_at_a_position::remove_host(&mut settings, 1)?)?;
+    match an_item_at_a_position::remove_host(&mut settings, 2) {
+        Ok(host) => println!(rt; "{host}")?,
+        Err(fault) => println!(rt; "{fault}")?,
+    }
+    println!(rt; "{}", copy_a_document::with_debug(alloc, &settings)?)?;
+    println!(rt; "{settings}")?;
+    let way = ["server", "tls"];
+    let on = Value::from(true);
+    make_what_is_missing_on_the_way::set_at(alloc, &mut settings, &way, "on", on)?;
+    println!(rt; "{settings}")?;
+    let way = ["topic", "name"];
+    let refused = make_what_is_missing_on_the_way::set_at(
+        alloc,
+        &mut settings,
+        &way,
+        "on",
+        Value::null(),
+    );
+    match refused {
+        Ok(()) => println!(rt; "set")?,
+        Err(fault) => println!(rt; "{fault}")?,
     }
     Ok(())
 }
@@ -61,32 +103,44 @@ fn changes(rt: &(impl Print + AllocGlobal)) -> anyhow::Result<()> {
 /// What prints, compares and builds.
 fn prints(rt: &(impl Print + AllocGlobal)) -> anyhow::Result<()> {
     let alloc = rt.alloc();
-    let made = build::settings(alloc)?;
+    let made = make_a_document::settings(alloc)?;
     println!(rt; "{}", print::to_line(alloc, &made)?)?;
-    println!(rt; "{}", print::to_pretty(alloc, &made)?)?;
+    println!(rt; "{}", print_for_people::to_pretty(alloc, &made)?)?;
     println!(rt; "{}", print::log(alloc, &made)?.len())?;
-    println!(rt; "{}", build::ports(alloc, &[80, 443])?.encode(alloc)?)?;
+    println!(rt; "{}", make_a_document::ports(alloc, &[80, 443])?)?;
     println!(rt;
         "{}",
-        print::is_same_text(alloc, "[1, {\"a\":2}]", "[1,{\"a\":2}]")?
+        compare::is_same_text(alloc, "[1, {\"a\":2}]", "[1,{\"a\":2}]")?
     )?;
-    println!(rt; "{}", print::has_topic(&made, "news"))?;
-    println!(rt; "{}", node::count(alloc, "[1,[2,3],{\"a\":4,\"a\":5}]")?)?;
+    println!(rt; "{}", compare::has_topic(&made, "news"))?;
+    println!(rt;
+        "{}",
+        a_type_of_my_own::count(alloc, "[1,[2,3],{\"a\":4,\"a\":5}]")?
+    )?;
+    Ok(())
+}
+
+/// The callers with contracts.
+fn proves(rt: &(impl Print + AllocGlobal)) -> anyhow::Result<()> {
+    let alloc = rt.alloc();
+    let mut text = br#"{"port":443,"port":80}"#.to_vec(alloc)?;
+    println!(rt; "{:?}", a_contract_of_my_own::port_of(alloc, &mut text)?)?;
+    let mut document = read_and_keep::read_settings(alloc, SETTINGS)?;
+    let place = pointer(alloc, "/hosts/0")?;
+    let is_set = a_contract_of_my_own::patched(&mut document, &place, Value::null());
+    println!(rt; "{is_set} {document}")?;
     Ok(())
 }
 
 /// What passes on.
-fn passes(rt: &(impl Print + AllocGlobal)) -> anyhow::Result<()> {
+fn passes(rt: &(impl Input + Print + AllocGlobal)) -> anyhow::Result<()> {
     let alloc = rt.alloc();
-    println!(rt;
-        "{}",
-        lines::pass_on(alloc, r#"{"topic":"news","a":1,"a":2}"#)?
-    )?;
-    println!(rt;
-        "{}",
-        lines::pass_on(alloc, r#"{"topic":"mail","a":1,"a":2}"#)?
-    )?;
-    lines::tell_topics(rt, "{\"topic\":\"news\"}\n\n[1,]\n{\"topic\":\"mail\"}\n")?;
+    let news = pass_a_message_on::pass_on(alloc, r#"{"topic":"news","a":1,"a":2}"#)?;
+    println!(rt; "{news}")?;
+    let mail = pass_a_message_on::pass_on(alloc, r#"{"topic":"mail","a":1,"a":2}"#)?;
+    println!(rt; "{mail}")?;
+    lines_of_messages::tell_topics(rt, "{\"topic\":\"news\"}\n\n[1,]\n{\"topic\":\"mail\"}\n")?;
+    messages_from_standard_input::tell_input(rt)?;
     println!(rt;
         "{:?} {:?}",
         known_keys::looks(alloc)?,
@@ -95,8 +149,52 @@ fn passes(rt: &(impl Print + AllocGlobal)) -> anyhow::Result<()> {
     Ok(())
 }
 
+/// The first two of the small programs.
+fn runs(rt: &(impl Print + AllocGlobal)) -> anyhow::Result<()> {
+    let alloc = rt.alloc();
+    let input =
+        b"{\"topic\": \"news\", \"a\":1}\n{\"topic\":}\n\n{\"topic\":\"mail\"}\r\n{ \"topic\":\"news\" }";
+    filter(
+        alloc,
+        input.as_slice(),
+        "news",
+        &mut io::writer(rt),
+        &mut io::writer(rt),
+    )?;
+    for text in ["{\n  \"a\":}", "{\"a\":1}", "[]"] {
+        match programs::settings::set(alloc, "settings.json", text, 8080) {
+            Ok(settings) => println!(rt; "{settings}")?,
+            Err(fault) => println!(rt; "{fault}")?,
+        }
+    }
+    Ok(())
+}
+
+/// The third.
+fn edits(rt: &(impl Print + AllocGlobal)) -> anyhow::Result<()> {
+    let alloc = rt.alloc();
+    let mut settings = read_and_keep::read_settings(alloc, SETTINGS)?;
+    let edits = vec![in alloc;
+        Edit::Replace("/server/port", Value::from(9090_u16)),
+        Edit::Insert("/hosts", 1, Value::try_make(alloc, "b")?),
+        Edit::Remove("/hosts", 0),
+    ]?;
+    edit_all(alloc, &mut settings, edits)?;
+    println!(rt; "{settings}")?;
+    let edits = vec![in alloc;
+        Edit::Insert("/hosts", 0, Value::null()),
+        Edit::Remove("/hosts", 2),
+    ]?;
+    match edit_all(alloc, &mut settings, edits) {
+        Ok(()) => println!(rt; "edited")?,
+        Err(fault) => println!(rt; "{fault}")?,
+    }
+    println!(rt; "{settings}")?;
+    Ok(())
+}
+
 /// The examples at the heads of the libraries.
-fn shows(rt: &(impl Print + AllocGlobal)) -> anyhow::Result<()> {
+fn shows(rt: &(impl Input + Print + AllocGlobal)) -> anyhow::Result<()> {
     heads::scalars(rt)?;
     heads::tapes(rt)?;
     heads::maps(rt)?;
@@ -105,13 +203,20 @@ fn shows(rt: &(impl Print + AllocGlobal)) -> anyhow::Result<()> {
     heads::borrowed_documents(rt)?;
     heads::lazy_values(rt)?;
     heads::pointers(rt)?;
-    heads::inputs(rt)
+    heads::lines(rt)?;
+    heads::streams(rt)?;
+    heads::line_readers(rt)?;
+    heads::pieces(rt)
 }
 
 fn main(rt: HostRuntime) -> anyhow::Result<()> {
     reads(&rt)?;
     changes(&rt)?;
+    further_changes(&rt)?;
     prints(&rt)?;
+    proves(&rt)?;
     passes(&rt)?;
+    runs(&rt)?;
+    edits(&rt)?;
     shows(&rt)
 }
