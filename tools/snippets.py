@@ -4,7 +4,8 @@
 Usage: tools/snippets.py [PAGE..]; README.md and docs/**/*.md if none is given. A block that begins with ```rust has to be consecutive
 lines of one .rt file of a crate that is no crate of tests, at any indentation; blank lines part it into pieces that may stand apart
 in that file. In a page COOKBOOK.md a block has to be the whole of one file of crates/sj_recipes/src, without the lines of its head that
-begin with `//!` and the blank line behind them; and each `use crate::FILE::..` in it has to name a file that is a block of that page.
+begin with `//!` and the blank line behind them; and each `use crate::FILE::..` in it has to name a file that is a block of that page;
+a ```text block that begins with `use Rattle.` has to be the whole of one file of its proofs.
 Each line of an example in a library's comments has to stand in crates/sj_recipes, or in a test where that has it not: without what
 follows `//`, and maybe inside of a longer line. Tells each piece or line that is in none, and ends with 1 where it told one; the last
 line has the numbers.
@@ -63,10 +64,10 @@ def untried():
     return count, wrong
 
 
-def blocks(page):
-    """The Rust blocks of a page, each with its line and its text."""
+def blocks(page, kind="rust"):
+    """The blocks of a kind of a page, each with its line and its text."""
     text = page.read_text()
-    for block in re.finditer(r"^```rust\n(.*?)^```$", text, re.S | re.M):
+    for block in re.finditer(rf"^```{kind}\n(.*?)^```$", text, re.S | re.M):
         yield text[: block.start()].count("\n") + 1, block[1]
 
 
@@ -95,7 +96,10 @@ def unlike_files(page):
             parts = path.split("::")
             if not any(".".join(parts[:n]) in shown for n in range(1, len(parts) + 1)):
                 wrong.append(f"{page}:{line}: not on the page: crate::{path}")
-    return len(found), wrong
+    proofs = [p.read_text() for p in (RECIPES.parent / "proofs").rglob("*.antt")]
+    proof = [(line, block) for line, block in blocks(page, "text") if block.startswith("use Rattle.")]
+    wrong += [f"{page}:{line}: no whole file of proofs" for line, block in proof if block not in proofs]
+    return len(found) + len(proof), wrong
 
 
 def main():
