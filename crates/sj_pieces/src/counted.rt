@@ -1,6 +1,6 @@
 //! Pieces whose lines are counted.
 
-ghost use Rattle.std.specs.Prelude.{◌≡◌, ◌+◌, ◌<◌, ◌↔◌, ◌^◌, false, length, suc, IfOk, OnOk, IsTrue};
+ghost use Rattle.std.specs.Prelude.{◌≡◌, ◌+◌, ◌<◌, ◌↔◌, ◌^◌, ◌⊎◌, false, length, suc, IfOk, OnErr, OnOk, IsTrue};
 ghost use Rattle.std.specs.Io.KnownBytes.{IsAtEnd};
 ghost use Rattle.sj_lines.specs.Lines.{full_lines, numbered};
 
@@ -26,7 +26,7 @@ pub struct Pieces<R> {
 impl<R: BufRead + Drop> Pieces<R> {
     ghost use Rattle.sj_lines.specs.Ahead.{ahead};
     ghost use Rattle.sj_pieces.specs.Pieces.{SplitsLines};
-    ghost use Rattle.sj_pieces.specs.Counted.{reader_of, lines_before, lines_of};
+    ghost use Rattle.sj_pieces.specs.Counted.{GoesOn, IsAsBefore, reader_of, lines_before, lines_of};
 
     /// Those of a reader's input. Nothing is read yet.
     pub fn new(reader: R) -> Self
@@ -43,15 +43,15 @@ impl<R: BufRead + Drop> Pieces<R> {
 
     /// Puts the next piece in the place of the last: some bytes, and the rest of their last line. False
     /// where nothing is left, and the piece is then empty. A read that fails leaves as a piece the full
-    /// lines that were read before it, and what is behind them is lost. Behind 2^63 lines nothing is read:
-    /// `FileTooLarge`.
+    /// lines that were read before it, and what is behind them is lost. Behind 2^63 lines nothing is read,
+    /// and the piece stays: `FileTooLarge`.
     pub fn next_piece(&mut self, piece: &mut Vec<u8>) -> io::Result<bool>
         // Where the reader's bytes are known, the lines of the piece and of what is left are those of both.
         ensures split { OnOk result (SplitsLines (R.remaining (reader_of self.old)) (R.remaining (reader_of self.new)) piece.new.items) }
         ensures some { IfOk result (λ b. IsTrue b ↔ 0 < length piece.new.items) }
         ensures end { IfOk result (λ b. b ≡ false → IsAtEnd (R.remaining (reader_of self.new))) }
-        ensures before { OnOk result (lines_before self.new ≡ lines_before self.old + lines_of self.old) }
-        ensures lines { OnOk result (lines_of self.new ≡ length (full_lines piece.new.items)) }
+        ensures counted { OnOk result (GoesOn self.old self.new piece.new.items) }
+        ensures failed { OnErr result (IsAsBefore self.old piece.old.items self.new piece.new.items ⊎ GoesOn self.old self.new piece.new.items) }
     {
         self.before = behind(self.before, self.count)?;
         let read = next_piece(&mut self.reader, piece);
