@@ -22,4 +22,4 @@ mod pieces;
 
 pub use counted::Pieces;
 pub use pieces::next_piece;
-pub use sj_lines::{Line, Lines};
+pub use sj_lines::{Line, Lines, line_count};
