@@ -381,6 +381,11 @@ free laws $'call: gone over\n'
 tokens='<a/b> <0> <m~n> '
 each pointer "call: OutOfMemory again $tokens"$'\n' "call: ${tokens}again $tokens"$'\n'
 free no_pointer $'call: found\n'
+each 'pointer_parts clone' $'call: AllocError again <a/b> <0> \n' $'call: <a/b> <0> again <a/b> <0> \n'
+each 'pointer_parts join' "call: AllocError again $tokens"$'\n' "call: ${tokens}again $tokens"$'\n'
+each 'pointer_parts parent' $'call: AllocError again <a/b> \n' $'call: <a/b> again <a/b> \n'
+each 'pointer_parts push' $'call: AllocError, pointer as before, pushed\n' $'call: pushed\n'
+free 'pointer_parts free' $'call: looked at\n'
 for form in owned borrowed; do
   free "pointer_in $form" $'call: found, {"some":["key",null,2]}\n'
 done

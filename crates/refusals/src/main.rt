@@ -9,7 +9,7 @@
 //!     refusals document FORM CALL [MEMBERS] | make SOURCE | make_lazy SOURCE | convert CALL
 //!     refusals lazy FORM CALL [MEMBERS] | copy FORM CALL | copy_key | laws | run FORM WAY
 //!     refusals apply FORM WAY | session FORM INPUT | session_known FORM INPUT
-//!     refusals session_last FORM INPUT | pointer | no_pointer | pointer_in FORM
+//!     refusals session_last FORM INPUT | pointer | no_pointer | pointer_parts CALL | pointer_in FORM
 //!     refusals pointer_lazy FORM CALL | kinds FORM | parts FORM | reads WHAT | from WHAT
 //!     refusals display FORM | stream CALL | fault CALL | changes | command LINE
 //!     refusals merge FORM CALL [MEMBERS] | within FORM
@@ -41,6 +41,7 @@ mod members;
 mod merges;
 mod nodes;
 mod parts;
+mod pointer_parts;
 mod pointers;
 mod prints;
 mod readings;
@@ -109,6 +110,7 @@ fn run_maps(rt: &(impl Print + AllocGlobal), words: &[String]) -> Result<(), Fau
         "pointer" => pointers::parse(rt),
         "no_pointer" => pointers::refuse(rt),
         "pointer_in" => pointers::in_document(rt, second),
+        "pointer_parts" => pointer_parts::make(rt, second),
         "pointer_lazy" => pointers::in_lazy(rt, second, third),
         _ => run_documents(rt, words),
     }

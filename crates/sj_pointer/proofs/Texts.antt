@@ -9,10 +9,10 @@ use Rattle.sj_pointer.specs.Tokens.{onto, parted, replaced, decoded}
 abbrev pub Lacks : ℕ → List ℕ → Type 0
 Lacks c s = (i : ℕ) → i < length s → get_or s i 0 ≢ c
 
-lacks_first : (c x : ℕ) (s : List ℕ) → Lacks c (x ∷ s) → eqb x c ≡ false
+pub lacks_first : (c x : ℕ) (s : List ℕ) → Lacks c (x ∷ s) → eqb x c ≡ false
 lacks_first c x s h = ne_eqb x c (h 0 (omega arith))
 
-lacks_rest : (c x : ℕ) (s : List ℕ) → Lacks c (x ∷ s) → Lacks c s
+pub lacks_rest : (c x : ℕ) (s : List ℕ) → Lacks c (x ∷ s) → Lacks c s
 lacks_rest c x s h = λ i l. h (suc i) (omega (arith, l))
 
 pub parted_whole : (s : List ℕ) → Lacks 47 s → parted s ≡ s ∷ []

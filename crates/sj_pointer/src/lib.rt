@@ -7,14 +7,17 @@
 //! let key = pointer(alloc, "/a~1b")?;
 //! key.tokens(); // ["a/b"]
 //! pointer(alloc, "/a~2").err(); // Some(PointerError::BadTilde)
+//! println!(rt; "{key}")?; // /a~1b
 //! position("90"); // Some(90)
 //! position("01"); // None
 //! ```
 #![tactic(auto)]
 
+mod ends;
 pub mod laws;
 mod parse;
 mod place;
+mod show;
 mod tokens;
 
 pub use parse::pointer;

@@ -6,7 +6,7 @@ use std::marker::Model;
 /// for the document itself. Contracts see it as the list of its tokens' bytes.
 #[derive(Debug, Drop)]
 pub struct Pointer {
-    tokens: Vec<String>,
+    pub(crate) tokens: Vec<String>,
 }
 
 impl Model for Pointer {
@@ -20,8 +20,9 @@ impl Model for Pointer {
 impl Pointer {
     ghost use Rattle.std.specs.Prelude.{◌≡◌, map, string_bytes};
 
-    /// The pointer with these tokens.
-    pub(crate) fn from_tokens(tokens: Vec<String>) -> Pointer
+    /// The pointer with these tokens, which are as they are decoded: a slash and a tilde in one
+    /// stand for themselves.
+    pub fn from_tokens(tokens: Vec<String>) -> Pointer
         ensures { result ≡ map string_bytes tokens.items }
     {
         Pointer { tokens }

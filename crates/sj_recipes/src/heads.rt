@@ -127,6 +127,7 @@ pub fn pointers(rt: &(impl Print + AllocGlobal)) -> anyhow::Result<()> {
     let alloc = rt.alloc();
     let key = pointer(alloc, "/a~1b")?;
     println!(rt; "{:?} {:?}", key.tokens(), position("90"))?;
+    println!(rt; "{key}")?;
     println!(rt; "{:?} {:?}", position("01"), pointer(alloc, "/a~2").err())?;
     let mut bytes = b"{\"foo\":[\"bar\",\"baz\"],\"m~n\":8}".to_vec(alloc)?;
     let mut value = sj_owned::to_value(alloc, bytes.as_mut_slice())?;

@@ -31,6 +31,9 @@ fn reads(rt: &(impl Print + AllocGlobal)) -> anyhow::Result<()> {
     println!(rt; "{:?}", reach_a_nested_member::server_port(&settings))?;
     let port = reach_a_nested_member::port_at(alloc, &settings, "/server/port")?;
     println!(rt; "{port:?}")?;
+    let servers = r#"{"servers":{"a/b":{"port":8081}}}"#;
+    let servers = read_and_keep::read_settings(alloc, servers)?;
+    println!(rt; "{:?}", a_pointer_of_keys::port_of(alloc, &servers, "a/b")?)?;
     let last = the_last_of_repeated_keys::read_last(alloc, r#"{"a":1,"b":2,"a":3}"#)?;
     println!(rt; "{}", last.encode(alloc)?)?;
     let hosts = read_and_keep::read_settings(alloc, r#"["a",1,"b"]"#)?;

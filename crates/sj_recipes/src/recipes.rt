@@ -1,6 +1,7 @@
 //! A file a recipe of docs/COOKBOOK.md.
 
 pub mod a_contract_of_my_own;
+pub mod a_pointer_of_keys;
 pub mod a_type_of_my_own;
 pub mod add_a_nested_member;
 pub mod an_item_at_a_position;

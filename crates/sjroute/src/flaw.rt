@@ -1,5 +1,6 @@
 //! What is wrong with a file of rules.
 
+use sj_pointer::Pointer;
 use thiserror::Error;
 
 /// What a route, or a member of one, has to be.
@@ -44,7 +45,7 @@ pub enum RuleFault {
     Route(usize, Flaw),
     /// Its member at that pointer is not what it has to be.
     #[error("at /{0}{1}: expected {2}")]
-    Member(usize, String, Flaw),
+    Member(usize, Pointer, Flaw),
     #[error("out of memory")]
     OutOfMemory,
 }

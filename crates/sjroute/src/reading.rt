@@ -4,7 +4,7 @@ use crate::fault::Fault;
 use crate::files::taken_output;
 use crate::flaw::RuleFault;
 use crate::routing::Route;
-use crate::rules::routes_of;
+use crate::rules::{pointer_to, routes_of};
 use sj_fault::fault_at;
 use sj_owned::{ErrorKind, to_value};
 use std::fs;
@@ -30,7 +30,7 @@ pub fn read_routes<R: Files + AllocGlobal>(rt: &R, path: String) -> Result<Vec<R
     match taken_output(rt, path.as_str(), &routes)? {
         None => Ok(routes),
         Some((index, flaw)) => {
-            let member = String::from_str(rt.alloc(), "/output")?;
+            let member = pointer_to(rt.alloc(), "output")?;
             Err(Fault::Rules(path, RuleFault::Member(index, member, flaw)))
         }
     }

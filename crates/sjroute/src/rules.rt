@@ -141,7 +141,7 @@ fn place_of<'m>(alloc: Global, item: &'m Value) -> Result<Pointer, Wrong<'m>> {
             None => Err(Wrong::Member("pointer", Flaw::NoString)),
         },
         (None, Some(key)) => match key.as_str() {
-            Some(key) => read_pointer(alloc, pointer_to(alloc, key)?.as_str()),
+            Some(key) => Ok(pointer_to(alloc, key)?),
             None => Err(Wrong::Member("key", Flaw::NoString)),
         },
         (Some(_), Some(_)) => Err(Wrong::Member("key", Flaw::Beside("pointer"))),
@@ -157,17 +157,11 @@ fn read_pointer(alloc: Global, text: &str) -> Result<Pointer, Wrong<'static>> {
     }
 }
 
-/// The pointer of one token, the key (RFC 6901, section 3).
-fn pointer_to(alloc: Global, key: &str) -> Result<String, AllocError> {
-    let mut text = String::from_str(alloc, "/")?;
-    for character in key.chars() {
-        match character {
-            '~' => text.push_str("~0")?,
-            '/' => text.push_str("~1")?,
-            _ => text.push(character)?,
-        }
-    }
-    Ok(text)
+/// The pointer of one token, the key.
+pub fn pointer_to(alloc: Global, key: &str) -> Result<Pointer, AllocError> {
+    let mut tokens = Vec::with_capacity(alloc, 1)?;
+    tokens.push(String::from_str(alloc, key)?)?;
+    Ok(Pointer::from_tokens(tokens))
 }
 
 /// What has to stand there.

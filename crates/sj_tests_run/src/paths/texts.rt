@@ -1,6 +1,7 @@
 //! Texts, tokens and positions.
 
-use sj_path::{PointerError, pointer, position};
+use sj_path::{Pointer, PointerError, pointer, position};
+use std::alloc::Global;
 use std::test::Fail;
 
 const TOKENS: [(&str, &[&str]); 16] = [
@@ -68,6 +69,74 @@ fn texts_are_cut_and_decoded(rt: HostRuntime) -> Result<(), Fail> {
         let is_read = are(pointer.tokens(), want);
         let is_taken = are(pointer.into_tokens().as_slice(), want);
         assert!(rt; is_read && is_taken, "{text}");
+    }
+    Ok(())
+}
+
+fn made_of(alloc: Global, tokens: &[&str]) -> Result<Pointer, Fail> {
+    let mut owned = Vec::new(alloc);
+    for token in tokens {
+        owned.push(String::from_str(alloc, token)?)?;
+    }
+    Ok(Pointer::from_tokens(owned))
+}
+
+/// Each text above is the one that its tokens are written by.
+#[test]
+fn tokens_are_written(rt: HostRuntime) -> Result<(), Fail> {
+    let alloc = rt.alloc();
+    for (text, tokens) in TOKENS {
+        let written = made_of(alloc, tokens)?;
+        assert!(rt; written == pointer(alloc, text)?, "{written}");
+        assert_eq!(rt; format!(in alloc; "{written}")?.as_str(), text);
+    }
+    Ok(())
+}
+
+/// Pointers, each with its parent and last token, where it has them.
+const ENDS: [(&str, Option<(&str, &str)>); 5] = [
+    ("", None),
+    ("/", Some(("", ""))),
+    ("/foo/0", Some(("/foo", "0"))),
+    ("/a~1b/m~0n", Some(("/a~1b", "m~n"))),
+    ("//a//", Some(("//a/", ""))),
+];
+
+/// Pointers, and whether the first begins with the second.
+const FRONTS: [(&str, &str, bool); 6] = [
+    ("/a/b", "", true),
+    ("/a/b", "/a", true),
+    ("/a/b", "/a/b", true),
+    ("/a", "/a/b", false),
+    ("/ab", "/a", false),
+    ("", "/", false),
+];
+
+fn end_is(alloc: Global, text: &str, want: Option<(&str, &str)>) -> Result<bool, Fail> {
+    let whole = pointer(alloc, text)?;
+    let Some((front, end)) = want else {
+        return Ok(whole.parent()?.is_none() && whole.last().is_none());
+    };
+    let mut again = pointer(alloc, front)?;
+    let is_parent = whole.parent()? == Some(pointer(alloc, front)?) && whole.last() == Some(end);
+    again.push(String::from_str(alloc, end)?)?;
+    let is_pushed = again == whole;
+    let is_popped = again.pop().is_some_and(|token| token.as_str() == end);
+    Ok(is_parent && is_pushed && is_popped && again == pointer(alloc, front)?)
+}
+
+#[test]
+fn ends_are_cut_and_joined(rt: HostRuntime) -> Result<(), Fail> {
+    let alloc = rt.alloc();
+    for (text, want) in ENDS {
+        assert!(rt; end_is(alloc, text, want)?, "{text}");
+    }
+    for (whole, front, begins) in FRONTS {
+        let (whole, front) = (pointer(alloc, whole)?, pointer(alloc, front)?);
+        assert!(rt; whole.begins_with(&front) == begins, "{whole} {front}");
+        let joined = front.join(&whole)?;
+        assert!(rt; joined.begins_with(&front) && front.clone()? == front, "{joined}");
+        assert_eq!(rt; joined.tokens().len(), front.tokens().len() + whole.tokens().len());
     }
     Ok(())
 }
