@@ -4,7 +4,7 @@ use crate::fault::Fault;
 use crate::say::{say, say_call};
 use crate::texts::text_of;
 use sj_lines::{Lines, line_count};
-use sj_stream::{Repeats, Stream, unread_lines};
+use sj_stream::{Place, Repeats, Stream, Unread, unread_lines};
 use sj_tape::{ErrorKind, Spare, Tape, to_tape_with_spare};
 use sj_text_core::Refused;
 use std::alloc::Global;
@@ -62,11 +62,7 @@ fn tell_step(rt: &(impl Print + AllocGlobal), stream: &mut Stream<'_>) -> Result
 /// A stream of the input, with places or without.
 fn stream_of(alloc: Global, input: &mut [u8], placed: bool) -> Stream<'_> {
     let stream = Stream::new(alloc, input);
-    if placed {
-        stream.with_places()
-    } else {
-        stream
-    }
+    if placed { stream.with_places() } else { stream }
 }
 
 /// Takes a stream's first step, and then the second.
@@ -80,9 +76,20 @@ fn cold(rt: &(impl Print + AllocGlobal), placed: bool) -> Result<(), Fault> {
     say(rt, "\n")
 }
 
+/// Whether a refusal is told with its place.
+fn is_told(room: &mut String) -> bool {
+    let unread = Unread {
+        line: 3,
+        place: Some(Place { at: 5, column: 6 }),
+        why: ErrorKind::Syntax,
+    };
+    write!(room, "{unread}").is_ok() && room.as_str() == "line 3, column 6: syntax error"
+}
+
 /// Takes the second step of a stream, and looks at its document and at the text.
 fn warm(rt: &(impl Print + AllocGlobal), placed: bool) -> Result<(), Fault> {
     let mut bytes = LINES.to_vec(rt.alloc())?;
+    let mut room = String::with_capacity(rt.alloc(), 40)?;
     let mut stream = stream_of(rt.alloc(), bytes.as_mut_slice(), placed);
     let first = matches!(stream.advance(), Some(Ok(1)));
     say_call(rt)?;
@@ -95,7 +102,7 @@ fn warm(rt: &(impl Print + AllocGlobal), placed: bool) -> Result<(), Fault> {
         Some(text) => placed && text == b"[3,{\"b\":4}]".as_slice(),
         None => !placed,
     };
-    let is_end = stream.advance().is_none();
+    let is_end = stream.advance().is_none() && is_told(&mut room);
     let is_right = first && second && found == Some(4) && is_text && is_end;
     say(rt, if is_right { "found\n" } else { "NOT FOUND\n" })
 }
