@@ -18,7 +18,7 @@ from pathlib import Path
 
 TOOLS = Path(__file__).resolve().parent
 CRATES = TOOLS.parent / "crates"
-FAULTS = "AllocError|Unread|WriteError|ErrorKind|AccessError|Why|RunFault|SessionFault|PointerError|Error"
+FAULTS = "AllocError|AllocFailed|Unread|WriteError|ErrorKind|AccessError|Why|RunFault|SessionFault|PointerError|Error"
 # calls that are written by operators
 OPERATORS = {"eq", "index", "index_mut", "fmt", "drop"}
 FUNCTION = re.compile(
