@@ -1,6 +1,5 @@
 -- Tokens as they are written, and lists of tokens.
-use Rattle.std.proofs.Common.{◌≡◌, ◌==◌, ◌<◌, ◌+◌, ℕ, suc, Bool, true, String, Global, List, [], ◌∷◌, ◌++◌, length, get_or, take, drop, map, if◌then◌else◌, string_bytes, bytes_eq, append_assoc, refl, sym, ap, ◌∙◌, arith}
-use Rattle.std.specs.List.{flat_map}
+use Rattle.std.proofs.Common.{◌≡◌, ◌==◌, ◌<◌, ◌+◌, ℕ, Bool, true, String, Global, List, [], ◌∷◌, ◌++◌, length, get_or, take, drop, map, if◌then◌else◌, string_bytes, bytes_eq, append_assoc, refl, sym, ap, ◌∙◌}
 use Rattle.std.specs.Bool.{Decides}
 use Rattle.std.specs.Cmp.Derive.Mapped.{pointwise-map}
 use Rattle.std.proofs.lemmas.List.{map-append, take-map, take_more, length-map, append-nil}

@@ -53,7 +53,10 @@ impl Fault {
     pub fn of_session(fault: SessionFault, document: Option<&[u8]>) -> Fault {
         match fault {
             SessionFault::Usage => Fault::Usage,
-            SessionFault::Refused(kind) => Fault::Refused(kind, document.and_then(|bytes| fault_at(bytes))),
+            SessionFault::Refused(kind) => Fault::Refused(
+                kind,
+                document.and_then(|bytes| fault_at(bytes)),
+            ),
             SessionFault::OutOfMemory => Fault::OutOfMemory,
             SessionFault::TooLong => Fault::TooLong,
         }

@@ -135,8 +135,14 @@ fn ends_are_cut_and_joined(rt: HostRuntime) -> Result<(), Fail> {
         let (whole, front) = (pointer(alloc, whole)?, pointer(alloc, front)?);
         assert!(rt; whole.begins_with(&front) == begins, "{whole} {front}");
         let joined = front.join(&whole)?;
-        assert!(rt; joined.begins_with(&front) && front.clone()? == front, "{joined}");
-        assert_eq!(rt; joined.tokens().len(), front.tokens().len() + whole.tokens().len());
+        assert!(rt;
+            joined.begins_with(&front) && front.clone()? == front,
+            "{joined}"
+        );
+        assert_eq!(rt;
+            joined.tokens().len(),
+            front.tokens().len() + whole.tokens().len()
+        );
     }
     Ok(())
 }
