@@ -23,7 +23,7 @@ FAULTS = "AllocError|AllocFailed|Unread|WriteError|ErrorKind|AccessError|Why|Run
 OPERATORS = {"eq", "index", "index_mut", "fmt", "drop"}
 FUNCTION = re.compile(
     r"^(?P<indent> *)(?P<pub>pub )?(?:final |const )*fn (?P<name>\w+)"
-    r"(?P<rest>[^;{]*?)(?P<end>;|\{\}|\{)$",
+    r"(?P<rest>(?:\[[^\]]*\]|[^;{])*?)(?P<end>;|\{\}|\{)$",
     re.M,
 )
 

@@ -63,6 +63,9 @@ for form in owned borrowed; do
   for call in to_value_repeats deserialize_repeats; do
     reads_value $form $call "$print_of_last"
   done
+  for call in from_slice from_str; do
+    reads_value $form $call "$print_of_repeat"
+  done
 done
 free buffers $'call: made\nagain made\n'
 
@@ -84,17 +87,17 @@ each 'stream spare' $'call: OutOfMemory\nagain 6 nodes\n' $'call: 6 nodes\nagain
 
 for members in 0 32 64; do
   after="$((members + 1)) members"$'\n'
-  for call in insert insert_hashed append_hashed; do
+  for call in insert insert_hashed append_hashed shift_insert; do
     each "insert $call $members" \
       "call: AllocError, key and value as before, map as before, then inserted, $after" \
       "call: inserted, $after"
   done
-  for call in get_or_insert append_hashed_with; do
+  for call in get_or_insert_with get_or_insert_hashed_with append_hashed_with; do
     each "insert $call $members" "call: AllocError, map as before, then inserted, $after" \
       "call: inserted, $after"
   done
 done
-for call in insert insert_hashed get_or_insert; do
+for call in insert insert_hashed get_or_insert_with get_or_insert_hashed_with; do
   free "present $call 32" $'call: was there, value as before, 32 members\n'
   free "present $call 64" $'call: was there, value as before, 64 members\n'
 done
@@ -200,6 +203,7 @@ for form in owned borrowed; do
     free "document $form $call" $'call: done {"some":null} > \n'
   done
   document $form push 'value as before, ' '{"some":["key","value",2,null]} > '
+  document $form insert_idx 'value as before, ' '{"some":[null,"key","value",2]} > '
   prints $form encode "$example > "
   prints $form encode_pp "$pretty > "
   prints $form write "$example > $example"
@@ -253,6 +257,9 @@ done
 makes 'make object' '{"b":null,"a":null}'
 makes 'make map' '{"a":null,"b":null}'
 makes 'make from_pairs' '{"b":null,"a":null}'
+for form in owned borrowed; do
+  makes "literal $form" '{"list":["a",null],"n":true}'
+done
 for call in clone_static into_static owned_from_borrowed borrowed_from_owned; do
   makes "convert $call" '{"q\"k":"a/bA"}'
 done
@@ -333,6 +340,8 @@ for form in tape lent; do
   lazy $form remove '{}'
   lazy $form push '["key","value",2,null]'
   lazy $form pop '["key","value"]'
+  lazy $form insert_idx '[null,"key","value",2]'
+  lazy $form remove_idx '["value",2]'
 done
 for members in 0 32 64; do
   behind $members
@@ -353,6 +362,7 @@ free 'lazy owned change_member' $'call: done, owned {"some":null}\n'
 free 'lazy owned change_item' $'call: done, owned [null,"value",2]\n'
 free 'lazy owned remove' $'call: done, owned {}\n'
 free 'lazy owned pop' $'call: done, owned ["key","value"]\n'
+free 'lazy owned remove_idx' $'call: done, owned ["value",2]\n'
 
 # A tape does without the places and tags that it can't keep.
 for parts in items members; do
@@ -361,7 +371,7 @@ done
 free 'tape new' $'call: made, and refused\n'
 free 'tape reads' $'call: found\n'
 
-for form in static tape owned borrowed lazy lent same same_std same_lazy; do
+for form in static tape owned borrowed lazy lent known same same_std same_lazy; do
   free "kinds $form" $'call: found\n'
 done
 free changes $'call: found\n'
@@ -386,6 +396,9 @@ each 'pointer_parts join' "call: AllocError again $tokens"$'\n' "call: ${tokens}
 each 'pointer_parts parent' $'call: AllocError again <a/b> \n' $'call: <a/b> again <a/b> \n'
 each 'pointer_parts push' $'call: AllocError, pointer as before, pushed\n' $'call: pushed\n'
 free 'pointer_parts free' $'call: looked at\n'
+each 'pointer_edit insert' $'call: refused, document as before, inserted\n' $'call: done, inserted\n'
+each 'pointer_edit push' $'call: refused, document as before, pushed\n' $'call: done, pushed\n'
+free 'pointer_edit edit' $'call: edited, and left\n'
 for form in owned borrowed; do
   free "pointer_in $form" $'call: found, {"some":["key",null,2]}\n'
 done
@@ -405,6 +418,27 @@ for form in tape lent owned; do
 done
 free 'pointer_lazy owned find_mut' "call: missing, tree as before, found, owned $example"$'\n'
 free 'pointer_lazy owned replace' $'call: missing, tree as before, found, owned {"some":["key",null,2]}\n'
+
+# edits CALL PRINT: an edit of what a pointer finds in each form of a lazy document
+edits() {
+  local done="done, owned $2"$'\n' form
+  for form in tape lent; do
+    each "pointer_edit_lazy $form $1" "call: refused, tree as before, form as before, $done" "call: $done"
+  done
+}
+
+edits insert '{"some":["key","value",2],"n":null}'
+edits remove '{}'
+edits push '{"some":["key","value",2,null]}'
+edits pop '{"some":["key","value"]}'
+for call in take update; do
+  edits $call '{"some":[null,"value",2]}'
+done
+free 'pointer_edit_lazy owned remove' $'call: done, owned {}\n'
+free 'pointer_edit_lazy owned pop' $'call: done, owned {"some":["key","value"]}\n'
+for call in take update; do
+  free "pointer_edit_lazy owned $call" $'call: done, owned {"some":[null,"value",2]}\n'
+done
 
 # reads_line LINE ANSWER: a command line that asks for the room of its nodes, and once
 reads_line() {

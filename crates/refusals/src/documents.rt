@@ -26,6 +26,7 @@ enum Call {
     Set,
     TrySet,
     Push,
+    InsertIdx,
     Encode,
     EncodePretty,
     Write,
@@ -45,6 +46,7 @@ impl Call {
             "set" => Ok(Call::Set),
             "try_set" => Ok(Call::TrySet),
             "push" => Ok(Call::Push),
+            "insert_idx" => Ok(Call::InsertIdx),
             "encode" => Ok(Call::Encode),
             "encode_pp" => Ok(Call::EncodePretty),
             "write" => Ok(Call::Write),
@@ -139,14 +141,26 @@ fn replaced<T: KeyText + Drop, E: Drop>(
     }
 }
 
-/// Appends to the array `some` of the document.
-fn pushed<T: KeyText + Drop>(document: &mut Document<T>, value: Document<T>) -> Answer<T> {
-    let Some(items) = document.get_mut("some") else {
-        return Answer::Another;
-    };
-    match items.push(value) {
+fn added<T: KeyText + Drop>(added: Result<(), Refused<AccessError, Document<T>>>) -> Answer<T> {
+    match added {
         Ok(()) => Answer::Done,
         Err(refused) => refused_by(refused.why, refused.value),
+    }
+}
+
+/// Appends to the array `some` of the document.
+fn pushed<T: KeyText + Drop>(document: &mut Document<T>, value: Document<T>) -> Answer<T> {
+    match document.get_mut("some") {
+        Some(items) => added(items.push(value)),
+        None => Answer::Another,
+    }
+}
+
+/// Puts it in front of the items of the array `some`.
+fn put_first<T: KeyText + Drop>(document: &mut Document<T>, value: Document<T>) -> Answer<T> {
+    match document.get_mut("some") {
+        Some(items) => added(items.insert_idx(0, value)),
+        None => Answer::Another,
     }
 }
 
@@ -172,6 +186,7 @@ fn answer_of<T: CopyText + Drop>(
         Call::Set => replaced(document.insert(key, value)),
         Call::TrySet => replaced(document.try_insert(key, value)),
         Call::Push => pushed(document, value),
+        Call::InsertIdx => put_first(document, value),
         Call::Encode => Answer::from(document.encode(alloc)),
         Call::EncodePretty => Answer::from(document.encode_pp(alloc)),
         Call::Write => written(document.write(out)),
@@ -309,6 +324,7 @@ fn is_example<T: KeyText + Drop>(mut value: Document<T>) -> bool {
         && items.get_idx(2).and_then(|item| item.as_u8()) == Some(2)
         && items.get_idx(3).is_none()
         && items.try_as_array().is_ok_and(|items| items.len() == 3)
+        && items.array_len() == Some(3)
         && value.contains_key("some")
         && !value.contains_key("none")
         && value.value_type() == ValueType::Object
@@ -320,6 +336,7 @@ fn is_example<T: KeyText + Drop>(mut value: Document<T>) -> bool {
     is_read
         && items.pop().is_ok_and(|last| last.is_some())
         && items.get_idx_mut(1).is_some()
+        && items.remove_idx(0).is_ok_and(|first| first.is_some())
         && value.remove("some").is_ok_and(|some| some.is_some())
         && value.into_object().is_some_and(|object| object.is_empty())
 }

@@ -5,9 +5,10 @@ use crate::documents::read;
 use crate::fault::Fault;
 use crate::lazy::{of_lent, of_tape};
 use crate::say::{say, say_call};
-use crate::scalars::{is_nothing, is_seven, is_true};
+use crate::scalars::{is_lazy_seven, is_nothing, is_seven, is_true};
 use crate::texts::text_of;
 use crate::typed::{is_document_of_kinds, is_lazy_of_kinds, is_tape_of_kinds};
+use sj_borrowed::KnownKey;
 use sj_document::{BorrowedValue, Document, OwnedValue, same};
 use sj_lazy::{SameAsLazy, Value};
 use sj_object::{KeyText, deserialize};
@@ -48,12 +49,28 @@ pub fn reads(rt: &(impl Print + AllocGlobal), form: &str) -> Result<(), Fault> {
         "borrowed" => is_document_of_kinds(&forms.borrowed, &forms.text),
         "lazy" => is_lazy_of_kinds(&of_tape(forms.tape.as_value()), &forms.text),
         "lent" => is_lazy_of_kinds(&of_lent(&forms.borrowed), &forms.text),
+        "known" => is_known(&forms),
         "same" => is_same(&forms),
         "same_std" => is_same_std(&forms),
         "same_lazy" => is_same_lazy(&forms),
         _ => return Err(Fault::Usage),
     };
     say(rt, if is_found { "found\n" } else { "NOT FOUND\n" })
+}
+
+/// Whether a known key finds a member in a tape, and in lazy values of both forms.
+fn is_known(forms: &Forms<'_, '_>) -> bool {
+    let key = KnownKey::from("int");
+    let part = forms.tape.as_value();
+    let (lazy, lent) = (of_tape(part), of_lent(&forms.borrowed));
+    let is_in_tape = match key.lookup_in_tape(part) {
+        Some(found) => is_seven(&found),
+        None => false,
+    };
+    is_in_tape
+        && is_lazy_seven(lazy.get_known(&key))
+        && is_lazy_seven(lent.get_known(&key))
+        && lent.get_known(&KnownKey::from("none")).is_none()
 }
 
 fn is_static() -> bool {

@@ -31,6 +31,8 @@ enum Call {
     Remove,
     Push,
     Pop,
+    InsertIdx,
+    RemoveIdx,
 }
 
 impl Call {
@@ -52,6 +54,8 @@ impl Call {
             "remove" => Ok(Call::Remove),
             "push" => Ok(Call::Push),
             "pop" => Ok(Call::Pop),
+            "insert_idx" => Ok(Call::InsertIdx),
+            "remove_idx" => Ok(Call::RemoveIdx),
             _ => Err(Fault::Usage),
         }
     }
@@ -60,19 +64,27 @@ impl Call {
     fn is_on_array(self) -> bool {
         matches!(
             self,
-            Call::ArrayMut | Call::ChangeItem | Call::Push | Call::Pop
+            Call::ArrayMut
+                | Call::ChangeItem
+                | Call::Push
+                | Call::Pop
+                | Call::InsertIdx
+                | Call::RemoveIdx
         )
     }
 
     /// Whether it may be refused for the write, once the value is a document.
     fn grows(self) -> bool {
-        matches!(self, Call::Insert | Call::TryInsert | Call::Push)
+        matches!(
+            self,
+            Call::Insert | Call::TryInsert | Call::Push | Call::InsertIdx
+        )
     }
 }
 
 /// Whether the call was refused for want of memory, and whether it handed back what it was given.
 #[derive(Clone, Copy, Debug, PartialEq, Eq)]
-enum Answer {
+pub enum Answer {
     Done,
     Refused,
     Returned,
@@ -92,7 +104,7 @@ fn returned(why: AccessError, value: &BorrowedValue<'_>) -> Answer {
     }
 }
 
-fn inserted<'i>(
+pub fn inserted<'i>(
     answer: Result<Option<BorrowedValue<'i>>, Refused<AccessError, BorrowedValue<'i>>>,
 ) -> Answer {
     match answer {
@@ -110,20 +122,20 @@ fn tried<'i>(
     }
 }
 
-fn pushed<'i>(answer: Result<(), Refused<AccessError, BorrowedValue<'i>>>) -> Answer {
+pub fn added<'i>(answer: Result<(), Refused<AccessError, BorrowedValue<'i>>>) -> Answer {
     match answer {
         Ok(()) => Answer::Done,
         Err(refused) => returned(refused.why, &refused.value),
     }
 }
 
-fn to_null<'i>() -> Replace<BorrowedValue<'i>> {
+pub fn to_null<'i>() -> Replace<BorrowedValue<'i>> {
     Replace {
         value: BorrowedValue::null(),
     }
 }
 
-fn changed<'i>(
+pub fn changed<'i>(
     answer: Result<
         Result<BorrowedValue<'i>, Replace<BorrowedValue<'i>>>,
         Refused<AllocError, Replace<BorrowedValue<'i>>>,
@@ -137,7 +149,7 @@ fn changed<'i>(
 }
 
 /// A call that hands nothing back.
-fn refused(why: AccessError) -> Answer {
+pub fn refused(why: AccessError) -> Answer {
     if why == AccessError::OutOfMemory {
         Answer::Refused
     } else {
@@ -146,7 +158,7 @@ fn refused(why: AccessError) -> Answer {
 }
 
 /// A call whose one refusal is want of memory.
-fn done(is_done: bool) -> Answer {
+pub fn done(is_done: bool) -> Answer {
     if is_done {
         Answer::Done
     } else {
@@ -181,8 +193,13 @@ fn answer_of(alloc: Global, call: Call, value: &mut Value<'_, '_, '_>) -> Answer
             Ok(_) => Answer::Done,
             Err(why) => refused(why),
         },
-        Call::Push => pushed(value.push(alloc, BorrowedValue::null())),
+        Call::Push => added(value.push(alloc, BorrowedValue::null())),
         Call::Pop => match value.pop(alloc) {
+            Ok(_) => Answer::Done,
+            Err(why) => refused(why),
+        },
+        Call::InsertIdx => added(value.insert_idx(alloc, 0, BorrowedValue::null())),
+        Call::RemoveIdx => match value.remove_idx(alloc, 0) {
             Ok(_) => Answer::Done,
             Err(why) => refused(why),
         },

@@ -12,7 +12,8 @@
 //!     refusals session_last FORM INPUT | pointer | no_pointer | pointer_parts CALL | pointer_in FORM
 //!     refusals pointer_lazy FORM CALL | kinds FORM | parts FORM | reads WHAT | from WHAT
 //!     refusals display FORM | stream CALL | fault CALL | changes | command LINE
-//!     refusals merge FORM CALL [MEMBERS] | within FORM
+//!     refusals merge FORM CALL [MEMBERS] | within FORM | literal FORM | pointer_edit CALL
+//!     refusals pointer_edit_lazy FORM CALL
 //!
 //! `refusals nodes LIST ..` makes a tape of each list of nodes.
 //!
@@ -33,7 +34,9 @@ mod kinds;
 mod laws;
 mod lazy;
 mod lazy_makes;
+mod lazy_pointer_edits;
 mod lines;
+mod literals;
 mod makes;
 mod map_reads;
 mod maps;
@@ -41,6 +44,7 @@ mod members;
 mod merges;
 mod nodes;
 mod parts;
+mod pointer_edits;
 mod pointer_parts;
 mod pointers;
 mod prints;
@@ -111,6 +115,8 @@ fn run_maps(rt: &(impl Print + AllocGlobal), words: &[String]) -> Result<(), Fau
         "no_pointer" => pointers::refuse(rt),
         "pointer_in" => pointers::in_document(rt, second),
         "pointer_parts" => pointer_parts::make(rt, second),
+        "pointer_edit" => pointer_edits::run_call(rt, second),
+        "pointer_edit_lazy" => lazy_pointer_edits::run_call(rt, second, third),
         "pointer_lazy" => pointers::in_lazy(rt, second, third),
         _ => run_documents(rt, words),
     }
@@ -126,6 +132,7 @@ fn run_documents(rt: &(impl Print + AllocGlobal), words: &[String]) -> Result<()
         "document" => documents::run_call(rt, second, third, word(words, 3)),
         "merge" => merges::run_call(rt, second, third, word(words, 3)),
         "make" => makes::make(rt, second),
+        "literal" => literals::make(rt, second),
         "make_lazy" => lazy_makes::make(rt, second),
         "convert" => makes::convert(rt, second),
         "from" => froms::make(rt, second),

@@ -140,7 +140,7 @@ pub fn convert(rt: &(impl Print + AllocGlobal), call: &str) -> Result<(), Fault>
 }
 
 /// Tells whether the call made a document.
-fn say_again(rt: &impl Print, is_made: bool) -> Result<(), Fault> {
+pub fn say_again(rt: &impl Print, is_made: bool) -> Result<(), Fault> {
     say(
         rt,
         if is_made {
@@ -151,7 +151,7 @@ fn say_again(rt: &impl Print, is_made: bool) -> Result<(), Fault> {
     )
 }
 
-fn say_document<T: KeyText + Drop>(
+pub fn say_document<T: KeyText + Drop>(
     rt: &(impl Print + AllocGlobal),
     document: &Document<T>,
 ) -> Result<(), Fault> {

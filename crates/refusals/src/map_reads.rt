@@ -1,4 +1,5 @@
-//! Reads of maps by hashes, by steps and by known keys. None of them asks for memory.
+//! Reads of maps by hashes, by steps and by known keys, and what puts members where they were. None of
+//! them asks for memory.
 
 ghost use Rattle.std.specs.Prelude.{◌≡◌, ◌<◌};
 
@@ -6,7 +7,7 @@ use crate::fault::Fault;
 use crate::maps::{Numbers, numbered};
 use crate::say::{say, say_call};
 use sj_borrowed::{KnownKey, StaticNode, Value};
-use sj_object::{KeyHasher, ObjectHasher};
+use sj_object::{HashMap, KeyHasher, ObjectHasher};
 use sj_text_core::Steps;
 use std::borrow::CowStr;
 use std::marker::Brand;
@@ -16,7 +17,7 @@ use std::sync::ledger::{Blank, Ledger};
 pub fn reads(rt: &(impl Print + AllocGlobal), what: &str) -> Result<(), Fault> {
     let alloc = rt.alloc();
     let map = numbered(alloc, 33)?;
-    let empty = numbered(alloc, 0)?;
+    let other = numbered(alloc, 33)?;
     let mut document = Value::object(alloc)?;
     if document
         .insert(CowStr::Borrowed("k07"), Value::Static(StaticNode::U64(7)))
@@ -26,7 +27,7 @@ pub fn reads(rt: &(impl Print + AllocGlobal), what: &str) -> Result<(), Fault> {
     }
     say_call(rt)?;
     let is_found = match what {
-        "map" => is_found_in(map) && is_emptied(empty),
+        "map" => is_found_in(map) && is_put_back(other) && is_emptied(HashMap::new(alloc)),
         "document" => is_known_in(document),
         _ => return Err(Fault::Usage),
     };
@@ -72,6 +73,32 @@ fn is_last_out(map: &mut Numbers) -> bool {
         Some((_, value)) => value == 32,
         None => false,
     }
+}
+
+/// Takes a member out and puts it back, walks over the map, and takes most and then all out; whether the
+/// members are where they were, and then two, and none.
+fn is_put_back(mut map: Numbers) -> bool {
+    let Some((index, key, value)) = map.shift_remove_full("k05") else {
+        return false;
+    };
+    if map.get_index_of(key.as_str()).is_some() || index > map.len() {
+        return false;
+    }
+    if map.shift_insert(index, key, value).is_err() {
+        return false;
+    }
+    let mut sum = 0u64;
+    for (_, value) in &map {
+        sum = sum.saturating_add(*value);
+    }
+    let is_back = match map.get_index(5) {
+        Some((key, value)) => key.as_str() == "k05" && *value == 5,
+        None => false,
+    };
+    map.retain(|_, value| *value > 30);
+    let is_sifted = map.len() == 2;
+    map.clear();
+    sum == 528 && is_back && is_sifted && map.is_empty()
 }
 
 /// Whether a map is empty; then it goes.

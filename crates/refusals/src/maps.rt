@@ -65,8 +65,10 @@ enum Call {
     Insert,
     Hashed,
     OrInsert,
+    OrInsertHashed,
     Append,
     AppendWith,
+    Shift,
 }
 
 impl Call {
@@ -74,9 +76,11 @@ impl Call {
         match name {
             "insert" => Some(Call::Insert),
             "insert_hashed" => Some(Call::Hashed),
-            "get_or_insert" => Some(Call::OrInsert),
+            "get_or_insert_with" => Some(Call::OrInsert),
+            "get_or_insert_hashed_with" => Some(Call::OrInsertHashed),
             "append_hashed" => Some(Call::Append),
             "append_hashed_with" => Some(Call::AppendWith),
+            "shift_insert" => Some(Call::Shift),
             _ => None,
         }
     }
@@ -112,7 +116,19 @@ fn answer_made(found: Option<u64>, is_made: bool) -> Answer {
     }
 }
 
-fn get_or_insert(map: &mut Numbers, hash: u64, key: String, value: u64) -> Answer
+fn get_or_insert(map: &mut Numbers, key: String, value: u64) -> Answer {
+    let mut is_made = false;
+    let found = match map.get_or_insert_with(key, || {
+        is_made = true;
+        value
+    }) {
+        Ok(found) => Some(*found),
+        Err(AllocError) => None,
+    };
+    answer_made(found, is_made)
+}
+
+fn get_or_insert_hashed(map: &mut Numbers, hash: u64, key: String, value: u64) -> Answer
     requires { hash ≡ hash_of_text (string_bytes key) }
 {
     let mut is_made = false;
@@ -150,14 +166,27 @@ fn append(map: &mut Numbers, is_made_late: bool, hash: u64, key: String, value: 
     answer_made(found, is_made)
 }
 
+/// Puts a key that is not there at a position, which is the last.
+fn shift(map: &mut Numbers, key: String, value: u64) -> Answer {
+    if map.get_index_of(key.as_str()).is_some() {
+        return Answer::There(value);
+    }
+    match map.shift_insert(map.len(), key, value) {
+        Ok(()) => Answer::Inserted,
+        Err(refused) => Answer::Refused(Some(refused.value)),
+    }
+}
+
 fn insert_by(call: Call, map: &mut Numbers, key: String, value: u64) -> Answer {
     let hash = ObjectHasher::default().hash_text(key.as_str());
     match call {
         Call::Insert => answer_of(map.insert(key, value)),
         Call::Hashed => answer_of(map.insert_hashed(hash, key, value)),
-        Call::OrInsert => get_or_insert(map, hash, key, value),
+        Call::OrInsert => get_or_insert(map, key, value),
+        Call::OrInsertHashed => get_or_insert_hashed(map, hash, key, value),
         Call::Append => append(map, false, hash, key, value),
         Call::AppendWith => append(map, true, hash, key, value),
+        Call::Shift => shift(map, key, value),
     }
 }
 
@@ -223,7 +252,7 @@ pub fn insert_present(
         _ => say(rt, "ANOTHER ANSWER, ")?,
     }
     if let Some(value) = map.get_mut("k05") {
-        let wanted = if matches!(call, Call::OrInsert) {
+        let wanted = if matches!(call, Call::OrInsert | Call::OrInsertHashed) {
             5
         } else {
             99

@@ -48,6 +48,7 @@ fn is_lazy_parts(value: &Value<'_, '_, '_>) -> bool {
     };
     is_one_seven!(items, is_lazy_seven)
         && items.clone().len() == 1
+        && value.array_len().is_none()
         && is_one_member!(members, is_lazy_seven)
         && value.repeats() == Repeats::First
 }

@@ -1,16 +1,10 @@
 //! Pointers copied, cut and put behind one another.
 
 use crate::fault::Fault;
+use crate::pointer_edits::read_pointer;
 use crate::say::{say, say_call, say_kept};
-use sj_path::{Pointer, pointer};
-use std::alloc::{AllocError, Global};
-
-fn read(alloc: Global, text: &str) -> Result<Pointer, Fault> {
-    match pointer(alloc, text) {
-        Ok(pointer) => Ok(pointer),
-        Err(_) => Err(Fault::OutOfMemory),
-    }
-}
+use sj_path::Pointer;
+use std::alloc::AllocError;
 
 /// What the call makes; None for a call that there is not.
 fn made(call: &str, whole: &Pointer, rest: &Pointer) -> Option<Result<Pointer, AllocError>> {
@@ -44,8 +38,8 @@ fn tell(rt: &impl Print, answer: &Option<Result<Pointer, AllocError>>) -> Result
 /// Makes a pointer of two twice, the first time between the first two writes.
 pub fn make(rt: &(impl Print + AllocGlobal), call: &str) -> Result<(), Fault> {
     let alloc = rt.alloc();
-    let whole = read(alloc, "/a~1b/0")?;
-    let rest = read(alloc, "/m~0n")?;
+    let whole = read_pointer(alloc, "/a~1b/0")?;
+    let rest = read_pointer(alloc, "/m~0n")?;
     match call {
         "push" => return push(rt, whole),
         "free" => return look(rt, whole, &rest),

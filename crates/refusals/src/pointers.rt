@@ -3,6 +3,7 @@
 use crate::documents::read;
 use crate::fault::Fault;
 use crate::lazy::{form_of, of_document, of_lent, of_tape};
+use crate::pointer_edits::read_pointer;
 use crate::say::{say, say_call, say_kept};
 use crate::texts::text_of;
 use sj_document::{BorrowedValue, Document, OwnedValue};
@@ -88,13 +89,6 @@ pub fn in_document(rt: &(impl Print + AllocGlobal), form: &str) -> Result<(), Fa
             tell(rt, is_found, &value)
         }
         _ => Err(Fault::Usage),
-    }
-}
-
-fn read_pointer(alloc: Global, text: &str) -> Result<Pointer, Fault> {
-    match pointer(alloc, text) {
-        Ok(pointer) => Ok(pointer),
-        Err(_) => Err(Fault::OutOfMemory),
     }
 }
 

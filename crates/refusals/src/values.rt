@@ -19,6 +19,8 @@ enum Reader {
     ToNamedValueWithBuffers,
     ToValueRepeats,
     DeserializeRepeats,
+    FromSlice,
+    FromStr,
 }
 
 impl Reader {
@@ -30,8 +32,18 @@ impl Reader {
             "to_named_value_with_buffers" => Ok(Reader::ToNamedValueWithBuffers),
             "to_value_repeats" => Ok(Reader::ToValueRepeats),
             "deserialize_repeats" => Ok(Reader::DeserializeRepeats),
+            "from_slice" => Ok(Reader::FromSlice),
+            "from_str" => Ok(Reader::FromStr),
             _ => Err(Fault::Usage),
         }
+    }
+}
+
+/// The bytes as a text.
+fn text_in(bytes: &[u8]) -> Result<&str, Fault> {
+    match str::from_utf8(bytes) {
+        Ok(text) => Ok(text),
+        Err(_) => Err(Fault::Usage),
     }
 }
 
@@ -53,6 +65,8 @@ fn read_owned(
         Reader::DeserializeRepeats => {
             deserialize_repeats::<OwnedValue, String>(alloc, bytes, Repeats::Last)
         }
+        Reader::FromSlice => sj_owned::from_slice(alloc, bytes),
+        Reader::FromStr => sj_owned::from_str(alloc, text_in(bytes)?),
     };
     tell_document(rt, read)
 }
@@ -65,6 +79,7 @@ fn read_borrowed(
 ) -> Result<(), Fault> {
     let alloc = rt.alloc();
     let read = match reader {
+        Reader::FromSlice | Reader::FromStr => return read_copied(rt, reader, bytes),
         Reader::ToValue => sj_borrowed::to_value(alloc, bytes),
         Reader::ToValueWithBuffers => sj_borrowed::to_value_with_buffers(alloc, bytes, buffers),
         Reader::ToNamedValue => sj_borrowed::to_borrowed_value(alloc, bytes),
@@ -75,6 +90,18 @@ fn read_borrowed(
         Reader::DeserializeRepeats => {
             deserialize_repeats::<BorrowedValue<'_>, CowStr<'_>>(alloc, bytes, Repeats::Last)
         }
+    };
+    tell_document(rt, read)
+}
+
+/// Reads a copy of the bytes to a borrowed document.
+fn read_copied(rt: &(impl Print + AllocGlobal), reader: Reader, bytes: &[u8]) -> Result<(), Fault> {
+    let alloc = rt.alloc();
+    let mut room = Vec::new(alloc);
+    let lent = &mut room;
+    let read = match reader {
+        Reader::FromStr => sj_borrowed::from_str(alloc, text_in(bytes)?, lent),
+        _ => sj_borrowed::from_slice(alloc, bytes, lent),
     };
     tell_document(rt, read)
 }

@@ -10,6 +10,7 @@ mod insert;
 mod lookup;
 mod or_insert;
 mod stored;
+mod tape;
 mod target;
 
 pub use error::Error;

@@ -19,11 +19,13 @@
 //! ```
 #![tactic(auto)]
 
+mod copied;
 pub mod known_key;
 pub mod laws;
 pub mod prelude;
 mod read;
 
+pub use copied::{from_slice, from_str};
 pub use known_key::KnownKey;
 pub use read::{
     to_borrowed_value, to_borrowed_value_with_buffers, to_value, to_value_repeats,

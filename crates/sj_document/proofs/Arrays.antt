@@ -1,9 +1,9 @@
--- The items of a document, and edits among them and at their end.
+-- The items of a document, how many they are, and edits among them and at their end.
 use Rattle.std.proofs.Common.{◌≡◌, ℕ, zero, suc, ◌+◌, ◌<◌, ◌≤◌, ◌++◌, List, [], ◌∷◌, map, length, get_or, set, Option, Some, None, option_map, Vec, Global, refl, sym, ap, ◌∙◌, arith}
 use Rattle.std.specs.Option.{option_to_list, MatchOption}
 use Rattle.std.specs.Vec.{vec_len}
 use Rattle.std.specs.List.{HoldsAt}
-use Rattle.sj_text_core.specs.Tree.{Tree, Items, item, items_from}
+use Rattle.sj_text_core.specs.Tree.{Tree, Items, item, items_len, items_from}
 use Rattle.sj_text_core.specs.Find.{nth_item}
 use Rattle.sj_text_core.specs.Edits.{push, front, last}
 use Rattle.sj_text_core.specs.Paths.{set_item}
@@ -13,6 +13,10 @@ use Rattle.sj_document.specs.declared.value.Document.{Document}
 empty : {A : Type 0} (xs : List A) → length xs ≡ 0 → xs ≡ []
 empty [] e = refl
 empty (x ∷ xs) e = cc
+
+pub length-items : {A : Type 0} (f : A → Tree) (vs : List A) → length vs ≡ items_len (items_from (map f vs))
+length-items f [] = refl
+length-items f (v ∷ vs) = ap suc (length-items f vs)
 
 module _ {T : Type 0} (t : T → List ℕ) where
   abbrev tree : Document T → Tree

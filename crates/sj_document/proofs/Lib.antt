@@ -4,6 +4,7 @@ pub mod Walks
 pub mod Steps
 pub mod Passes
 pub mod Arrays
+pub mod Placed
 pub mod Subsets
 pub mod Compared
 pub mod Mixed

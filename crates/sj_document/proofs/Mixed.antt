@@ -14,15 +14,12 @@ use Rattle.sj_object.specs.Entries.{Entry, texts as entry_texts}
 use Rattle.sj_object.specs.Edits.{lookup}
 use Rattle.sj_object.specs.Members.{entry_members}
 use Rattle.sj_object.proofs.Shown.{lookup-entry_members}
+use Rattle.sj_document.proofs.Arrays.{length-items}
 use Rattle.sj_document.proofs.Subsets.{or_right}
 
 module _ {B : Type 0} (g : B → Tree) where
-  counted : (ys : List B) → items_len (items_from (map g ys)) ≡ length ys
-  counted [] = refl
-  counted (y ∷ ys) = ap (λ n. suc n) (counted ys)
-
   pub lens_mixed : (is : Items) (ys : List B) → SameItems is (items_from (map g ys)) → items_len is ≡ length ys
-  lens_mixed is ys h = same_items_len is _ h ∙ counted ys
+  lens_mixed is ys h = same_items_len is _ h ∙ sym (length-items g ys)
 
   module _ (ahead next : List Tree) (x : Tree) (steps : ahead ≡ x ∷ next) (i : ℕ) (ys : List B) (y : B) (hy : i < length ys) (ey : y ≡ get_or ys i y) where
     abbrev Both : List Tree → List B → Type 0

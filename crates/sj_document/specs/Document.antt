@@ -63,7 +63,7 @@ abbrev pub why_of : {A : Type 0} → AccessError → Option A → AccessError
 why_of wrong None = wrong
 why_of wrong (Some x) = OutOfMemory
 
--- members with pairs put into them in turn
-abbrev pub put_pairs : {T : Type 0} → (T → List ℕ) → Members → List (T × Document T) → Members
-put_pairs t ms [] = ms
-put_pairs t ms (p ∷ ps) = put_pairs t (put (t p.0) (tree t p.1) ms) ps
+-- members with pairs put into them in turn, where t gives the text of a key and v the tree of a value
+abbrev pub put_pairs : {K V : Type 0} → (K → List ℕ) → (V → Tree) → Members → List (K × V) → Members
+put_pairs t v ms [] = ms
+put_pairs t v ms (p ∷ ps) = put_pairs t v (put (t p.0) (v p.1) ms) ps

@@ -2,6 +2,7 @@ pub mod Document
 pub mod Rows
 pub mod SameWith
 pub mod Makes
+pub mod Items
 pub mod Nodes
 pub use Rattle.sj_text_core.specs.Tree
 pub use Rattle.sj_text_core.specs.Find

@@ -23,4 +23,4 @@ IsInByteOrder = IsSortedBy (λ (p q : Pair). is_lt (string_cmp p.0 q.0))
 
 -- an object of the pairs, in the byte order of their keys
 abbrev pub IsOrdered : List Pair → Tree → Type 0
-IsOrdered ps u = (qs : List Pair) × IsPermutation ps qs × IsInByteOrder qs × (u ≡ obj (put_pairs string_bytes no_members qs))
+IsOrdered ps u = (qs : List Pair) × IsPermutation ps qs × IsInByteOrder qs × (u ≡ obj (put_pairs string_bytes (tree string_bytes) no_members qs))

@@ -17,6 +17,6 @@ pub use sj_text_core::{
 };
 pub use value::{
     BorrowedValue, Change, CopyText, Document, Leads, LendItem, LendMember, Object, OwnedValue,
-    Replace, Taken, borrowed_from_tape, change_item, change_member, climb, descend,
-    is_within_depth, owned_from_tape, replace_at, same, swap_item, swap_member, swap_token,
+    Replace, Taken, borrowed_from_tape, change_item, change_member, is_within_depth,
+    owned_from_tape, replace_at, same, swap_item, swap_member, swap_token, update_at,
 };

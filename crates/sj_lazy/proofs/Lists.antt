@@ -1,9 +1,12 @@
 -- Items and members as lists.
-use Rattle.std.proofs.Common.{◌≡◌, ℕ, List, [], ◌∷◌, map, length, refl, ap, suc, IsTrue, ◌↔◌, nat_eq, true≢false, sym, ◌∙◌}
+use Rattle.std.proofs.Common.{◌≡◌, ℕ, List, [], ◌∷◌, map, length, refl, ap, suc, Some, option_map, IsTrue, ◌↔◌, nat_eq, true≢false, sym, ◌∙◌}
 use Rattle.std.proofs.Math.Dec.{eqb-suc-zero}
-use Rattle.sj_text_core.specs.Tree.{Tree, Items, no_items, item, items_from, items_len, members_len, Members, no_members, member, listed, paired}
+use Rattle.sj_text_core.specs.Tree.{Tree, null, boolean, int, text, list, obj, Items, no_items, item, items_from, items_len, members_len, Members, no_members, member, listed, paired}
+use Rattle.sj_text_core.specs.Keep.{keep_items}
+use Rattle.sj_text_core.specs.Repeats.{keep_by, keep_last_items}
+use Rattle.sj_text_core.specs.Reads.{as_items}
 use Rattle.sj_text_core.specs.declared.repeats.Repeats.{Repeats}
-use Rattle.sj_text_core.specs.declared.repeats.Repeats.TheVariants.{First}
+use Rattle.sj_text_core.specs.declared.repeats.Repeats.TheVariants.{First, Last}
 use Rattle.sj_tape.specs.Members.{chosen}
 use Rattle.sj_object.specs.Entries.{Entry, entries_of, texts, keys, values}
 use Rattle.sj_object.specs.Members.{entry_members}
@@ -12,10 +15,6 @@ use Rattle.sj_lazy.specs.Value.{Form, of_tape, of_lent}
 pub listed-from : (ts : List Tree) → listed (items_from ts) ≡ ts
 listed-from [] = refl
 listed-from (t ∷ ts) = ap (λ l. t ∷ l) (listed-from ts)
-
-pub length-items : {A : Type 0} (f : A → Tree) (vs : List A) → length vs ≡ items_len (items_from (map f vs))
-length-items f [] = refl
-length-items f (v ∷ vs) = ap suc (length-items f vs)
 
 pub length-members : {K V : Type 0} (f : V → Tree) (es : List (Entry K V)) → length es ≡ members_len (entry_members f es)
 length-members f [] = refl
@@ -63,3 +62,26 @@ texts-members f (e ∷ es) = ap (λ l. e.0.1 ∷ l) (texts-members f es)
 pub values-members : {K V : Type 0} (f : V → Tree) (es : List (Entry K V)) → map {B = Form × (Repeats × Tree)} (λ v. (of_lent, (First, f v))) (values es) ≡ map (λ (p : List ℕ × (Repeats × Tree)). (of_lent, p.1)) (chosen First (paired (entry_members f es)))
 values-members f [] = refl
 values-members f (e ∷ es) = ap (λ (l : List (Form × (Repeats × Tree))). (of_lent, (First, f e.1)) ∷ l) (values-members f es)
+
+items_len-keep : (is : Items) → items_len (keep_items is) ≡ items_len is
+items_len-keep no_items = refl
+items_len-keep (item t is) = ap suc (items_len-keep is)
+
+items_len-keep_last : (is : Items) → items_len (keep_last_items is) ≡ items_len is
+items_len-keep_last no_items = refl
+items_len-keep_last (item t is) = ap suc (items_len-keep_last is)
+
+-- what is kept of an array has as many items
+pub array_len-keep_by : (c : Repeats) (t : Tree) → option_map items_len (as_items (keep_by c t)) ≡ option_map items_len (as_items t)
+array_len-keep_by First (list is) = ap Some (items_len-keep is)
+array_len-keep_by First null = refl
+array_len-keep_by First (boolean b) = refl
+array_len-keep_by First (int n c) = refl
+array_len-keep_by First (text s) = refl
+array_len-keep_by First (obj ms) = refl
+array_len-keep_by Last (list is) = ap Some (items_len-keep_last is)
+array_len-keep_by Last null = refl
+array_len-keep_by Last (boolean b) = refl
+array_len-keep_by Last (int n c) = refl
+array_len-keep_by Last (text s) = refl
+array_len-keep_by Last (obj ms) = refl

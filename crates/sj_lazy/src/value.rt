@@ -13,6 +13,8 @@ mod cmp;
 mod convert;
 mod edit;
 mod from;
+mod items;
+mod known;
 mod loans;
 mod make;
 mod scalar;

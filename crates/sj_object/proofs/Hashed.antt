@@ -109,6 +109,14 @@ IsIndexOf-last {K} {V} hs h x None b k e f = by_test (nat_le 32 (length hs)) ref
     small : (m : ℕ) → m ≤ 32 → buckets_for m None ≡ None
     small m l = let y : nat_le m 32 ≡ true = grind (arith, nat_tests) in λ j. if y j then None else Some 64
 
+-- so too, where the hashes are those of the members
+pub IsIndexOf-read : {K V : Type 0} (t : K → List ℕ) (H : List ℕ → ℕ) (old b : Store K V) (h x : ℕ) → IsIndexOf (hashes t H (pairs_of old) ++ h ∷ []) b → buckets_of b ≡ buckets_for (length (pairs_of old) + 1) (buckets_of old)
+    → (NeedsHash (length (entries_of t (pairs_of old))) (buckets_of old) → h ≡ x) → IsIndexOf (hashes t H (pairs_of old) ++ x ∷ []) b
+IsIndexOf-read t H old b h x k e f =
+    let ps = pairs_of old in
+    let n = hashes-length t H ps in
+    IsIndexOf-last (hashes t H ps) h x (buckets_of old) b k (e ∙ ap (λ m. buckets_for (m + 1) (buckets_of old)) (sym n)) (λ z. f (subst (λ m. NeedsHash m (buckets_of old)) (n ∙ sym (entries-length t ps)) z))
+
 -- fields that agree in what is data are the same
 pub same_inside : {K V S : Type 0} {G : text.Ghosts K} {E : eq.Ghosts K} {H : hasher.Ghosts S} (m : Inside K V S G E H) (d : no_repeats (texts (entries_of G.text_of (pairs_of m.store))) ≡ true)
     (r : HasRoom (length (entries_of G.text_of (pairs_of m.store))) (buckets_of m.store)) → ◌≡◌ {A = Inside K V S G E H} (record { store = m.store; hasher = m.hasher; distinct = d; room = r }) m

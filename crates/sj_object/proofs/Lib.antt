@@ -9,6 +9,8 @@ pub mod Tables
 pub mod Walked
 pub mod Hashed
 pub mod Stored
+pub mod Inserted
+pub mod Retained
 pub mod Added
 pub mod Shown
 pub mod Kept

@@ -1,10 +1,11 @@
 -- What a change of one value leaves of a map's members.
-use Rattle.std.proofs.Common.{◌≡◌, ℕ, true, List, length, get_or, slice_set, sym, ap, ◌∙◌, subst}
+use Rattle.std.proofs.Common.{◌≡◌, ℕ, true, List, [], ◌∷◌, ◌++◌, length, get_or, slice_set, sym, ap, ◌∙◌, subst, arith}
+use Rattle.std.proofs.lemmas.List.{length_push}
 use Rattle.sj_object.specs.Texts.{no_repeats}
 use Rattle.sj_object.specs.Entries.{texts, entries_of}
 use Rattle.sj_object.specs.Edits.{set_value_at, texts-set_value_at, length-set_value_at}
 use Rattle.sj_object.specs.Index.{HasRoom}
-use Rattle.sj_object.specs.Stored.{members_of, pairs_of, buckets_of, IsIndexOf, IsIndexed}
+use Rattle.sj_object.specs.Stored.{members_of, pairs_of, buckets_of, IsIndexOf, IsIndexed, IsIndexedAhead}
 use Rattle.sj_object.specs.declared.map.store.Store.{Store}
 use Rattle.sj_object.specs.declared.map.store.Store.TheVariants.{Plain, Hashed}
 use Rattle.sj_object.proofs.Position.{entries-set_value_at}
@@ -14,6 +15,11 @@ use Rattle.sj_object.proofs.Hashed.{hashes, hashes-length, hashes-set}
 pub indexed : {K V : Type 0} (t : K → List ℕ) (H : List ℕ → ℕ) (s : Store K V) → IsIndexOf (hashes t H (pairs_of s)) s → IsIndexed s
 indexed t H (Plain v) i = tt
 indexed t H (Hashed b) i = (i.table, ap length i.same ∙ hashes-length t H (members_of b.value.members))
+
+-- so too with one more, which stands last
+pub indexed_ahead : {K V : Type 0} (t : K → List ℕ) (H : List ℕ → ℕ) (h : ℕ) (s : Store K V) (ps : List (K × V)) → pairs_of s ≡ ps → IsIndexOf (hashes t H ps ++ h ∷ []) s → IsIndexedAhead s
+indexed_ahead t H h (Plain v) ps e i = tt
+indexed_ahead t H h (Hashed b) ps e i = (i.table, omega (arith, ap length i.same, length_push (hashes t H ps) h, hashes-length t H ps, ap length e))
 
 -- new is old, but for the value w of the member x at position i
 pub record IsChanged {K V : Type 0} (old new : Store K V) (i : ℕ) (x : K × V) (w : V) : Type 0 where

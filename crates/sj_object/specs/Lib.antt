@@ -4,6 +4,7 @@ pub mod Entries
 pub mod HashMap
 pub mod Members
 pub mod Edits
+pub mod Retained
 pub mod Steps
 pub mod Chains
 pub mod Holes

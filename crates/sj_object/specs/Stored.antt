@@ -1,5 +1,5 @@
 -- How a map stores its members: as a plain list, or, as a list or in a ring, beside the index of their hashes.
-use Rattle.std.specs.Prelude.{◌≡◌, ◌<◌, ◌≤◌, ℕ, List, length, Option, Some, None, ⊤}
+use Rattle.std.specs.Prelude.{◌≡◌, ◌+◌, ◌<◌, ◌≤◌, ℕ, List, length, Option, Some, None, ⊤}
 use Rattle.std.specs.Vec.{vec_len, vec_capacity}
 use Rattle.std.specs.VecDeque.{deque_len, deque_capacity}
 use denote.Struct.Props.{props}
@@ -45,6 +45,11 @@ module _ {K V : Type 0} where
   abbrev pub IsIndexed : Store K V → Type 0
   IsIndexed (Plain v) = ⊤
   IsIndexed (Hashed b) = IsTable b.value.table × (length (hashes_in b.value.table) ≡ length (members_of b.value.members))
+
+  -- so too, and one more, which stands last
+  abbrev pub IsIndexedAhead : Store K V → Type 0
+  IsIndexedAhead (Plain v) = ⊤
+  IsIndexedAhead (Hashed b) = IsTable b.value.table × (length (hashes_in b.value.table) ≡ length (members_of b.value.members) + 1)
 
   pub IsIndexOf-prop : (hashes : List ℕ) (s : Store K V) → IsProp (IsIndexOf hashes s)
   IsIndexOf-prop hashes (Plain v) = hlevel props

@@ -1,7 +1,7 @@
 //! Ordered maps from texts, and the keys and hashers that they take.
 //!
 //! ```
-//! let mut map = HashMap::with_capacity_and_hasher(alloc, 0, ObjectHasher::default())?;
+//! let mut map = HashMap::new(alloc);
 //! map.insert(String::from_str(alloc, "a")?, 1)?; // None
 //! map.insert(String::from_str(alloc, "b")?, 2)?; // None
 //! map.insert(String::from_str(alloc, "a")?, 3)?; // Some(1): the key keeps its place

@@ -17,11 +17,13 @@ mod members;
 mod or_insert;
 mod pairs;
 mod remove;
+mod retain;
 mod room;
 mod search;
+mod shift;
 mod store;
 
-use crate::hasher::KeyHasher;
+use crate::hasher::{KeyHasher, ObjectHasher};
 use crate::key::KeyText;
 pub use iter::{IntoIter, Iter, Keys, Values};
 use std::alloc::{AllocError, Global};
@@ -55,6 +57,19 @@ impl<K: KeyText, V, S: KeyHasher> Model for HashMap<K, V, S> {
     ghost view = { λ m. record { entries = entries_of K.text_of (pairs_of m.store); hasher = m.hasher; buckets = buckets_of m.store; distinct = m.distinct; room = m.room } };
 
     ghost invariant = { λ m. IsIndexOf (map (λ p. S.hash_of m.hasher (K.text_of p.0)) (pairs_of m.store)) m.store };
+}
+
+impl<K: KeyText, V> HashMap<K, V, ObjectHasher> {
+    /// An empty map, which takes no memory before its first member.
+    pub fn new(alloc: Global) -> Self
+        ensures entries { result.entries ≡ [] }
+        ensures buckets { result.buckets ≡ None }
+    {
+        HashMap {
+            store: Store::Plain(Vec::new(alloc)),
+            hasher: ObjectHasher::default(),
+        }
+    }
 }
 
 impl<K: KeyText, V, S: KeyHasher> HashMap<K, V, S> {

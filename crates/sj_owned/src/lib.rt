@@ -19,10 +19,12 @@
 //! ```
 #![tactic(auto)]
 
+mod copied;
 pub mod laws;
 pub mod prelude;
 mod read;
 
+pub use copied::{from_slice, from_str};
 pub use read::{
     to_owned_value, to_owned_value_with_buffers, to_value, to_value_repeats, to_value_with_buffers,
 };

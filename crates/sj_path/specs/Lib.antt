@@ -1,3 +1,4 @@
+pub mod Changes
 pub use Rattle.sj_text_core.specs.Places
 pub use Rattle.sj_text_core.specs.Paths
 pub use Rattle.sj_pointer.specs.Syntax

@@ -8,7 +8,10 @@ ghost use Rattle.sj_tape.specs.Value.{tree as tape_tree, choice as tape_choice};
 ghost use Rattle.sj_lazy.specs.Value.{tree, choice, form, part_form, kept, lazy_kept, owned};
 ghost use Rattle.sj_pointer.specs.Pointed.{token_into, pointed, pointed_by, set_pointed};
 
+mod edits;
+
 use crate::{walk, write};
+pub use edits::{insert, pop, push, remove, take, update};
 use sj_document::{BorrowedValue, Document};
 pub use sj_lazy::Value;
 use sj_lazy::{Lazy, Lent, Shared, Upgrade};

@@ -17,6 +17,7 @@
 #![tactic(auto)]
 
 pub mod borrowed;
+mod edits;
 pub mod lazy;
 pub mod owned;
 mod walk;

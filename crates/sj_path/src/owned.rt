@@ -1,5 +1,6 @@
 //! Pointers into documents that own their texts.
 
+pub use crate::edits::{insert, pop, push, remove, take};
 pub use crate::walk::{find, find_mut};
-pub use crate::write::replace;
+pub use crate::write::{replace, update};
 pub use sj_owned::Value;

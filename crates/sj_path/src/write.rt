@@ -1,16 +1,16 @@
 //! Writes at a pointer.
 
-ghost use Rattle.std.specs.Prelude.{◌≡◌, option_map, string_bytes, IfErr, OnErr};
+ghost use Rattle.std.specs.Prelude.{◌≡◌, Some, None, option_map, string_bytes, IfOk, IfErr, OnErr};
 ghost use Rattle.std.specs.Result.{result_ok};
 ghost use Rattle.sj_text_core.specs.Paths.{by_token};
 ghost use Rattle.sj_document.specs.Document.{tree};
+ghost use Rattle.sj_document.specs.declared.value.Document.{Document as DocumentOf};
 ghost use Rattle.sj_document.specs.Descents.{Exchanged};
 ghost use Rattle.sj_pointer.specs.Pointed.{pointed, set_pointed};
 
-use sj_document::{Document, Leads, climb, descend, swap_token};
+use sj_document::{Change, Document, Leads, Replace, swap_token, update_at};
 use sj_object::KeyText;
 use sj_pointer::{Pointer, position};
-use std::mem;
 
 /// Steps that are tokens.
 struct ByToken;
@@ -30,6 +30,19 @@ impl Leads<String> for ByToken {
     }
 }
 
+/// Changes what the pointer finds, and answers what the change does; the rest of the document stays.
+/// Where it finds nothing the document is as it was, and the change comes back.
+pub fn update<T: KeyText + Drop, C: Change<Document<T>>>(
+    value: &mut Document<T>,
+    pointer: &Pointer,
+    change: C,
+) -> Result<C::Answer, C>
+    ensures changed { IfOk result (λ answer. (v : DocumentOf T) × (w : DocumentOf T) × (pointed pointer.now (tree T.text_of value.old) ≡ Some (tree T.text_of v)) × C.makes change v w answer × (tree T.text_of value.new ≡ set_pointed pointer.now (tree T.text_of w) (tree T.text_of value.old))) }
+    ensures absent { IfErr result (λ back. (back ≡ change) × (pointed pointer.now (tree T.text_of value.old) ≡ None) × (tree T.text_of value.new ≡ tree T.text_of value.old)) }
+{
+    update_at::<ByToken, String, T, C>(value, pointer.tokens(), change)
+}
+
 /// Puts the value in the place of what the pointer finds, and answers what stood there. Where it
 /// finds nothing, the document stays as it was, and the value comes back as `Err`.
 pub fn replace<T: KeyText + Drop>(
@@ -42,13 +55,8 @@ pub fn replace<T: KeyText + Drop>(
     ensures kept { OnErr result (tree T.text_of value.new ≡ tree T.text_of value.old) }
     ensures back { IfErr result (λ given. given ≡ new) }
 {
-    let tokens = pointer.tokens();
-    let (up, depth) = descend::<ByToken, String, T>(value, tokens);
-    if depth < tokens.len() {
-        climb::<ByToken, String, T>(value, tokens, depth, up);
-        return Err(new);
+    match update(value, pointer, Replace { value: new }) {
+        Ok(before) => Ok(before),
+        Err(back) => Err(back.value),
     }
-    let before = mem::replace(value, new);
-    climb::<ByToken, String, T>(value, tokens, depth, up);
-    Ok(before)
 }

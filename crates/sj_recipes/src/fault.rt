@@ -8,8 +8,6 @@ use thiserror::Error;
 /// Why a setting was not changed.
 #[derive(Debug, Drop, Error)]
 pub enum Fault {
-    #[error("no server in the settings")]
-    NoServer,
     #[error("no hosts in the settings")]
     NoHosts,
     #[error("no position {0} among the hosts")]

@@ -2,7 +2,7 @@
 
 use sj_lazy::to_tape;
 use sj_lines::Lines;
-use sj_object::{HashMap, ObjectHasher};
+use sj_object::HashMap;
 use sj_owned::OwnedValue;
 use sj_owned::prelude::*;
 use sj_path::{pointer, position};
@@ -51,7 +51,7 @@ pub fn tapes(rt: &(impl Print + AllocGlobal)) -> anyhow::Result<()> {
 /// Of `sj_object`.
 pub fn maps(rt: &(impl Print + AllocGlobal)) -> anyhow::Result<()> {
     let alloc = rt.alloc();
-    let mut map = HashMap::with_capacity_and_hasher(alloc, 0, ObjectHasher::default())?;
+    let mut map = HashMap::new(alloc);
     map.insert(String::from_str(alloc, "a")?, 1)?;
     map.insert(String::from_str(alloc, "b")?, 2)?;
     println!(rt; "{:?}", map.insert(String::from_str(alloc, "a")?, 3)?)?;

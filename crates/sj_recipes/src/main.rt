@@ -58,7 +58,7 @@ fn changes(rt: &(impl Print + AllocGlobal)) -> anyhow::Result<()> {
     let is_set = replace_a_nested_value::set_port(alloc, &mut settings, 9090)?;
     println!(rt; "{is_set}")?;
     append_an_item::add_host(alloc, &mut settings, "b")?;
-    add_a_nested_member::set_in_server(alloc, &mut settings, "name", "kiosk")?;
+    edit_at_a_pointer::set_in_server(alloc, &mut settings, "name", "kiosk")?;
     println!(rt;
         "{}",
         remove_a_member::remove_topic(&mut settings)?.is_some()
@@ -103,14 +103,32 @@ fn further_changes(rt: &(impl Print + AllocGlobal)) -> anyhow::Result<()> {
     Ok(())
 }
 
+/// What keeps some members, and counts texts.
+fn sifts(rt: &(impl Print + AllocGlobal)) -> anyhow::Result<()> {
+    let alloc = rt.alloc();
+    let text = r#"{"topic":"news","seen":null,"at":7,"by":null}"#;
+    let mut message = read_and_keep::read_settings(alloc, text)?;
+    keep_some_members::drop_nulls(&mut message);
+    println!(rt; "{message}")?;
+    let other = read_and_keep::read_settings(alloc, r#"{"a":1}"#)?;
+    let messages = [message.clone()?, other, message];
+    println!(rt; "{:?}", count_texts::topics(alloc, &messages)?)?;
+    Ok(())
+}
+
 /// What prints, compares and builds.
 fn prints(rt: &(impl Print + AllocGlobal)) -> anyhow::Result<()> {
     let alloc = rt.alloc();
-    let made = make_a_document::settings(alloc)?;
+    let made = a_document_of_literals::settings(alloc)?;
     println!(rt; "{}", print::to_line(alloc, &made)?)?;
     println!(rt; "{}", print_for_people::to_pretty(alloc, &made)?)?;
     println!(rt; "{}", print::log(alloc, &made)?.len())?;
     println!(rt; "{}", make_a_document::ports(alloc, &[80, 443])?)?;
+    let counts = vec![in alloc;
+        (String::from_str(alloc, "b")?, 1),
+        (String::from_str(alloc, "a")?, 2),
+    ]?;
+    println!(rt; "{}", make_a_document::counts(alloc, counts)?)?;
     println!(rt;
         "{}",
         compare::is_same_text(alloc, "[1, {\"a\":2}]", "[1,{\"a\":2}]")?
@@ -216,6 +234,7 @@ fn main(rt: HostRuntime) -> anyhow::Result<()> {
     reads(&rt)?;
     changes(&rt)?;
     further_changes(&rt)?;
+    sifts(&rt)?;
     prints(&rt)?;
     proves(&rt)?;
     passes(&rt)?;

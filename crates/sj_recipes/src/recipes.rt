@@ -1,14 +1,17 @@
 //! A file a recipe of docs/COOKBOOK.md.
 
 pub mod a_contract_of_my_own;
+pub mod a_document_of_literals;
 pub mod a_pointer_of_keys;
 pub mod a_type_of_my_own;
-pub mod add_a_nested_member;
 pub mod an_item_at_a_position;
 pub mod append_an_item;
 pub mod compare;
 pub mod copy_a_document;
+pub mod count_texts;
 pub mod defaults;
+pub mod edit_at_a_pointer;
+pub mod keep_some_members;
 pub mod keep_what_was_refused;
 pub mod lines_of_messages;
 pub mod look_one_key_up_in_many;

@@ -1,12 +1,12 @@
 -- A write one step further down.
-use Rattle.std.proofs.Common.{◌≡◌, ◌<◌, ℕ, List, [], ◌∷◌, length, Option, Some, None, option_and_then, Result, Ok, Err, refl, sym, ap, ◌∙◌}
+use Rattle.std.proofs.Common.{◌≡◌, ℕ, List, [], ◌∷◌, Option, Some, None, option_and_then, Result, Ok, Err, refl, sym, ap, ◌∙◌}
 use Rattle.std.specs.declared.alloc.AllocError.{AllocError}
 use Rattle.sj_text_core.specs.Tree.{Tree, list, obj, Items, Members}
 use Rattle.sj_text_core.specs.Find.{find, nth}
 use Rattle.sj_text_core.specs.Places.{place_of}
 use Rattle.sj_text_core.specs.Paths.{Step, by_key, by_place, by_token, step_into, tree_at, set_placed, set_found, change_found, set_at}
 use Rattle.sj_text_core.proofs.Paths.{found_same}
-use Rattle.sj_document.specs.Descents.{plug, Descended}
+use Rattle.sj_text_core.proofs.Writes.{set_at-same}
 use Rattle.sj_commands.specs.Commands.{Write}
 use Rattle.sj_run.specs.Replies.{PlainReply, missing}
 use Rattle.sj_run.specs.Answers.{edit, edit_found, changed}
@@ -73,14 +73,13 @@ module _ {T : Type 0} (t : T → List ℕ) where
   answered_as p q w before before' after after' (Ok x) e f g h = ap (λ a. (a, changed_meant t x)) g ∙ h ∙ sym e
   answered_as p q w before before' after after' (Err x) e f g h = g ∙ h ∙ sym f
 
-  -- what was answered at the value at the path, which was taken out along it and put back
-  pub answered_there : (p : List Step) (w : Write) (before cur up after new : Tree) (d : ℕ) (r : Result (Changed T) AllocError) → Descended p before cur up d → d ≡ length p → after ≡ plug p d up new
+  -- what was answered at the value at the path
+  pub answered_there : (p : List Step) (w : Write) (before cur after new : Tree) (r : Result (Changed T) AllocError) → tree_at p before ≡ Some cur → after ≡ set_at p new before
       → Edits t [] w cur new r → Edits t p w before after r
-  answered_there p w before cur up after new d (Ok x) h l e f =
-      let there = h.reached l in
-      (λ j. (e j, changed_meant t x)) ∙ ap (λ (q : Tree × PlainReply). (plug p d up q.0, q.1)) f ∙ ap (λ n. (n, (changed w cur).1)) (there.1 (changed w cur).0) ∙ ap (λ o. edit_found o p w before) (sym there.0)
-  answered_there p w before cur up after new d (Err x) h l e f = e ∙ ap (plug p d up) f ∙ h.whole
+  answered_there p w before cur after new (Ok x) h e f =
+      ap (λ a. (a, changed_meant t x)) e ∙ ap (λ (q : Tree × PlainReply). (set_at p q.0 before, q.1)) f ∙ ap (λ o. edit_found o p w before) (sym h)
+  answered_there p w before cur after new (Err x) h e f = e ∙ ap (λ n. set_at p n before) f ∙ set_at-same p cur before h
 
   -- where nothing stands at the path
-  pub answered_nowhere : (p : List Step) (w : Write) (before cur up after : Tree) (d : ℕ) → Descended p before cur up d → d < length p → after ≡ plug p d up cur → (after, missing) ≡ edit p w before
-  answered_nowhere p w before cur up after d h l e = ap (λ a. (a, missing)) (e ∙ h.whole) ∙ ap (λ o. edit_found o p w before) (sym (h.missed l))
+  pub answered_nowhere : (p : List Step) (w : Write) (before after : Tree) → tree_at p before ≡ None → after ≡ before → (after, missing) ≡ edit p w before
+  answered_nowhere p w before after h e = ap (λ a. (a, missing)) e ∙ ap (λ o. edit_found o p w before) (sym h)

@@ -5,6 +5,7 @@ mod fronts;
 mod hashed;
 mod holes;
 mod ring;
+mod shifts;
 mod turned;
 
 use sj_object::*;

@@ -3,6 +3,7 @@ mod comparisons;
 mod depths;
 mod first_lines;
 mod forms;
+mod known_keys;
 mod makes;
 mod reads;
 mod scalars;

@@ -1,3 +1,4 @@
+mod edits;
 mod finds;
 mod page;
 mod texts;

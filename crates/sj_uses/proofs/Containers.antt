@@ -1,34 +1,59 @@
--- What the calls on documents do at a token, and at the place of a container.
-use Rattle.std.proofs.Common.{◌≡◌, ◌≤◌, ◌<◌, ℕ, zero, suc, false, List, [], ◌∷◌, length, map, arith, Option, Some, option_map, option_and_then, bytes_eq, refl, sym, ap, ◌∙◌, codes}
-use Rattle.std.specs.List.{insert, remove}
-use Rattle.sj_text_core.specs.Tree.{Tree, list, Items, item, items_from}
+-- What is left where something is taken out of a container, or nothing is there.
+use Rattle.std.proofs.Common.{◌≡◌, ◌<◌, ℕ, Bool, zero, suc, true, false, List, arith, Some, None, Result, Ok, Err, OnErr, option_map, bytes_eq, refl, sym, ap, ◌∙◌, nat_lt}
+use Rattle.std.specs.Bool.{if◌then◌else◌}
+use Rattle.std.proofs.lemmas.Bool.Decides.{nat_tests}
+use Rattle.sj_text_core.specs.Tree.{Tree, null, boolean, int, text, list, obj, Items, no_items, item, items_len, Members, no_members, member}
+use Rattle.sj_text_core.specs.Find.{find, find_member, nth, nth_item}
+use Rattle.sj_text_core.specs.Edits.{cut}
 use Rattle.sj_text_core.specs.Places.{place_of}
-use Rattle.sj_path.specs.Pointed.{path_of, pointed, set_pointed}
-use Rattle.sj_uses.specs.Patch.{with_token, without_token, insert_item, remove_item, insert_placed, edited}
-use Rattle.sj_text_core.proofs.Writes.{set_at-twice}
+use Rattle.sj_document.specs.Document.{without_member}
+use Rattle.sj_document.specs.Items.{remove_at, without_item_at}
+use Rattle.sj_uses.specs.Patch.{without_token, remove_placed}
 
--- taken out, changed and put back
-pub put_back : (p : List (List ℕ)) (f : Tree → Option Tree) (u v w t : Tree) → pointed p t ≡ Some u → Some w ≡ f u → Some (set_pointed p w (set_pointed p v t)) ≡ edited f p t
-put_back p f u v w t found e =
-    ap Some (set_at-twice (path_of p) w v t)
-    ∙ ap (option_map (λ x. set_pointed p x t)) e
-    ∙ ap (λ o. option_map (λ x. set_pointed p x t) (option_and_then f o)) (sym found)
+pub on_err : {A E : Type 0} (r : Result A E) (P Q : Type 0) → (P → Q) → OnErr r P → OnErr r Q
+on_err (Ok x) P Q f h = h
+on_err (Err e) P Q f h = f h
 
-module _ {D : Type 0} (f : D → Tree) where
-  pub inserted : (i : ℕ) (d : D) (ds : List D) → i ≤ length ds → insert_item i (f d) (items_from (map f ds)) ≡ Some (items_from (map f (insert ds i d)))
-  inserted zero d ds h = refl
-  inserted (suc i) d [] h = absurd (omega (arith, h))
-  inserted (suc i) d (e ∷ ds) h = ap (option_map (item (f e))) (inserted i d ds (omega (arith, h)))
+found_within : (i : ℕ) (is : Items) (v : Tree) → nth_item i is ≡ Some v → i < items_len is
+found_within i no_items v e = cc
+found_within zero (item t is) v e = omega arith
+found_within (suc i) (item t is) v e = let l = found_within i is v e in omega (arith, l)
 
-  pub taken_out : (i : ℕ) (ds : List D) → i < length ds → remove_item i (items_from (map f ds)) ≡ Some (items_from (map f (remove ds i)))
-  taken_out i [] h = absurd (omega (arith, h))
-  taken_out zero (e ∷ ds) h = refl
-  taken_out (suc i) (e ∷ ds) h = ap (option_map (item (f e))) (taken_out i ds (omega (arith, h)))
+pub item_taken : (k : List ℕ) (i : ℕ) (t v : Tree) → nth i t ≡ Some v → place_of k ≡ Some i → Some (without_item_at i t) ≡ without_token k t
+item_taken k i null v e p = cc
+item_taken k i (boolean b) v e p = cc
+item_taken k i (int m c) v e p = cc
+item_taken k i (text s) v e p = cc
+item_taken k i (obj ms) v e p = cc
+item_taken k i (list is) v e p =
+    let l = found_within i is v e in
+    let y : nat_lt i (items_len is) ≡ true = grind (arith, nat_tests) in
+    sym ((λ j. option_map list (remove_placed (p j) is)) ∙ (λ j. option_map list (if y j then Some (remove_at i is) else None)))
 
-pub placed_in : (k : List ℕ) (i : ℕ) (u t : Tree) (is js : Items) → t ≡ list is → place_of k ≡ Some i → bytes_eq k (codes "-") ≡ false → insert_item i u is ≡ Some js → Some (list js) ≡ with_token k u t
-placed_in k i u t is js e p d h =
-    ap (option_map list) (sym h) ∙ (λ j. option_map list (insert_placed (sym d j) (sym p j) u is)) ∙ ap (with_token k u) (sym e)
+remove_none : (i : ℕ) (is : Items) → nth_item i is ≡ None → remove_at i is ≡ is
+remove_none i no_items e = refl
+remove_none zero (item t is) e = cc
+remove_none (suc i) (item t is) e = ap (item t) (remove_none i is e)
 
-pub taken_at : (k : List ℕ) (i : ℕ) (t : Tree) (is js : Items) → t ≡ list is → place_of k ≡ Some i → remove_item i is ≡ Some js → Some (list js) ≡ without_token k t
-taken_at k i t is js e p h =
-    ap (option_map list) (sym h) ∙ ap (λ o. option_map list (option_and_then (λ n. remove_item n is) o)) (sym p) ∙ ap (without_token k) (sym e)
+pub no_item_taken : (i : ℕ) (t : Tree) → nth i t ≡ None → without_item_at i t ≡ t
+no_item_taken i null e = refl
+no_item_taken i (boolean b) e = refl
+no_item_taken i (int m c) e = refl
+no_item_taken i (text s) e = refl
+no_item_taken i (obj ms) e = refl
+no_item_taken i (list is) e = ap list (remove_none i is e)
+
+cut_none : (k : List ℕ) (ms : Members) → find_member k ms ≡ None → cut k ms ≡ ms
+cut_none k no_members e = refl
+cut_none k (member l t ms) e = by_test (bytes_eq k l) refl e (cut_none k ms) where
+  by_test : (b : Bool) → bytes_eq k l ≡ b → (if b then Some t else find_member k ms) ≡ None → (find_member k ms ≡ None → cut k ms ≡ ms) → (if bytes_eq k l then ms else member l t (cut k ms)) ≡ member l t ms
+  by_test true q h more = cc
+  by_test false q h more = (λ j. if q j then ms else member l t (cut k ms)) ∙ ap (member l t) (more h)
+
+pub no_member_taken : (k : List ℕ) (t : Tree) → find k t ≡ None → without_member k t ≡ t
+no_member_taken k null e = refl
+no_member_taken k (boolean b) e = refl
+no_member_taken k (int m c) e = refl
+no_member_taken k (text s) e = refl
+no_member_taken k (list is) e = refl
+no_member_taken k (obj ms) e = ap obj (cut_none k ms e)

@@ -1,3 +1,4 @@
 mod Edits
 mod Containers
 mod Covers
+mod Each

@@ -1,27 +1,22 @@
 -- What the operations of a patch are on a tree (RFC 6902, section 4).
-use Rattle.std.specs.Prelude.{ℕ, zero, suc, Bool, true, false, List, Option, Some, None, option_map, option_and_then, bytes_eq, codes}
-use Rattle.sj_text_core.specs.Tree.{Tree, list, obj, Items, no_items, item, Members}
+use Rattle.std.specs.Prelude.{ℕ, Bool, true, false, List, Option, Some, None, option_map, option_and_then, if◌then◌else◌, nat_le, nat_lt, bytes_eq, codes}
+use Rattle.sj_text_core.specs.Tree.{Tree, list, obj, Items, items_len, Members}
 use Rattle.sj_text_core.specs.Find.{find_member}
 use Rattle.sj_text_core.specs.Edits.{put, cut, push}
 use Rattle.sj_text_core.specs.Places.{place_of}
+use Rattle.sj_document.specs.Items.{insert_at, remove_at}
 use Rattle.sj_path.specs.Pointed.{pointed, set_pointed}
 
--- the items with u in front of the i-th, or behind the last; none past that
-abbrev pub insert_item : ℕ → Tree → Items → Option Items
-insert_item zero u is = Some (item u is)
-insert_item (suc i) u no_items = None
-insert_item (suc i) u (item t is) = option_map (item t) (insert_item i u is)
-
--- the items without the i-th
-abbrev pub remove_item : ℕ → Items → Option Items
-remove_item i no_items = None
-remove_item zero (item t is) = Some is
-remove_item (suc i) (item t is) = option_map (item t) (remove_item i is)
-
+-- the items with u at the end, or at a position up to that
 abbrev pub insert_placed : Bool → Option ℕ → Tree → Items → Option Items
 insert_placed true o u is = Some (push u is)
 insert_placed false None u is = None
-insert_placed false (Some i) u is = insert_item i u is
+insert_placed false (Some i) u is = if nat_le i (items_len is) then Some (insert_at i u is) else None
+
+-- the items without the one at a position, where there is one
+abbrev pub remove_placed : Option ℕ → Items → Option Items
+remove_placed None is = None
+remove_placed (Some i) is = if nat_lt i (items_len is) then Some (remove_at i is) else None
 
 -- a container with u at the token: at a position of a list, behind it at `-`, or at a key of an object
 abbrev pub with_token : List ℕ → Tree → Tree → Option Tree
@@ -35,7 +30,7 @@ cut_found k (Some u) ms = Some (obj (cut k ms))
 
 -- a container without what is at the token
 abbrev pub without_token : List ℕ → Tree → Option Tree
-without_token k (list is) = option_map list (option_and_then (λ i. remove_item i is) (place_of k))
+without_token k (list is) = option_map list (remove_placed (place_of k) is)
 without_token k (obj ms) = cut_found k (find_member k ms) ms
 without_token k t = None
 

@@ -2,8 +2,10 @@
 #![tactic(auto)]
 
 pub mod changes;
+pub mod fleet;
 pub mod merging;
 pub mod messages;
 pub mod patch;
 pub mod router;
 pub mod settings;
+pub mod typed;

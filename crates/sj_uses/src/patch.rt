@@ -1,13 +1,14 @@
-//! Two operations of a patch (RFC 6902): the whole document afterwards.
+//! Two operations of a patch (RFC 6902): the whole document afterwards, and refused, the document as it
+//! was.
 
-ghost use Rattle.std.specs.Prelude.{◌≡◌, Some, OnOk, option_map, string_bytes};
+ghost use Rattle.std.specs.Prelude.{◌≡◌, Some, OnErr, OnOk, option_map, string_bytes};
 ghost use Rattle.sj_document.specs.Document.{tree};
 ghost use Rattle.sj_uses.specs.Patch.{with_token, without_token, added, removed};
 
+use sj_document::Change;
 use sj_owned::prelude::*;
 use sj_owned::{AccessError, JsonError, Refused, Value};
 use sj_path::{Pointer, owned, position};
-use std::alloc::AllocFailed;
 
 /// Where a value is put or taken out: the place of the container, and the token in it; none for the
 /// whole document.
@@ -37,15 +38,44 @@ impl From<Refused<AccessError, Value>> for PatchError {
     }
 }
 
-impl<T: Drop> From<AllocFailed<T>> for PatchError {
-    fn from(_error: AllocFailed<T>) -> PatchError {
-        PatchError::Json(JsonError::OutOfMemory)
+/// Puts a value at a token of a container.
+#[derive(Drop)]
+struct Put {
+    token: String,
+    value: Value,
+}
+
+impl Change<Value> for Put {
+    type Answer = Result<(), PatchError>;
+
+    ghost makes = { λ c v w r. OnOk r (Some (tree string_bytes w) ≡ with_token (string_bytes c.token) (tree string_bytes c.value) (tree string_bytes v)) × OnErr r (tree string_bytes w ≡ tree string_bytes v) };
+
+    fn change(self, container: &mut Value) -> Result<(), PatchError> {
+        let Put { token, value } = self;
+        put_in(container, token, value)
+    }
+}
+
+/// Takes what is at a token out of a container.
+#[derive(Drop)]
+struct Take<'t> {
+    token: &'t str,
+}
+
+impl<'t> Change<Value> for Take<'t> {
+    type Answer = Result<Value, PatchError>;
+
+    ghost makes = { λ c v w r. OnOk r (Some (tree string_bytes w) ≡ without_token c.token.now (tree string_bytes v)) × OnErr r (tree string_bytes w ≡ tree string_bytes v) };
+
+    fn change(self, container: &mut Value) -> Result<Value, PatchError> {
+        take_from(container, self.token)
     }
 }
 
 /// Puts the value into the container.
 fn put_in(container: &mut Value, token: String, new: Value) -> Result<(), PatchError>
-    ensures { OnOk result (Some (tree string_bytes container.new) ≡ with_token (string_bytes token) (tree string_bytes new) (tree string_bytes container.old)) }
+    ensures done { OnOk result (Some (tree string_bytes container.new) ≡ with_token (string_bytes token) (tree string_bytes new) (tree string_bytes container.old)) }
+    ensures kept { OnErr result (tree string_bytes container.new ≡ tree string_bytes container.old) }
 {
     if container.is_object() {
         container.insert(token, new)?;
@@ -55,12 +85,9 @@ fn put_in(container: &mut Value, token: String, new: Value) -> Result<(), PatchE
         container.push(new)?;
         return Ok(());
     }
-    let Some(items) = container.as_array_mut() else {
-        return Err(PatchError::Missing);
-    };
-    match position(token.as_str()) {
-        Some(at) if at <= items.len() => {
-            items.insert(at, new)?;
+    match (position(token.as_str()), container.array_len()) {
+        (Some(at), Some(len)) if at <= len => {
+            container.insert_idx(at, new)?;
             Ok(())
         }
         _ => Err(PatchError::Missing),
@@ -69,7 +96,8 @@ fn put_in(container: &mut Value, token: String, new: Value) -> Result<(), PatchE
 
 /// Takes out of the container what is at the token.
 fn take_from(container: &mut Value, token: &str) -> Result<Value, PatchError>
-    ensures { OnOk result (Some (tree string_bytes container.new) ≡ without_token token.now (tree string_bytes container.old)) }
+    ensures done { OnOk result (Some (tree string_bytes container.new) ≡ without_token token.now (tree string_bytes container.old)) }
+    ensures kept { OnErr result (tree string_bytes container.new ≡ tree string_bytes container.old) }
 {
     if container.is_object() {
         return match container.remove(token)? {
@@ -77,44 +105,47 @@ fn take_from(container: &mut Value, token: &str) -> Result<Value, PatchError>
             None => Err(PatchError::Missing),
         };
     }
-    let Some(items) = container.as_array_mut() else {
+    let Some(at) = position(token) else {
         return Err(PatchError::Missing);
     };
-    match position(token) {
-        Some(at) if at < items.len() => Ok(items.remove(at)),
-        _ => Err(PatchError::Missing),
+    match container.remove_idx(at)? {
+        Some(old) => Ok(old),
+        None => Err(PatchError::Missing),
     }
 }
 
-/// The operation `add`: the container is taken out, changed and put back. Refused, the document
-/// may lack the container.
+/// The operation `add`. Refused, the document is as it was, and the value is let go.
 pub fn add(document: &mut Value, place: Place, new: Value) -> Result<(), PatchError>
-    ensures { OnOk result (Some (tree string_bytes document.new) ≡ added (place.parent, option_map string_bytes place.last) (tree string_bytes new) (tree string_bytes document.old)) }
+    ensures done { OnOk result (Some (tree string_bytes document.new) ≡ added (place.parent, option_map string_bytes place.last) (tree string_bytes new) (tree string_bytes document.old)) }
+    ensures kept { OnErr result (tree string_bytes document.new ≡ tree string_bytes document.old) }
 {
     let Place { parent, last } = place;
     let Some(token) = last else {
         *document = new;
         return Ok(());
     };
-    let Ok(mut container) = owned::replace(document, &parent, Value::null()) else {
-        return Err(PatchError::Missing);
-    };
-    put_in(&mut container, token, new)?;
-    let _ = owned::replace(document, &parent, container);
-    Ok(())
+    match owned::update(document, &parent, Put { token, value: new }) {
+        Ok(answer) => answer,
+        Err(_) => Err(PatchError::Missing),
+    }
 }
 
-/// The operation `remove`, so too, which answers what it took out.
+/// The operation `remove`, which answers what it took out. Refused, the document is as it was.
 pub fn remove(document: &mut Value, place: &Place) -> Result<Value, PatchError>
-    ensures { OnOk result (Some (tree string_bytes document.new) ≡ removed (place.now.parent, option_map string_bytes place.now.last) (tree string_bytes document.old)) }
+    ensures done { OnOk result (Some (tree string_bytes document.new) ≡ removed (place.now.parent, option_map string_bytes place.now.last) (tree string_bytes document.old)) }
+    ensures kept { OnErr result (tree string_bytes document.new ≡ tree string_bytes document.old) }
 {
     let Some(token) = &place.last else {
         return Err(PatchError::Missing);
     };
-    let Ok(mut container) = owned::replace(document, &place.parent, Value::null()) else {
-        return Err(PatchError::Missing);
-    };
-    let old = take_from(&mut container, token.as_str())?;
-    let _ = owned::replace(document, &place.parent, container);
-    Ok(old)
+    match owned::update(
+        document,
+        &place.parent,
+        Take {
+            token: token.as_str(),
+        },
+    ) {
+        Ok(answer) => answer,
+        Err(_) => Err(PatchError::Missing),
+    }
 }

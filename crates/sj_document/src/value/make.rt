@@ -93,7 +93,7 @@ fn put_all<T: KeyText + Drop>(
     alloc: Global,
     pairs: Vec<(T, Document<T>)>,
 ) -> Result<Object<T>, AllocError>
-    ensures { IfOk result (λ m. entry_members (tree T.text_of) m.entries ≡ put_pairs T.text_of no_members pairs.items) }
+    ensures { IfOk result (λ m. entry_members (tree T.text_of) m.entries ≡ put_pairs T.text_of (tree T.text_of) no_members pairs.items) }
 {
     let mut members = Object::with_capacity_and_hasher(
         alloc,
@@ -196,7 +196,7 @@ impl<T: KeyText + Drop> Document<T> {
     ) -> Result<Document<T>, AllocError>
         requires can { I.can_next pairs }
         requires ends { IsFinite (I.remaining pairs) }
-        ensures { IfOk result (λ d. (xs : List (T × Document T)) × Drains I.next_gives pairs xs × (tree T.text_of d ≡ obj (put_pairs T.text_of no_members xs))) }
+        ensures { IfOk result (λ d. (xs : List (T × Document T)) × Drains I.next_gives pairs xs × (tree T.text_of d ≡ obj (put_pairs T.text_of (tree T.text_of) no_members xs))) }
     {
         let mut members = Object::with_capacity_and_hasher(alloc, 0, ObjectHasher::default())?;
         for (key, value) in pairs {

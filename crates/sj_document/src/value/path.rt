@@ -1,14 +1,16 @@
-//! Writes at a path, on a bounded stack and without memory.
+//! The one walk of writes at a path, on a bounded stack and without memory.
 //!
 //! On the way down the part that a step finds is taken out, and what it stood in stands in turn in
 //! the place of the next part that is taken out. On the way up each goes back into its place.
 
-ghost use Rattle.std.specs.Prelude.{◌≡◌, ◌≤◌, length, map, string_bytes};
-ghost use Rattle.sj_text_core.specs.Paths.{Step, by_key, set_at};
+ghost use Rattle.std.specs.Prelude.{◌≡◌, ◌≤◌, Some, None, IfOk, IfErr, length, map, string_bytes};
+ghost use Rattle.sj_text_core.specs.Paths.{Step, by_key, tree_at, set_at};
+ghost use Rattle.sj_document.specs.declared.value.Document.{Document as DocumentOf};
 ghost use Rattle.sj_document.specs.Document.{tree};
 ghost use Rattle.sj_document.specs.Descents.{plug, IsSpine, Descended, Exchanged};
 
 use crate::value::Document;
+use crate::value::change::{Change, Replace};
 use crate::value::swap::swap_member;
 use sj_object::KeyText;
 use std::mem;
@@ -47,7 +49,7 @@ impl Leads<String> for ByKey {
 
 /// Goes down along the path as far as it leads: the value is then what stands there. Answers what
 /// that was taken out of, which `climb` takes, and how many steps were gone.
-pub fn descend<W: Leads<S>, S, T: KeyText + Drop>(
+fn descend<W: Leads<S>, S, T: KeyText + Drop>(
     value: &mut Document<T>,
     path: &[S],
 ) -> (Document<T>, usize)
@@ -69,7 +71,7 @@ pub fn descend<W: Leads<S>, S, T: KeyText + Drop>(
 
 /// Goes back up: the value is then the whole again, with what it was in the place that `depth` steps
 /// lead to.
-pub fn climb<W: Leads<S>, S, T: KeyText + Drop>(
+fn climb<W: Leads<S>, S, T: KeyText + Drop>(
     value: &mut Document<T>,
     path: &[S],
     depth: usize,
@@ -91,15 +93,33 @@ pub fn climb<W: Leads<S>, S, T: KeyText + Drop>(
     }
 }
 
+/// Changes what stands at the path, and answers what the change does; the rest of the document stays.
+/// Where nothing stands there the document is as it was, and the change comes back.
+pub fn update_at<W: Leads<S>, S, T: KeyText + Drop, C: Change<Document<T>>>(
+    value: &mut Document<T>,
+    path: &[S],
+    change: C,
+) -> Result<C::Answer, C>
+    ensures changed { IfOk result (λ answer. (v : DocumentOf T) × (w : DocumentOf T) × (tree_at (map W.step_of path.now) (tree T.text_of value.old) ≡ Some (tree T.text_of v)) × C.makes change v w answer × (tree T.text_of value.new ≡ set_at (map W.step_of path.now) (tree T.text_of w) (tree T.text_of value.old))) }
+    ensures absent { IfErr result (λ back. (back ≡ change) × (tree_at (map W.step_of path.now) (tree T.text_of value.old) ≡ None) × (tree T.text_of value.new ≡ tree T.text_of value.old)) }
+{
+    let (up, depth) = descend::<W, S, T>(value, path);
+    if depth < path.len() {
+        climb::<W, S, T>(value, path, depth, up);
+        return Err(change);
+    }
+    let answer = change.change(value);
+    climb::<W, S, T>(value, path, depth, up);
+    Ok(answer)
+}
+
 /// Puts `new` in the place of what stands at the path of keys, if anything does.
 pub fn replace_at<T: KeyText + Drop>(value: &mut Document<T>, path: &[String], new: Document<T>)
     ensures { tree T.text_of value.new ≡ set_at (map (λ s. by_key (string_bytes s)) path.now) (tree T.text_of new) (tree T.text_of value.old) }
 {
-    let (up, depth) = descend::<ByKey, String, T>(value, path);
-    if depth < path.len() {
-        climb::<ByKey, String, T>(value, path, depth, up);
-        return;
-    }
-    *value = new;
-    climb::<ByKey, String, T>(value, path, depth, up);
+    let _ = update_at::<ByKey, String, T, Replace<Document<T>>>(
+        value,
+        path,
+        Replace { value: new },
+    );
 }

@@ -60,7 +60,7 @@ impl<P, B, T: KeyText + Drop> Lazy<P, B, T> {
     ) -> Result<Self, AllocError>
         requires can { I.can_next pairs }
         requires ends { IsFinite (I.remaining pairs) }
-        ensures { IfOk result (λ v. (xs : List (T × Document T)) × Drains I.next_gives pairs xs × (owned T.text_of v ≡ Some (obj (put_pairs T.text_of no_members xs)))) }
+        ensures { IfOk result (λ v. (xs : List (T × Document T)) × Drains I.next_gives pairs xs × (owned T.text_of v ≡ Some (obj (put_pairs T.text_of (tree T.text_of) no_members xs)))) }
     {
         let document = Document::try_from_pairs(alloc, pairs)?;
         Ok(Lazy::Value(Shared::Owned(document)))

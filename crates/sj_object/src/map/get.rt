@@ -1,6 +1,7 @@
 //! What reads a member by its key, and what lends its value for writing.
 
-ghost use Rattle.std.specs.Prelude.{◌≡◌, ◌+◌, ◌<◌, ℕ, length, None, Some, IsSome, IfSome, is_some};
+ghost use Rattle.std.specs.Prelude.{◌≡◌, ◌+◌, ◌<◌, ℕ, length, None, Some, IsSome, IfSome, is_some, option_map};
+ghost use Rattle.std.specs.List.{slice_get};
 ghost use Rattle.std.specs.Borrow.{sem};
 ghost use Rattle.std.specs.Option.{option_copied, option_copied_mut};
 
@@ -72,9 +73,41 @@ impl<K: KeyText, V, S: KeyHasher> HashMap<K, V, S> {
         }
     }
 
+    /// The position of the key, counted from 0 in the order of the map; None where it is absent. Its
+    /// hash is read only where there are buckets.
+    pub fn get_index_of(&self, key: &str) -> Option<usize>
+        ensures found { result ≡ position key.now self.now.entries }
+        ensures within { IfSome result (λ i. i < length self.now.entries) }
+        ensures absent { result ≡ None → lookup key.now self.now.entries ≡ None }
+    {
+        self.index_of(self.hash_in(key), key)
+    }
+
+    /// The member at a position, counted from 0, in constant time; None past the last.
+    pub fn get_index(&self, index: usize) -> Option<(&K, &V)>
+        ensures { option_map (λ m. ((m.0.now, K.text_of m.0.now), m.1.now)) result ≡ slice_get self.now.entries index }
+    {
+        if index < self.store.len() {
+            let pair = self.store.pair(index);
+            Some((&pair.0, &pair.1))
+        } else {
+            None
+        }
+    }
+
     /// The position of the key, which hashes to `hash`, counted from 0; None where it is absent.
     pub fn position_hashed(&self, hash: u64, key: &str) -> Option<usize>
         requires { hash ≡ S.hash_of self.now.hasher key.now }
+        ensures found { result ≡ position key.now self.now.entries }
+        ensures within { IfSome result (λ i. i < length self.now.entries) }
+        ensures absent { result ≡ None → lookup key.now self.now.entries ≡ None }
+    {
+        self.index_of(hash, key)
+    }
+
+    /// The position of the key, whose hash is read only where there are buckets.
+    fn index_of(&self, hash: u64, key: &str) -> Option<usize>
+        requires { IsSome self.now.buckets → hash ≡ S.hash_of self.now.hasher key.now }
         ensures found { result ≡ position key.now self.now.entries }
         ensures within { IfSome result (λ i. i < length self.now.entries) }
         ensures absent { result ≡ None → lookup key.now self.now.entries ≡ None }

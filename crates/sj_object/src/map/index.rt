@@ -1,9 +1,9 @@
 //! The index of a map's members by their hashes.
 
-ghost use Rattle.std.specs.Prelude.{◌≡◌, ◌+◌, ◌-◌, ◌/◌, ◌<◌, ◌≤◌, ◌∷◌, ◌++◌, [], length, take, slice_index, IsTrue, Some, IfOk, OnOk, OnErr};
-ghost use Rattle.std.specs.List.{remove};
+ghost use Rattle.std.specs.Prelude.{◌≡◌, ◌+◌, ◌-◌, ◌/◌, ◌<◌, ◌≤◌, ◌^◌, ◌∷◌, ◌++◌, [], ℕ, List, length, take, slice_index, IsTrue, Some, IfOk, OnOk, OnErr};
+ghost use Rattle.std.specs.List.{insert, remove};
 ghost use Rattle.std.specs.Vec.{vec_capacity};
-ghost use Rattle.sj_object.specs.Holes.{AreHoles};
+ghost use Rattle.sj_object.specs.Holes.{AreHoles, IsChained};
 ghost use Rattle.sj_object.specs.Index.{buckets_for, hashes_in, IsTable};
 
 use super::chain::{bucket_of, link, pass_over};
@@ -80,11 +80,23 @@ impl Table {
         if self.len() == self.heads.len() {
             return self.grow(alloc, hash);
         }
+        self.push_reserved(hash);
+        Ok(())
+    }
+
+    /// Puts one more hash last, where there are more buckets than members.
+    #[inline(always)]
+    pub fn push_reserved(&mut self, hash: u64)
+        requires table { IsTable self.old }
+        requires room { length (hashes_in self.old) < length self.old.heads.items }
+        ensures hashes { hashes_in self.new ≡ hashes_in self.old ++ hash ∷ [] }
+        ensures buckets { length self.new.heads.items ≡ length self.old.heads.items }
+        ensures table { IsTable self.new }
+    {
         let bucket = bucket_of(hash, self.bits);
         self.links.push_reserved(self.heads[bucket]);
         self.hashes.push_reserved(hash);
         self.heads[bucket] = self.hashes.len();
-        Ok(())
     }
 
     /// Puts one more hash last, and doubles the buckets.
@@ -187,8 +199,60 @@ impl Table {
         ensures none { (self.new.gone ≡ 0) × (self.new.holes.items ≡ []) }
     {
         self.forget();
+        self.link_anew();
+    }
+
+    /// Links the members anew, none of which left.
+    fn link_anew(&mut self)
+        requires bits { self.old.bits < 64 }
+        requires count { length self.old.heads.items ≡ 2 ^ self.old.bits }
+        requires size { length self.old.links.items ≡ length self.old.hashes.items }
+        ensures linked { IsChained (2 ^ self.new.bits) [] self.new.hashes.items self.new.links.items self.new.heads.items }
+        ensures space { vec_capacity self.new.links ≡ vec_capacity self.old.links }
+        ensures buckets { length self.new.heads.items ≡ length self.old.heads.items }
+        ensures rest { (self.new.bits ≡ self.old.bits) × (self.new.gone ≡ self.old.gone) × (self.new.holes ≡ self.old.holes) × (self.new.hashes ≡ self.old.hashes) }
+    {
         self.heads.fill(0);
         link(self.bits, &self.hashes, &mut self.links, &mut self.heads);
+    }
+
+    /// Moves the last hash to a position, and each from there on to the one behind it.
+    pub fn move_last(&mut self, position: usize)
+        requires within { position < length (hashes_in self.old) }
+        requires table { IsTable self.old }
+        ensures hashes { (before : List ℕ) → (hash : ℕ) → hashes_in self.old ≡ before ++ hash ∷ [] → hashes_in self.new ≡ insert before position hash }
+        ensures buckets { length self.new.heads.items ≡ length self.old.heads.items }
+        ensures table { IsTable self.new }
+    {
+        self.forget();
+        self.move_last_hash(position);
+        self.link_anew();
+    }
+
+    /// Moves the last hash, where those that left are forgotten.
+    fn move_last_hash(&mut self, position: usize)
+        requires { position < length self.old.hashes.items }
+        ensures hashes { (before : List ℕ) → (hash : ℕ) → self.old.hashes.items ≡ before ++ hash ∷ [] → self.new.hashes.items ≡ insert before position hash }
+        ensures size { length self.new.hashes.items ≡ length self.old.hashes.items }
+        ensures space { vec_capacity self.new.hashes ≡ vec_capacity self.old.hashes }
+        ensures rest { (self.new.bits ≡ self.old.bits) × (self.new.gone ≡ self.old.gone) × (self.new.holes ≡ self.old.holes) × (self.new.links ≡ self.old.links) × (self.new.heads ≡ self.old.heads) }
+    {
+        let hash = self.hashes.remove(self.hashes.len() - 1);
+        let _ = self.hashes.insert(position, hash);
+    }
+
+    /// Takes all hashes out. The buckets stay.
+    pub fn clear(&mut self)
+        requires { IsTable self.old }
+        ensures hashes { hashes_in self.new ≡ [] }
+        ensures buckets { length self.new.heads.items ≡ length self.old.heads.items }
+        ensures table { IsTable self.new }
+    {
+        self.gone = 0;
+        self.holes.clear();
+        self.hashes.clear();
+        self.links.clear();
+        self.link_anew();
     }
 
     /// Forgets the members that left. The others are in no chain then.

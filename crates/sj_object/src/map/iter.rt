@@ -182,3 +182,15 @@ impl<K: KeyText + Drop, V: Drop, S: KeyHasher + Drop> IntoIterator for HashMap<K
         }
     }
 }
+
+impl<'a, K: KeyText, V, S: KeyHasher> IntoIterator for &'a HashMap<K, V, S> {
+    type Item = (&'a K, &'a V);
+
+    type IntoIter = Iter<'a, K, V>;
+
+    ghost into_iter_gives = { λ m it. entries_of K.text_of it ≡ m.now.entries };
+
+    fn into_iter(self) -> Iter<'a, K, V> {
+        self.iter()
+    }
+}

@@ -1,7 +1,7 @@
 //! The members of a map beside an index.
 
-ghost use Rattle.std.specs.Prelude.{◌≡◌, ◌-◌, ◌<◌, ◌∷◌, ◌++◌, [], length, take, slice_set, slice_index_or, IsSome, IfNone, IfSome, OnOk};
-ghost use Rattle.std.specs.List.{remove};
+ghost use Rattle.std.specs.Prelude.{◌≡◌, ◌-◌, ◌<◌, ◌≤◌, ◌∷◌, ◌++◌, [], length, take, slice_set, slice_index_or, IsSome, IfNone, IfSome, OnOk};
+ghost use Rattle.std.specs.List.{insert, remove};
 ghost use Rattle.std.specs.Option.{option_to_list};
 ghost use Rattle.std.specs.Vec.{vec_len, vec_capacity};
 ghost use Rattle.sj_object.specs.Stored.{members_of, HasPlaceIn};
@@ -96,6 +96,32 @@ impl<K, V> Members<K, V> {
         match self {
             Members::Listed(pairs) => pairs.push_reserved(pair),
             Members::Ring(pairs) => pairs.push_back_reserved(pair),
+        }
+    }
+
+    /// Puts a member at a position, for which there is a place. Each from there on goes to the position
+    /// behind its own.
+    pub fn insert_reserved(&mut self, position: usize, pair: (K, V))
+        requires place { HasPlaceIn self.old }
+        requires within { position ≤ length (members_of self.old) }
+        ensures { members_of self.new ≡ insert (members_of self.old) position pair }
+    {
+        match self {
+            Members::Listed(pairs) => pairs.insert(position, pair).unwrap(),
+            Members::Ring(pairs) => pairs.insert(position, pair).unwrap(),
+        }
+    }
+
+    /// Lets all go. The memory stays.
+    pub fn clear(&mut self)
+    where
+        K: Drop,
+        V: Drop,
+        ensures { members_of self.new ≡ [] }
+    {
+        match self {
+            Members::Listed(pairs) => pairs.clear(),
+            Members::Ring(pairs) => pairs.clear(),
         }
     }
 

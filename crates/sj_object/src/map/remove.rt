@@ -1,9 +1,8 @@
-//! What takes a member out.
+//! What takes members out.
 
 ghost use Rattle.std.specs.Prelude.{◌≡◌, ◌++◌, [], IfNone, option_to_list};
 
 use super::HashMap;
-use super::search::position_of;
 use crate::hasher::KeyHasher;
 use crate::key::KeyText;
 
@@ -20,9 +19,7 @@ impl<K: KeyText, V, S: KeyHasher> HashMap<K, V, S> {
         ensures hasher { self.new.hasher ≡ self.old.hasher }
         ensures buckets { self.new.buckets ≡ self.old.buckets }
     {
-        let hash = self.hash_in(key);
-        let i = position_of(&self.store, &self.hasher, hash, key)?;
-        let (_, value) = self.store.remove(i)?;
+        let (_, _, value) = self.shift_remove_full(key)?;
         Some(value)
     }
 
@@ -36,6 +33,19 @@ impl<K: KeyText, V, S: KeyHasher> HashMap<K, V, S> {
         ensures buckets { self.new.buckets ≡ self.old.buckets }
     {
         self.store.pop()
+    }
+
+    /// Lets all members go. The memory that the map has stays for members to come, and so do its
+    /// buckets.
+    pub fn clear(&mut self)
+    where
+        K: Drop,
+        V: Drop,
+        ensures entries { self.new.entries ≡ [] }
+        ensures hasher { self.new.hasher ≡ self.old.hasher }
+        ensures buckets { self.new.buckets ≡ self.old.buckets }
+    {
+        self.store.clear();
     }
 
     /// Lets a map without members go, whatever its keys and values are.

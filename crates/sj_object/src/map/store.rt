@@ -1,11 +1,11 @@
 //! How a map stores its members.
 
-ghost use Rattle.std.specs.Prelude.{◌≡◌, ◌↔◌, ◌-◌, ◌<◌, ◌∷◌, ◌++◌, [], ℕ, List, length, take, slice_set, slice_index_or, IsTrue, IsSome, IfNone, IfSome};
-ghost use Rattle.std.specs.List.{remove};
+ghost use Rattle.std.specs.Prelude.{◌≡◌, ◌↔◌, ◌+◌, ◌-◌, ◌<◌, ◌≤◌, ◌∷◌, ◌++◌, [], ℕ, List, length, take, slice_set, slice_index_or, IsTrue, IsSome, IfNone, IfSome};
+ghost use Rattle.std.specs.List.{insert, remove};
 ghost use Rattle.std.specs.Option.{option_to_list};
 ghost use Rattle.std.specs.Vec.{vec_len, vec_capacity};
 ghost use Rattle.sj_object.specs.Index.{NeedsHash, IsTable, hashes_in};
-ghost use Rattle.sj_object.specs.Stored.{members_of, pairs_of, buckets_of, HasPlace, HasPlaceIn, IsIndexOf, IsIndexed};
+ghost use Rattle.sj_object.specs.Stored.{members_of, pairs_of, buckets_of, HasPlace, HasPlaceIn, IsIndexOf, IsIndexed, IsIndexedAhead};
 
 use super::index::Table;
 use super::members::Members;
@@ -120,6 +120,41 @@ impl<K, V> Store<K, V> {
         }
     }
 
+    /// Puts a member at a position, for which there is a place, and whose hash stands last. Each from
+    /// there on goes to the position behind its own.
+    pub fn insert_reserved(&mut self, position: usize, pair: (K, V))
+        requires place { HasPlace self.old }
+        requires within { position ≤ length (pairs_of self.old) }
+        requires indexed { IsIndexedAhead self.old }
+        ensures pairs { pairs_of self.new ≡ insert (pairs_of self.old) position pair }
+        ensures index { (hashes : List ℕ) → (hash : ℕ) → length hashes ≡ length (pairs_of self.old) → IsIndexOf (hashes ++ hash ∷ []) self.old → IsIndexOf (insert hashes position hash) self.new }
+        ensures buckets { buckets_of self.new ≡ buckets_of self.old }
+    {
+        match self {
+            Store::Plain(pairs) => pairs.insert(position, pair).unwrap(),
+            Store::Hashed(hashed) => hashed.insert_reserved(position, pair),
+        }
+    }
+
+    /// Lets all members go. The memory and the buckets stay.
+    pub fn clear(&mut self)
+    where
+        K: Drop,
+        V: Drop,
+        requires { IsIndexed self.old }
+        ensures pairs { pairs_of self.new ≡ [] }
+        ensures index { IsIndexOf [] self.new }
+        ensures buckets { buckets_of self.new ≡ buckets_of self.old }
+    {
+        match self {
+            Store::Plain(pairs) => pairs.clear(),
+            Store::Hashed(hashed) => {
+                hashed.table.clear();
+                hashed.members.clear();
+            }
+        }
+    }
+
     /// Takes the member at a position out. The members after it close up.
     #[inline(always)]
     pub fn remove(&mut self, position: usize) -> Option<(K, V)>
@@ -167,6 +202,24 @@ impl<K, V> Store<K, V> {
 }
 
 impl<K, V> Hashed<K, V> {
+    /// Puts a member at a position, for which there is a place, and moves its hash there, which stands
+    /// last.
+    fn insert_reserved(&mut self, position: usize, pair: (K, V))
+        requires place { HasPlaceIn self.old.members }
+        requires within { position ≤ length (members_of self.old.members) }
+        requires table { IsTable self.old.table }
+        requires ahead { length (hashes_in self.old.table) ≡ length (members_of self.old.members) + 1 }
+        ensures pairs { members_of self.new.members ≡ insert (members_of self.old.members) position pair }
+        ensures hashes { (before : List ℕ) → (hash : ℕ) → hashes_in self.old.table ≡ before ++ hash ∷ [] → hashes_in self.new.table ≡ insert before position hash }
+        ensures table { IsTable self.new.table }
+        ensures buckets { length self.new.table.heads.items ≡ length self.old.table.heads.items }
+    {
+        if position < self.members.len() {
+            self.table.move_last(position);
+        }
+        self.members.insert_reserved(position, pair);
+    }
+
     /// Takes the member at a position out, and its hash. It stands apart, so that it takes no room in
     /// a caller.
     #[inline(never)]

@@ -1,8 +1,7 @@
 //! Items between others.
 
 use crate::fault::Fault;
-use sj_owned::prelude::*;
-use sj_owned::{Array, Value};
+use sj_owned::Value;
 use std::alloc::Global;
 
 pub fn insert_host(
@@ -11,26 +10,24 @@ pub fn insert_host(
     at: usize,
     host: &str,
 ) -> Result<(), Fault> {
-    let host = Value::try_make(alloc, host)?;
-    let hosts = hosts_of(settings)?;
-    if at > hosts.len() {
-        return Err(Fault::NoPosition(at));
+    let host = Value::text(alloc, host)?;
+    let Some(hosts) = settings.get_mut("hosts") else {
+        return Err(Fault::NoHosts);
+    };
+    match hosts.array_len() {
+        Some(len) if at <= len => hosts.insert_idx(at, host)?,
+        Some(_) => return Err(Fault::NoPosition(at)),
+        None => return Err(Fault::NoHosts),
     }
-    hosts.insert(at, host)?;
     Ok(())
 }
 
 pub fn remove_host(settings: &mut Value, at: usize) -> Result<Value, Fault> {
-    let hosts = hosts_of(settings)?;
-    if at >= hosts.len() {
-        return Err(Fault::NoPosition(at));
-    }
-    Ok(hosts.remove(at))
-}
-
-fn hosts_of(settings: &mut Value) -> Result<&mut Array, Fault> {
-    match settings.get_mut("hosts") {
-        Some(hosts) => hosts.as_array_mut().ok_or(Fault::NoHosts),
-        None => Err(Fault::NoHosts),
+    let Some(hosts) = settings.get_mut("hosts") else {
+        return Err(Fault::NoHosts);
+    };
+    match hosts.remove_idx(at) {
+        Ok(host) => host.ok_or(Fault::NoPosition(at)),
+        Err(_) => Err(Fault::NoHosts),
     }
 }

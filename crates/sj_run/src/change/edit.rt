@@ -1,6 +1,6 @@
 //! Writes at a path.
 
-ghost use Rattle.std.specs.Prelude.{map, ◌∷◌};
+ghost use Rattle.std.specs.Prelude.{[], map, ◌∷◌};
 ghost use Rattle.sj_text_core.specs.Paths.{by_key, by_place, by_token};
 ghost use Rattle.sj_text_core.specs.Tree.{list, obj, items_from};
 ghost use Rattle.sj_object.specs.Members.{entry_members};
@@ -15,7 +15,7 @@ use super::{Changed, Write, change};
 use crate::document::Way;
 use crate::keys::member_mut;
 use sj_commands::Step;
-use sj_document::{Document, Object, climb, descend};
+use sj_document::{Change, Document, Object, update_at};
 use sj_object::KeyText;
 use sj_pointer::position;
 use std::alloc::AllocError;
@@ -43,6 +43,27 @@ where
     }
 }
 
+/// The write of a command, in that way.
+#[derive(Drop)]
+struct WriteBy<T: KeyText> {
+    way: Way,
+    write: Write<T>,
+}
+
+impl<T: KeyText + Drop> Change<Document<T>> for WriteBy<T>
+where
+    Way: Inserts<T>,
+{
+    type Answer = Result<Changed<T>, AllocError>;
+
+    ghost makes = { λ w before after r. Edits T.text_of [] (write_meant T.text_of w.write) (tree T.text_of before) (tree T.text_of after) r };
+
+    fn change(self, value: &mut Document<T>) -> Result<Changed<T>, AllocError> {
+        let WriteBy { way, write } = self;
+        change(value, way, write)
+    }
+}
+
 /// The same on a bounded stack, however long the path is.
 fn edit_far<T: KeyText + Drop>(
     value: &mut Document<T>,
@@ -54,14 +75,10 @@ where
     Way: Inserts<T>,
     ensures { Edits T.text_of (map step_meant path.now) (write_meant T.text_of write) (tree T.text_of value.old) (tree T.text_of value.new) result }
 {
-    let (up, depth) = descend::<BySteps, Step, T>(value, path);
-    if depth < path.len() {
-        climb::<BySteps, Step, T>(value, path, depth, up);
-        return Ok(Changed::Missing);
+    match update_at::<BySteps, Step, T, WriteBy<T>>(value, path, WriteBy { way, write }) {
+        Ok(changed) => changed,
+        Err(_) => Ok(Changed::Missing),
     }
-    let changed = change(value, way, write);
-    climb::<BySteps, Step, T>(value, path, depth, up);
-    changed
 }
 
 /// The same by a call for each step.

@@ -3,6 +3,7 @@
 use super::numbered;
 use sj_object::{HashMap, KeyHasher};
 use std::alloc::Global;
+use std::mem;
 use std::test::Fail;
 
 /// A map, and its members as a plain list.
@@ -53,6 +54,65 @@ impl<S: KeyHasher + Drop> Beside<S> {
         self.map.remove(key.as_str()) == Some(value)
     }
 
+    /// Takes the member at a position out, and puts it back there; whether the map told it and took it.
+    pub(super) fn put_back(&mut self, position: usize) -> Result<bool, Fail> {
+        let Some((name, number)) = self.list.get(position) else {
+            return Ok(false);
+        };
+        let Some((index, key, value)) = self.map.shift_remove_full(name.as_str()) else {
+            return Ok(false);
+        };
+        let is_told = index == position && key.as_str() == name.as_str() && value == *number;
+        if self.map.get_index_of(key.as_str()).is_some() || index > self.map.len() {
+            return Ok(false);
+        }
+        self.map.shift_insert(index, key, value)?;
+        Ok(is_told)
+    }
+
+    /// Puts a member at a position; whether its key was absent.
+    pub(super) fn insert(
+        &mut self,
+        alloc: Global,
+        position: usize,
+        number: u64,
+    ) -> Result<bool, Fail> {
+        let key = format!(in alloc; "k{number:02}")?;
+        let is_within = position <= self.list.len() && position <= self.map.len();
+        if !is_within || self.map.get_index_of(key.as_str()).is_some() {
+            return Ok(false);
+        }
+        self.list.insert(position, (key.clone()?, number))?;
+        self.map.shift_insert(position, key, number)?;
+        Ok(true)
+    }
+
+    /// Keeps the members whose number leaves less than this divided by 3, each with 1000 more; how many
+    /// were asked.
+    pub(super) fn retain(&mut self, alloc: Global, less: u64) -> Result<usize, Fail> {
+        let mut asked = 0usize;
+        self.map.retain(|_, value| {
+            asked = asked.saturating_add(1);
+            let is_kept = *value % 3 < less;
+            *value = value.saturating_add(1000);
+            is_kept
+        });
+        let mut kept = Vec::new(alloc);
+        for (key, value) in mem::replace(&mut self.list, Vec::new(alloc)) {
+            if value % 3 < less {
+                kept.push((key, value.saturating_add(1000)))?;
+            }
+        }
+        self.list = kept;
+        Ok(asked)
+    }
+
+    /// Takes all members out.
+    pub(super) fn clear(&mut self) {
+        self.list.clear();
+        self.map.clear();
+    }
+
     /// Puts a member last.
     pub(super) fn push(&mut self, alloc: Global, number: u64) -> Result<(), Fail> {
         let key = format!(in alloc; "k{number:02}")?;
@@ -78,14 +138,21 @@ impl<S: KeyHasher + Drop> Beside<S> {
                 Some((name, number)) => name.as_str() == key.as_str() && *number == *value,
                 None => false,
             };
+            let is_there = match self.map.get_index(position) {
+                Some((name, number)) => name.as_str() == key.as_str() && *number == *value,
+                None => false,
+            };
             if is_next
+                && is_there
                 && self.map.get(key.as_str()) == Some(value)
                 && self.map.position_hashed(hash, key.as_str()) == Some(position)
+                && self.map.get_index_of(key.as_str()) == Some(position)
             {
                 agreeing = agreeing.saturating_add(1);
             }
         }
-        if members.next().is_none() && self.map.len() == self.list.len() {
+        let is_end = members.next().is_none() && self.map.get_index(self.list.len()).is_none();
+        if is_end && self.map.len() == self.list.len() {
             agreeing
         } else {
             0

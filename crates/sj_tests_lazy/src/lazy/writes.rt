@@ -86,13 +86,18 @@ fn refused_writes_hand_the_value_back(rt: HostRuntime) -> Result<(), Fail> {
     let is_member_back = hands_back(member, AccessError::NotAnObject, 7);
     let item = value.push(alloc, number(8));
     let is_item_back = hands_back(item, AccessError::NotAnArray, 8);
+    let first = value.insert_idx(alloc, 0, number(9));
+    let is_first_back = hands_back(first, AccessError::NotAnArray, 9);
     let told = [
         is_member_back,
         is_item_back,
+        is_first_back,
         matches!(value.remove(alloc, "k"), Err(AccessError::NotAnObject)),
         matches!(value.pop(alloc), Err(AccessError::NotAnArray)),
+        matches!(value.remove_idx(alloc, 0), Err(AccessError::NotAnArray)),
+        value.array_len().is_none(),
     ];
-    assert_eq!(rt; told, [true; 4]);
+    assert_eq!(rt; told, [true; 7]);
     Ok(())
 }
 
@@ -178,5 +183,42 @@ fn changes_are_made_of_what_is_kept(rt: HostRuntime) -> Result<(), Fail> {
         prints(alloc, &value, "[1,9]")?,
     ];
     assert_eq!(rt; told, [true; 3]);
+    Ok(())
+}
+
+/// Whether `[1,2]` on a tape is printed so, owned, with the number 7 inserted at that position.
+fn inserts(alloc: Global, index: usize, print: &str) -> Result<bool, Fail> {
+    let mut text = *b"[1,2]";
+    let tape = to_tape(alloc, &mut text)?;
+    let mut value: Value<'_, '_, '_> = Value::from_tape(tape.as_value());
+    match value.array_len() {
+        Some(len) if index <= len => value.insert_idx(alloc, index, number(7))?,
+        _ => return Ok(false),
+    }
+    Ok(value.is_value() && prints(alloc, &value, print)?)
+}
+
+/// Whether a removal from `[1,2]` on a tape answers that number, and it is printed so then.
+fn removes(alloc: Global, index: usize, gone: Option<u8>, print: &str) -> Result<bool, Fail> {
+    let mut text = *b"[1,2]";
+    let tape = to_tape(alloc, &mut text)?;
+    let mut value: Value<'_, '_, '_> = Value::from_tape(tape.as_value());
+    let is_gone = match value.remove_idx(alloc, index)? {
+        Some(item) => item.as_u8() == gone,
+        None => gone.is_none(),
+    };
+    Ok(is_gone && value.is_value() && prints(alloc, &value, print)?)
+}
+
+#[test]
+fn items_go_in_and_out_at_positions(rt: HostRuntime) -> Result<(), Fail> {
+    let alloc = rt.alloc();
+    for (index, print) in [(0, "[7,1,2]"), (1, "[1,7,2]"), (2, "[1,2,7]")] {
+        assert!(rt; inserts(alloc, index, print)?);
+    }
+    assert!(rt; !inserts(alloc, 3, "[1,2]")?);
+    for (index, gone, print) in [(0, Some(1), "[2]"), (1, Some(2), "[1]"), (2, None, "[1,2]")] {
+        assert!(rt; removes(alloc, index, gone, print)?);
+    }
     Ok(())
 }

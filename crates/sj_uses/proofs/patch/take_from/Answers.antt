@@ -1,18 +1,16 @@
-use Rattle.std.proofs.Common.{Some, map, string_bytes, sym, ap, ◌∙◌, arith}
-use Rattle.sj_text_core.specs.Tree.{list, items_from}
-use Rattle.sj_text_core.proofs.Shapes.{list_is}
+use Rattle.std.proofs.Common.{Some, option_map, string_bytes, sym, ap, ◌∙◌}
 use Rattle.sj_document.specs.Document.{tree}
-use Rattle.sj_uses.proofs.Containers.{taken_out, taken_at}
+use Rattle.sj_uses.proofs.Containers.{item_taken, no_item_taken, no_member_taken}
 use Rattle.sj_uses.proofs.patch.take_from.Goals as goal
 
-pub returns-in-Some-position : goal.returns-in-Some-position
-returns-in-Some-position c =
-    let ds = c.in-Some-as_array_mut.items.now.items in
-    let i = c.in-Some-position.at in
-    let left = rw c.in-Some-as_array_mut.is at (c.as_array_mut.follows.holds c.remove-in-Some-position.new.self) in
-    ap Some left
-    ∙ ap (λ l. Some (list (items_from (map (tree string_bytes) l)))) c.remove-in-Some-position.ensures.items
-    ∙ taken_at c.args.token.now i (tree string_bytes c.args.container.now) _ _
-    (list_is _ _ c.in-Some-as_array_mut.ensures.value)
-    (sym c.in-Some-position.ensures)
-    (taken_out (tree string_bytes) i ds (omega (arith, c.if-at-len.true, c.len.ensures)))
+pub returns-in-None-clause-kept : goal.returns-in-None-clause-kept
+returns-in-None-clause-kept c = c.remove.ensures.after ∙ no_member_taken c.args.token.now (tree string_bytes c.args.container.now) (sym c.in_ok-old.ensures.answer ∙ ap (option_map (tree string_bytes)) c.in-None.is)
+
+pub returns-in-Some-2-clause-done : goal.returns-in-Some-2-clause-done
+returns-in-Some-2-clause-done c =
+    let t = tree string_bytes c.args.container.now in
+    let found = sym c.in_ok-old-2.ensures.answer ∙ ap (option_map (tree string_bytes)) c.in-Some-2.is in
+    ap (λ u. Some u) c.remove_idx.ensures.after ∙ item_taken c.args.token.now c.in-Some-position.at t (tree string_bytes c.in-Some-2.old) found (sym c.in-Some-position.ensures)
+
+pub returns-in-None-2-clause-kept : goal.returns-in-None-2-clause-kept
+returns-in-None-2-clause-kept c = c.remove_idx.ensures.after ∙ no_item_taken c.in-Some-position.at (tree string_bytes c.args.container.now) (sym c.in_ok-old-2.ensures.answer ∙ ap (option_map (tree string_bytes)) c.in-None-2.is)

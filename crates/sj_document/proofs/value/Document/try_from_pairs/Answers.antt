@@ -17,7 +17,7 @@ loop-key-preserved g c =
       goes.0,
       goes.1,
       ap (entry_members (tree t)) c.in_ok-set.ensures ∙ entry_members-put (tree t) (c.in-Some.key, t c.in-Some.key) c.in-Some.value c.loop-key.members.entries
-          ∙ ap (members.put (t c.in-Some.key) (tree t c.in-Some.value)) put ∙ put_pairs-last t no_members c.loop-key.yielded (c.in-Some.key, c.in-Some.value),
+          ∙ ap (members.put (t c.in-Some.key) (tree t c.in-Some.value)) put ∙ put_pairs-last t (tree t) no_members c.loop-key.yielded (c.in-Some.key, c.in-Some.value),
     )
 
 pub returns : goal.returns

@@ -7,4 +7,4 @@ use Rattle.sj_document.proofs.value.Document.try_from_pairs.Given as goal
 abbrev pub invariant-loop-key : goal.invariant-loop-key
 invariant-loop-key g l =
     let t = g.T.KeyText.text_of in
-    (goal.iterator-loop-key g).can_next l.key-iterator × (goal.iterator-loop-key g).is_finite l.key-iterator × (entry_members (tree t) l.members.entries ≡ put_pairs t no_members l.yielded)
+    (goal.iterator-loop-key g).can_next l.key-iterator × (goal.iterator-loop-key g).is_finite l.key-iterator × (entry_members (tree t) l.members.entries ≡ put_pairs t (tree t) no_members l.yielded)

@@ -10,6 +10,6 @@ loop-name-preserved g c =
     let t = g.T.KeyText.text_of in
     let rest = into_iter_items c.next.new.self in
     let old = c.loop-name.members.entries in
-    ap (λ es. put_pairs t (entry_members (tree t) es) rest) c.in_ok-set.ensures
-    ∙ ap (λ ms. put_pairs t ms rest) (entry_members-put (tree t) (c.in-Some.name, t c.in-Some.name) c.in-Some.value old)
-    ∙ sym (ap (put_pairs t (entry_members (tree t) old)) c.in-Some.ensures.steps.0) ∙ c.loop-name.invariant
+    ap (λ es. put_pairs t (tree t) (entry_members (tree t) es) rest) c.in_ok-set.ensures
+    ∙ ap (λ ms. put_pairs t (tree t) ms rest) (entry_members-put (tree t) (c.in-Some.name, t c.in-Some.name) c.in-Some.value old)
+    ∙ sym (ap (put_pairs t (tree t) (entry_members (tree t) old)) c.in-Some.ensures.steps.0) ∙ c.loop-name.invariant

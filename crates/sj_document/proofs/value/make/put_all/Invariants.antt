@@ -8,4 +8,4 @@ use Rattle.sj_document.proofs.value.make.put_all.Given as goal
 abbrev pub invariant-loop-name : goal.invariant-loop-name
 invariant-loop-name g l =
     let t = g.T.KeyText.text_of in
-    put_pairs t (entry_members (tree t) l.members.entries) (into_iter_items l.name-iterator) ≡ put_pairs t no_members l.fn.pairs.items
+    put_pairs t (tree t) (entry_members (tree t) l.members.entries) (into_iter_items l.name-iterator) ≡ put_pairs t (tree t) no_members l.fn.pairs.items

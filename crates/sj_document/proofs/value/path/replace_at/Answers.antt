@@ -1,18 +1,20 @@
-use Rattle.std.proofs.Common.{◌≡◌, ◌<◌, length, map, string_bytes, sym, ◌∙◌, arith}
-use Rattle.std.proofs.lemmas.List.{length-map}
-use Rattle.sj_text_core.specs.Paths.{by_key}
+use Rattle.std.proofs.Common.{◌≡◌, List, ℕ, Some, None, Result, Ok, Err, IfOk, IfErr, map, string_bytes, sym, ap, ◌∙◌}
+use Rattle.sj_text_core.specs.Tree.{Tree}
+use Rattle.sj_text_core.specs.Paths.{Step, by_key, tree_at, set_at}
 use Rattle.sj_text_core.proofs.Writes.{set_at-missing}
+use Rattle.sj_document.specs.declared.value.Document.{Document}
+use Rattle.sj_document.specs.declared.value.change.Replace.{Replace}
 use Rattle.sj_document.specs.Document.{tree}
 use Rattle.sj_document.proofs.value.path.replace_at.Goals as goal
 
+replaced : {T : Type 0} (t : T → List ℕ) (p : List Step) (before after : Tree) (new : Document T) (r : Result (Document T) (Replace (Document T)))
+    → IfOk r (λ answer. (v : Document T) × (w : Document T) × (tree_at p before ≡ Some (tree t v)) × ((answer ≡ v) × (w ≡ new)) × (after ≡ set_at p (tree t w) before))
+    → IfErr r (λ back. (back ≡ record { value = new }) × (tree_at p before ≡ None) × (after ≡ before))
+    → after ≡ set_at p (tree t new) before
+replaced t p before after new (Ok x) h m = h.4 ∙ ap (λ w. set_at p (tree t w) before) h.3.1
+replaced t p before after new (Err x) h m = m.2 ∙ sym (set_at-missing p (tree t new) before m.1)
+
 pub returns : goal.returns
 returns g c =
-    let p = map (λ s. by_key (string_bytes s)) c.args.path.now in
-    let e : c.descend-up.result.1 ≡ length p = omega (arith, c.if-depth-path.false, c.descend-up.ensures.within, length-map c.args.path.now (λ s. by_key (string_bytes s))) in
-    c.climb-2.ensures ∙ (c.descend-up.ensures.reached e).1 (tree g.T.KeyText.text_of c.args.new)
-
-pub returns-then-depth-path : goal.returns-then-depth-path
-returns-then-depth-path g c =
-    let p = map (λ s. by_key (string_bytes s)) c.args.path.now in
-    let l : c.descend-up.result.1 < length p = omega (arith, c.if-depth-path.true, length-map c.args.path.now (λ s. by_key (string_bytes s))) in
-    c.climb.ensures ∙ c.descend-up.ensures.whole ∙ sym (set_at-missing p (tree g.T.KeyText.text_of c.args.new) (tree g.T.KeyText.text_of c.args.value.now) (c.descend-up.ensures.missed l))
+    let t = g.T.KeyText.text_of in
+    replaced t (map (λ s. by_key (string_bytes s)) c.args.path.now) (tree t c.args.value.now) (tree t c.update_at.new.value) c.args.new c.update_at.result c.update_at.ensures.changed c.update_at.ensures.absent

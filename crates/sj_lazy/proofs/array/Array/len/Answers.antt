@@ -2,8 +2,8 @@ use Rattle.std.proofs.Common.{◌≡◌, length, rules, sym, ap, ◌∙◌}
 use Rattle.std.specs.Cow.{cow_str_bytes}
 use Rattle.sj_text_core.specs.Tree.{items_len}
 use Rattle.sj_document.specs.Document.{tree}
+use Rattle.sj_document.proofs.Arrays.{length-items}
 use Rattle.sj_lazy.specs.Array.{items}
-use Rattle.sj_lazy.proofs.Lists.{length-items}
 use Rattle.sj_lazy.proofs.array.Array.len.Goals as goal
 
 pub returns-in-Value : goal.returns-in-Value

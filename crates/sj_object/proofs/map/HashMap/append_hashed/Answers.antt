@@ -1,13 +1,13 @@
-use Rattle.std.proofs.Common.{◌≡◌, ◌+◌, ◌++◌, ◌∷◌, [], true, length, sym, ap, ◌∙◌, subst}
+use Rattle.std.proofs.Common.{◌+◌, ◌++◌, ◌∷◌, [], true, length, sym, ap, ◌∙◌, subst}
 use Rattle.std.proofs.lemmas.List.{length_push}
 use Rattle.sj_text_core.specs.Keep.{is_seen}
 use Rattle.sj_object.specs.Entries.{texts, entries_of}
 use Rattle.sj_object.specs.HashMap.{same_contents}
-use Rattle.sj_object.specs.Index.{NeedsHash, buckets_for}
-use Rattle.sj_object.specs.Stored.{pairs_of, IsIndexOf, buckets_of}
+use Rattle.sj_object.specs.Index.{NeedsHash}
+use Rattle.sj_object.specs.Stored.{pairs_of, IsIndexOf}
 use Rattle.sj_object.proofs.Repeats.{no_repeats-push}
 use Rattle.sj_object.proofs.Position.{unseen_where_none}
-use Rattle.sj_object.proofs.Hashed.{hashes, hashes-last, hashes-length, entries-length, IsIndexOf-last, room_of}
+use Rattle.sj_object.proofs.Hashed.{hashes, hashes-last, hashes-length, IsIndexOf-read, room_of}
 use Rattle.sj_object.proofs.map.HashMap.append_hashed.Goals as goal
 
 pub invariant_of-self-inside : goal.invariant_of-self-inside
@@ -24,19 +24,13 @@ invariant_of-self-inside g c =
 pub invariant_of-self : goal.invariant_of-self
 invariant_of-self g c =
     let t = g.K.KeyText.text_of in
-    let s = c.self.inside.hasher in
     let H = g.S.KeyHasher.hash_of c.self.inside.hasher in
     let ps = (pairs_of c.self.inside.store) in
     let i = c.self.inside.store in
     let b = c.make_room.new.store in
-    let n = hashes-length t H ps in
-    let k = c.in-Ok.ensures.buckets ∙ ap (λ m. buckets_for (m + 1) (buckets_of i)) (sym n) in
-    let known : NeedsHash (length (hashes t H ps)) (buckets_of i) → c.args.hash ≡ H (t c.args.key) = λ z.
-    c.requires.hash (subst (λ m. NeedsHash (length m.entries) m.buckets) c.self.view_is (subst (λ m. NeedsHash m (buckets_of i)) (n ∙ sym (entries-length t ps)) z))
-    ∙ ap (λ m. g.S.KeyHasher.hash_of m.hasher (t c.args.key)) (sym c.self.view_is) in
-    let r = IsIndexOf-last (hashes t H ps) c.args.hash (H (t c.args.key)) (buckets_of i) b c.in-Ok.ensures.ok k known in
+    let read = IsIndexOf-read t H i b c.args.hash (H (t c.args.key)) c.in-Ok.ensures.ok c.in-Ok.ensures.buckets (λ z. c.requires.hash (subst (λ m. NeedsHash (length m.entries) m.buckets) c.self.view_is z) ∙ ap (λ m. g.S.KeyHasher.hash_of m.hasher (t c.args.key)) (sym c.self.view_is)) in
     let e = ap (hashes t H) (c.push_reserved.ensures.pairs ∙ ap (λ l. l ++ (c.args.key, c.args.value) ∷ []) c.in-Ok.ensures.pairs) ∙ hashes-last t H ps (c.args.key, c.args.value) in
-    c.push_reserved.ensures.index _ (subst (λ hs. IsIndexOf hs b) (sym e) r)
+    c.push_reserved.ensures.index _ (subst (λ hs. IsIndexOf hs b) (sym e) read)
 
 pub returns-in-Err-clause-refused : goal.returns-in-Err-clause-refused
 returns-in-Err-clause-refused g c =

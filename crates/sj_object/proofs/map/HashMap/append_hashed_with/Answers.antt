@@ -4,11 +4,11 @@ use Rattle.sj_text_core.specs.Keep.{is_seen}
 use Rattle.sj_object.specs.Entries.{entries_of, texts}
 use Rattle.sj_object.specs.HashMap.{same_contents}
 use Rattle.sj_object.specs.Edits.{put}
-use Rattle.sj_object.specs.Index.{buckets_for}
+use Rattle.sj_object.specs.Index.{NeedsHash, buckets_for}
 use Rattle.sj_object.specs.Stored.{pairs_of, IsIndexOf, buckets_of}
 use Rattle.sj_object.proofs.Repeats.{no_repeats-push}
 use Rattle.sj_object.proofs.Position.{absent_at, unseen_where_none}
-use Rattle.sj_object.proofs.Hashed.{hashes, hashes-last, hashes-length, room_of}
+use Rattle.sj_object.proofs.Hashed.{hashes, hashes-last, hashes-length, IsIndexOf-read, room_of}
 use Rattle.sj_object.proofs.Added.{made_entries, made_value, made_length}
 use Rattle.sj_object.proofs.Lent.{lent_same}
 use Rattle.sj_object.proofs.map.HashMap.append_hashed_with.Goals as goal
@@ -39,9 +39,9 @@ invariant_of-self-2 g c =
     let H = g.S.KeyHasher.hash_of c.self.inside.hasher in
     let ps = (pairs_of c.self.inside.store) in
     let b = c.make_room.new.store in
-    let known = c.requires.hash ∙ ap (λ m. g.S.KeyHasher.hash_of m.hasher (t c.args.key)) (sym c.self.view_is) in
+    let read = IsIndexOf-read t H c.self.inside.store b c.args.hash (H (t c.args.key)) c.in_default.ensures.ok c.in_default.ensures.buckets (λ z. c.requires.hash (subst (λ m. NeedsHash (length m.entries) m.buckets) c.self.view_is z) ∙ ap (λ m. g.S.KeyHasher.hash_of m.hasher (t c.args.key)) (sym c.self.view_is)) in
     let e = ap (hashes t H) (c.push_reserved.ensures.pairs ∙ ap (λ l. l ++ (c.args.key, c.with-value.result) ∷ []) c.make_room.ensures.pairs) ∙ hashes-last t H ps (c.args.key, c.with-value.result) in
-    c.push_reserved.ensures.index _ (subst (λ hs. IsIndexOf hs b) (sym e) (subst (λ h. IsIndexOf (hashes t H ps ++ h ∷ []) b) known c.in_default.ensures.ok))
+    c.push_reserved.ensures.index _ (subst (λ hs. IsIndexOf hs b) (sym e) read)
 
 pub returns : goal.returns
 returns g c =

@@ -1,0 +1,143 @@
+//! Edits of what a pointer finds in a lazy value. Each makes the value an owned document first, so it
+//! is one after every answer but that of a refused upgrade, which leaves it as it was.
+
+ghost use Rattle.std.specs.Prelude.{◌≡◌, Some, None, option_map, option_and_then, IfErr, IfOk, IsOk, IsSome, OnErr, OnOk};
+ghost use Rattle.sj_text_core.specs.Tree.{null};
+ghost use Rattle.sj_text_core.specs.Find.{find};
+ghost use Rattle.sj_text_core.specs.Reads.{as_items, as_members};
+ghost use Rattle.sj_document.specs.Document.{tree as document_tree, why_of, with_member, without_member, with_item, without_last, last_item};
+ghost use Rattle.sj_document.specs.declared.value.Document.{Document as DocumentOf};
+ghost use Rattle.sj_lazy.specs.Value.{lazy_kept, owned};
+ghost use Rattle.sj_lazy.specs.Edits.{IsLeft};
+ghost use Rattle.sj_pointer.specs.Pointed.{pointed, set_pointed};
+ghost use Rattle.sj_path.specs.Changes.{changed_at};
+
+use crate::{edits, write};
+use sj_document::{Change, Document};
+use sj_lazy::{Lazy, Lent, Upgrade};
+use sj_object::KeyText;
+use sj_pointer::Pointer;
+use sj_text_core::{AccessError, Refused};
+use std::alloc::{AllocError, Global};
+
+/// Changes what the pointer finds, and answers what the change does; where it finds nothing the change
+/// comes back as the inner `Err`. Refused for want of memory, the value is as it was, and the change
+/// comes back too.
+pub fn update<P: Upgrade<T> + Drop, B: Lent<T> + Drop, T: KeyText + Drop, C: Change<Document<T>>>(
+    value: &mut Lazy<P, B, T>,
+    alloc: Global,
+    pointer: &Pointer,
+    change: C,
+) -> Result<Result<C::Answer, C>, Refused<AllocError, C>>
+    ensures changed { IfOk result (λ made. IfOk made (λ answer. (v : DocumentOf T) × (w : DocumentOf T) × (pointed pointer.now (lazy_kept P.part_kept B.lent_tree T.text_of value.old) ≡ Some (document_tree T.text_of v)) × C.makes change v w answer × (owned T.text_of value.new ≡ Some (set_pointed pointer.now (document_tree T.text_of w) (lazy_kept P.part_kept B.lent_tree T.text_of value.old))))) }
+    ensures absent { IfOk result (λ made. IfErr made (λ back. (back ≡ change) × (pointed pointer.now (lazy_kept P.part_kept B.lent_tree T.text_of value.old) ≡ None) × (owned T.text_of value.new ≡ Some (lazy_kept P.part_kept B.lent_tree T.text_of value.old)))) }
+    ensures refused { OnErr result (value.new ≡ value.old) }
+    ensures returned { IfErr result (λ refused. refused.value ≡ change) }
+    ensures succeeds { IsSome (owned T.text_of value.old) → IsOk result }
+{
+    match value.as_mut(alloc) {
+        Ok(document) => Ok(write::update(document, pointer, change)),
+        Err(why) => Err(Refused { why, value: change }),
+    }
+}
+
+/// Sets the value of the key in the object that the pointer finds, and answers the one before. A key
+/// that is there keeps its place; a new one goes last. Refused where the pointer finds no object, be
+/// it that it finds nothing, and for want of memory: the value comes back.
+pub fn insert<P: Upgrade<T> + Drop, B: Lent<T> + Drop, T: KeyText + Drop>(
+    value: &mut Lazy<P, B, T>,
+    alloc: Global,
+    pointer: &Pointer,
+    key: T,
+    new: Document<T>,
+) -> Result<Option<Document<T>>, Refused<AccessError, Document<T>>>
+    ensures answer { IfOk result (λ before. option_map (document_tree T.text_of) before ≡ option_and_then (find (T.text_of key)) (pointed pointer.now (lazy_kept P.part_kept B.lent_tree T.text_of value.old))) }
+    ensures after { OnOk result (owned T.text_of value.new ≡ Some (changed_at pointer.now (with_member (T.text_of key) (document_tree T.text_of new)) (lazy_kept P.part_kept B.lent_tree T.text_of value.old))) }
+    ensures object { OnOk result (IsSome (option_and_then as_members (pointed pointer.now (lazy_kept P.part_kept B.lent_tree T.text_of value.old)))) }
+    ensures refused { IfErr result (λ r. IsLeft T.text_of (lazy_kept P.part_kept B.lent_tree T.text_of value.old) value.old value.new (r.why ≡ AccessError.OutOfMemory) (r.why ≡ why_of AccessError.NotAnObject (option_and_then as_members (pointed pointer.now (lazy_kept P.part_kept B.lent_tree T.text_of value.old))))) }
+    ensures returned { IfErr result (λ r. r.value ≡ new) }
+    ensures succeeds { IsSome (owned T.text_of value.old) → IsSome (option_and_then (find (T.text_of key)) (pointed pointer.now (lazy_kept P.part_kept B.lent_tree T.text_of value.old))) → IsOk result }
+{
+    match value.as_mut(alloc) {
+        Ok(document) => edits::insert(document, pointer, key, new),
+        Err(_) => Err(Refused {
+            why: AccessError::OutOfMemory,
+            value: new,
+        }),
+    }
+}
+
+/// Takes the key's member out of the object that the pointer finds, and answers its value; the members
+/// behind it close up. Refused where the pointer finds no object, be it that it finds nothing, and
+/// where the upgrade is.
+pub fn remove<P: Upgrade<T> + Drop, B: Lent<T> + Drop, T: KeyText + Drop>(
+    value: &mut Lazy<P, B, T>,
+    alloc: Global,
+    pointer: &Pointer,
+    key: &str,
+) -> Result<Option<Document<T>>, AccessError>
+    ensures answer { IfOk result (λ before. option_map (document_tree T.text_of) before ≡ option_and_then (find key.now) (pointed pointer.now (lazy_kept P.part_kept B.lent_tree T.text_of value.old))) }
+    ensures after { OnOk result (owned T.text_of value.new ≡ Some (changed_at pointer.now (without_member key.now) (lazy_kept P.part_kept B.lent_tree T.text_of value.old))) }
+    ensures object { OnOk result (IsSome (option_and_then as_members (pointed pointer.now (lazy_kept P.part_kept B.lent_tree T.text_of value.old)))) }
+    ensures refused { IfErr result (λ e. IsLeft T.text_of (lazy_kept P.part_kept B.lent_tree T.text_of value.old) value.old value.new (e ≡ AccessError.OutOfMemory) ((e ≡ AccessError.NotAnObject) × (option_and_then as_members (pointed pointer.now (lazy_kept P.part_kept B.lent_tree T.text_of value.old)) ≡ None))) }
+{
+    match value.as_mut(alloc) {
+        Ok(document) => edits::remove(document, pointer, key),
+        Err(_) => Err(AccessError::OutOfMemory),
+    }
+}
+
+/// Appends an item to the array that the pointer finds. Refused where it finds no array, be it that it
+/// finds nothing, and for want of memory: the value comes back.
+pub fn push<P: Upgrade<T> + Drop, B: Lent<T> + Drop, T: KeyText + Drop>(
+    value: &mut Lazy<P, B, T>,
+    alloc: Global,
+    pointer: &Pointer,
+    new: Document<T>,
+) -> Result<(), Refused<AccessError, Document<T>>>
+    ensures after { OnOk result (owned T.text_of value.new ≡ Some (changed_at pointer.now (with_item (document_tree T.text_of new)) (lazy_kept P.part_kept B.lent_tree T.text_of value.old))) }
+    ensures array { OnOk result (IsSome (option_and_then as_items (pointed pointer.now (lazy_kept P.part_kept B.lent_tree T.text_of value.old)))) }
+    ensures refused { IfErr result (λ r. IsLeft T.text_of (lazy_kept P.part_kept B.lent_tree T.text_of value.old) value.old value.new (r.why ≡ AccessError.OutOfMemory) (r.why ≡ why_of AccessError.NotAnArray (option_and_then as_items (pointed pointer.now (lazy_kept P.part_kept B.lent_tree T.text_of value.old))))) }
+    ensures returned { IfErr result (λ r. r.value ≡ new) }
+{
+    match value.as_mut(alloc) {
+        Ok(document) => edits::push(document, pointer, new),
+        Err(_) => Err(Refused {
+            why: AccessError::OutOfMemory,
+            value: new,
+        }),
+    }
+}
+
+/// Takes the last item off the array that the pointer finds; None where there is none. Refused where
+/// the pointer finds no array, be it that it finds nothing, and where the upgrade is.
+pub fn pop<P: Upgrade<T> + Drop, B: Lent<T> + Drop, T: KeyText + Drop>(
+    value: &mut Lazy<P, B, T>,
+    alloc: Global,
+    pointer: &Pointer,
+) -> Result<Option<Document<T>>, AccessError>
+    ensures answer { IfOk result (λ last. option_map (document_tree T.text_of) last ≡ option_and_then last_item (pointed pointer.now (lazy_kept P.part_kept B.lent_tree T.text_of value.old))) }
+    ensures after { OnOk result (owned T.text_of value.new ≡ Some (changed_at pointer.now without_last (lazy_kept P.part_kept B.lent_tree T.text_of value.old))) }
+    ensures array { OnOk result (IsSome (option_and_then as_items (pointed pointer.now (lazy_kept P.part_kept B.lent_tree T.text_of value.old)))) }
+    ensures refused { IfErr result (λ e. IsLeft T.text_of (lazy_kept P.part_kept B.lent_tree T.text_of value.old) value.old value.new (e ≡ AccessError.OutOfMemory) ((e ≡ AccessError.NotAnArray) × (option_and_then as_items (pointed pointer.now (lazy_kept P.part_kept B.lent_tree T.text_of value.old)) ≡ None))) }
+{
+    match value.as_mut(alloc) {
+        Ok(document) => edits::pop(document, pointer),
+        Err(_) => Err(AccessError::OutOfMemory),
+    }
+}
+
+/// Takes what the pointer finds, and leaves a null in its place; None where it finds nothing. Refused
+/// for want of memory, the value is as it was.
+pub fn take<P: Upgrade<T> + Drop, B: Lent<T> + Drop, T: KeyText + Drop>(
+    value: &mut Lazy<P, B, T>,
+    alloc: Global,
+    pointer: &Pointer,
+) -> Result<Option<Document<T>>, AllocError>
+    ensures answer { IfOk result (λ taken. option_map (document_tree T.text_of) taken ≡ pointed pointer.now (lazy_kept P.part_kept B.lent_tree T.text_of value.old)) }
+    ensures after { OnOk result (owned T.text_of value.new ≡ Some (set_pointed pointer.now null (lazy_kept P.part_kept B.lent_tree T.text_of value.old))) }
+    ensures refused { OnErr result (value.new ≡ value.old) }
+    ensures succeeds { IsSome (owned T.text_of value.old) → IsOk result }
+{
+    Ok(edits::take(value.as_mut(alloc)?, pointer))
+}

@@ -1,0 +1,18 @@
+//! A member of what a pointer finds.
+
+use sj_owned::prelude::*;
+use sj_owned::{JsonError, Value};
+use sj_path::{owned, pointer};
+use std::alloc::Global;
+
+pub fn set_in_server(
+    alloc: Global,
+    settings: &mut Value,
+    key: &str,
+    text: &str,
+) -> Result<(), JsonError> {
+    let key = String::from_str(alloc, key)?;
+    let value = Value::try_make(alloc, text)?;
+    owned::insert(settings, &pointer(alloc, "/server")?, key, value)?;
+    Ok(())
+}
