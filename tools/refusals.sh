@@ -398,6 +398,7 @@ each 'pointer_parts push' $'call: AllocError, pointer as before, pushed\n' $'cal
 free 'pointer_parts free' $'call: looked at\n'
 each 'pointer_edit insert' $'call: refused, document as before, inserted\n' $'call: done, inserted\n'
 each 'pointer_edit push' $'call: refused, document as before, pushed\n' $'call: done, pushed\n'
+each 'pointer_edit set' $'call: refused, document as before, set\n' $'call: done, set\n'
 free 'pointer_edit edit' $'call: edited, and left\n'
 for form in owned borrowed; do
   free "pointer_in $form" $'call: found, {"some":["key",null,2]}\n'
@@ -430,12 +431,14 @@ edits() {
 edits insert '{"some":["key","value",2],"n":null}'
 edits remove '{}'
 edits push '{"some":["key","value",2,null]}'
+edits set '{"some":["key","value",2],"n":{"m":null}}'
 edits pop '{"some":["key","value"]}'
 for call in take update; do
   edits $call '{"some":[null,"value",2]}'
 done
 free 'pointer_edit_lazy owned remove' $'call: done, owned {}\n'
 free 'pointer_edit_lazy owned pop' $'call: done, owned {"some":["key","value"]}\n'
+each 'pointer_edit_lazy owned set' $'call: refused, tree as before, form as before, done, owned {"some":["key","value",2],"n":{"m":null}}\n' $'call: done, owned {"some":["key","value",2],"n":{"m":null}}\n'
 for call in take update; do
   free "pointer_edit_lazy owned $call" $'call: done, owned {"some":[null,"value",2]}\n'
 done

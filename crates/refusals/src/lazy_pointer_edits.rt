@@ -26,6 +26,7 @@ enum Call {
     Pop,
     Take,
     Update,
+    Set,
 }
 
 impl Call {
@@ -37,6 +38,7 @@ impl Call {
             "pop" => Ok(Call::Pop),
             "take" => Ok(Call::Take),
             "update" => Ok(Call::Update),
+            "set" => Ok(Call::Set),
             _ => Err(Fault::Usage),
         }
     }
@@ -47,12 +49,13 @@ impl Call {
             Call::Insert | Call::Remove => "",
             Call::Push | Call::Pop => "/some",
             Call::Take | Call::Update => "/some/0",
+            Call::Set => "/n/m",
         }
     }
 
     /// Whether it may be refused for the edit, once the value is a document.
     fn grows(self) -> bool {
-        matches!(self, Call::Insert | Call::Push)
+        matches!(self, Call::Insert | Call::Push | Call::Set)
     }
 }
 
@@ -73,6 +76,7 @@ fn answer_of(alloc: Global, call: Call, value: &mut Value<'_, '_, '_>, at: &Poin
         },
         Call::Take => done(lazy::take(value, alloc, at).is_ok()),
         Call::Update => changed(lazy::update(value, alloc, at, to_null())),
+        Call::Set => inserted(lazy::set(value, alloc, at, BorrowedValue::null())),
     }
 }
 

@@ -80,6 +80,27 @@ fn push(rt: &(impl Print + AllocGlobal)) -> Result<(), Fault> {
     say(rt, if is_there { "pushed\n" } else { "NOT THERE\n" })
 }
 
+/// Sets what is missing, and sets it again where it comes back.
+fn set(rt: &(impl Print + AllocGlobal)) -> Result<(), Fault> {
+    let alloc = rt.alloc();
+    let mut value = document(alloc)?;
+    let at = read_pointer(alloc, "/a/1/c/d")?;
+    say_call(rt)?;
+    match owned::set(&mut value, alloc, &at, Value::null()) {
+        Ok(_) => say(rt, "done, ")?,
+        Err(refused) => {
+            let is_kept = refused.why == AccessError::OutOfMemory && refused.value.is_null();
+            say(rt, "refused, ")?;
+            say_kept(rt, "document", is_kept && prints(alloc, &value, TEXT)?)?;
+            if owned::set(&mut value, alloc, &at, refused.value).is_err() {
+                return Err(Fault::OutOfMemory);
+            }
+        }
+    }
+    let is_there = prints(alloc, &value, r#"{"a":[1,{"b":2,"c":{"d":null}}]}"#)?;
+    say(rt, if is_there { "set\n" } else { "NOT THERE\n" })
+}
+
 /// Edits that want no memory.
 fn edit(rt: &(impl Print + AllocGlobal)) -> Result<(), Fault> {
     let alloc = rt.alloc();
@@ -108,6 +129,7 @@ pub fn run_call(rt: &(impl Print + AllocGlobal), call: &str) -> Result<(), Fault
     match call {
         "insert" => insert(rt),
         "push" => push(rt),
+        "set" => set(rt),
         "edit" => edit(rt),
         _ => Err(Fault::Usage),
     }

@@ -1,2 +1,4 @@
 pub mod Tokens
 pub mod Changed
+pub mod Nested
+pub mod rows

@@ -1,4 +1,5 @@
 pub mod Changes
+pub mod Made
 pub use Rattle.sj_text_core.specs.Places
 pub use Rattle.sj_text_core.specs.Paths
 pub use Rattle.sj_pointer.specs.Syntax

@@ -1,6 +1,7 @@
 //! Pointers into documents that borrow their texts.
 
 pub use crate::edits::{insert, pop, push, remove, take};
+pub use crate::made::set;
 pub use crate::walk::{find, find_mut};
 pub use crate::write::{replace, update};
 pub use sj_borrowed::Value;

@@ -16,9 +16,9 @@ use sj_text_core::{AccessError, Refused};
 
 /// Sets the value of a key.
 #[derive(Drop)]
-struct InsertMember<T: KeyText> {
-    key: T,
-    value: Document<T>,
+pub(crate) struct InsertMember<T: KeyText> {
+    pub(crate) key: T,
+    pub(crate) value: Document<T>,
 }
 
 impl<T: KeyText + Drop> Change<Document<T>> for InsertMember<T> {

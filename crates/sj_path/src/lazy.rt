@@ -11,7 +11,7 @@ ghost use Rattle.sj_pointer.specs.Pointed.{token_into, pointed, pointed_by, set_
 mod edits;
 
 use crate::{walk, write};
-pub use edits::{insert, pop, push, remove, take, update};
+pub use edits::{insert, pop, push, remove, set, take, update};
 use sj_document::{BorrowedValue, Document};
 pub use sj_lazy::Value;
 use sj_lazy::{Lazy, Lent, Shared, Upgrade};

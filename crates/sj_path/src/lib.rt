@@ -19,9 +19,11 @@
 pub mod borrowed;
 mod edits;
 pub mod lazy;
+mod made;
 pub mod owned;
 mod walk;
 mod write;
 
+pub use made::OwnedText;
 pub use sj_pointer::{Pointer, PointerError, laws, pointer, position};
 pub use sj_text_core::JsonError;

@@ -11,7 +11,7 @@ use sj_pointer::{Pointer, position};
 use sj_text_core::TypedValue;
 
 /// What one token finds.
-fn step<'v, T: KeyText>(value: &'v Document<T>, token: &str) -> Option<&'v Document<T>>
+pub(crate) fn step<'v, T: KeyText>(value: &'v Document<T>, token: &str) -> Option<&'v Document<T>>
     ensures { option_map (λ v. tree T.text_of v.now) result ≡ token_into First token.now (tree T.text_of value.now) }
 {
     if value.is_array() {

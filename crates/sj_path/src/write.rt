@@ -1,6 +1,6 @@
 //! Writes at a pointer.
 
-ghost use Rattle.std.specs.Prelude.{◌≡◌, Some, None, option_map, string_bytes, IfOk, IfErr, OnErr};
+ghost use Rattle.std.specs.Prelude.{◌≡◌, Some, None, map, option_map, string_bytes, IfOk, IfErr, OnErr};
 ghost use Rattle.std.specs.Result.{result_ok};
 ghost use Rattle.sj_text_core.specs.Paths.{by_token};
 ghost use Rattle.sj_document.specs.Document.{tree};
@@ -30,6 +30,18 @@ impl Leads<String> for ByToken {
     }
 }
 
+/// Changes what the tokens lead to.
+pub(crate) fn update_in<T: KeyText + Drop, C: Change<Document<T>>>(
+    value: &mut Document<T>,
+    tokens: &[String],
+    change: C,
+) -> Result<C::Answer, C>
+    ensures changed { IfOk result (λ answer. (v : DocumentOf T) × (w : DocumentOf T) × (pointed (map string_bytes tokens.now) (tree T.text_of value.old) ≡ Some (tree T.text_of v)) × C.makes change v w answer × (tree T.text_of value.new ≡ set_pointed (map string_bytes tokens.now) (tree T.text_of w) (tree T.text_of value.old))) }
+    ensures absent { IfErr result (λ back. (back ≡ change) × (pointed (map string_bytes tokens.now) (tree T.text_of value.old) ≡ None) × (tree T.text_of value.new ≡ tree T.text_of value.old)) }
+{
+    update_at::<ByToken, String, T, C>(value, tokens, change)
+}
+
 /// Changes what the pointer finds, and answers what the change does; the rest of the document stays.
 /// Where it finds nothing the document is as it was, and the change comes back.
 pub fn update<T: KeyText + Drop, C: Change<Document<T>>>(
@@ -40,7 +52,7 @@ pub fn update<T: KeyText + Drop, C: Change<Document<T>>>(
     ensures changed { IfOk result (λ answer. (v : DocumentOf T) × (w : DocumentOf T) × (pointed pointer.now (tree T.text_of value.old) ≡ Some (tree T.text_of v)) × C.makes change v w answer × (tree T.text_of value.new ≡ set_pointed pointer.now (tree T.text_of w) (tree T.text_of value.old))) }
     ensures absent { IfErr result (λ back. (back ≡ change) × (pointed pointer.now (tree T.text_of value.old) ≡ None) × (tree T.text_of value.new ≡ tree T.text_of value.old)) }
 {
-    update_at::<ByToken, String, T, C>(value, pointer.tokens(), change)
+    update_in(value, pointer.tokens(), change)
 }
 
 /// Puts the value in the place of what the pointer finds, and answers what stood there. Where it

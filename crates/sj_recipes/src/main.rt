@@ -84,19 +84,11 @@ fn further_changes(rt: &(impl Print + AllocGlobal)) -> anyhow::Result<()> {
     }
     println!(rt; "{}", copy_a_document::with_debug(alloc, &settings)?)?;
     println!(rt; "{settings}")?;
-    let way = ["server", "tls"];
     let on = Value::from(true);
-    make_what_is_missing_on_the_way::set_at(alloc, &mut settings, &way, "on", on)?;
+    make_what_is_missing_on_the_way::set_at(alloc, &mut settings, "/server/tls/on", on)?;
     println!(rt; "{settings}")?;
-    let way = ["topic", "name"];
-    let refused = make_what_is_missing_on_the_way::set_at(
-        alloc,
-        &mut settings,
-        &way,
-        "on",
-        Value::null(),
-    );
-    match refused {
+    let path = "/topic/name/on";
+    match make_what_is_missing_on_the_way::set_at(alloc, &mut settings, path, Value::null()) {
         Ok(()) => println!(rt; "set")?,
         Err(fault) => println!(rt; "{fault}")?,
     }

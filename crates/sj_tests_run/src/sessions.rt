@@ -160,21 +160,6 @@ fn answers(rt: HostRuntime) -> Result<(), Fail> {
     Ok(())
 }
 
-/// An object of `k00` to `k31` with values 0 to 31, then `k00` with 99.
-#[test]
-fn keeps_the_first_of_many(rt: HostRuntime) -> Result<(), Fail> {
-    let mut members = String::new(rt.alloc());
-    for i in 0u8..32 {
-        let comma = if i == 0 { "" } else { "," };
-        members.push_str(format!(in rt.alloc(); "{comma}\"k{i:02}\":{i}")?.as_str())?;
-    }
-    let input = format!(in rt.alloc(); "{{{members},\"k00\":99}}\n---\n[\"encode\",[]]\n")?;
-    let want = format!(in rt.alloc(); "> {{{members}}}\n")?;
-    // the same text twice in one process
-    check_in(&rt, rt.alloc(), &KEPT, input.as_str(), want.as_str())?;
-    check_in(&rt, rt.alloc(), &KEPT, input.as_str(), want.as_str())
-}
-
 /// A lazy document shows repeats until its first write, also where that is refused or finds nothing.
 #[test]
 fn repeats_are_shown_until_a_write(rt: HostRuntime) -> Result<(), Fail> {

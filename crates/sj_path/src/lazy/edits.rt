@@ -11,8 +11,9 @@ ghost use Rattle.sj_lazy.specs.Value.{lazy_kept, owned};
 ghost use Rattle.sj_lazy.specs.Edits.{IsLeft};
 ghost use Rattle.sj_pointer.specs.Pointed.{pointed, set_pointed};
 ghost use Rattle.sj_path.specs.Changes.{changed_at};
+ghost use Rattle.sj_path.specs.Made.{set_made};
 
-use crate::{edits, write};
+use crate::{OwnedText, edits, made, write};
 use sj_document::{Change, Document};
 use sj_lazy::{Lazy, Lent, Upgrade};
 use sj_object::KeyText;
@@ -140,4 +141,29 @@ pub fn take<P: Upgrade<T> + Drop, B: Lent<T> + Drop, T: KeyText + Drop>(
     ensures succeeds { IsSome (owned T.text_of value.old) → IsOk result }
 {
     Ok(edits::take(value.as_mut(alloc)?, pointer))
+}
+
+/// Sets what the pointer leads to, and answers what stood there; the objects that are missing on the
+/// way are made. Refused as `NotAnObject` where a token finds nothing in an array or meets a scalar, and
+/// for want of memory: the value comes back.
+pub fn set<P: Upgrade<T> + Drop, B: Lent<T> + Drop, T: OwnedText + Drop>(
+    value: &mut Lazy<P, B, T>,
+    alloc: Global,
+    pointer: &Pointer,
+    new: Document<T>,
+) -> Result<Option<Document<T>>, Refused<AccessError, Document<T>>>
+    ensures answer { IfOk result (λ before. option_map (document_tree T.text_of) before ≡ pointed pointer.now (lazy_kept P.part_kept B.lent_tree T.text_of value.old)) }
+    ensures after { OnOk result (owned T.text_of value.new ≡ set_made pointer.now (document_tree T.text_of new) (lazy_kept P.part_kept B.lent_tree T.text_of value.old)) }
+    ensures made { OnOk result (IsSome (set_made pointer.now (document_tree T.text_of new) (lazy_kept P.part_kept B.lent_tree T.text_of value.old))) }
+    ensures refused { IfErr result (λ r. IsLeft T.text_of (lazy_kept P.part_kept B.lent_tree T.text_of value.old) value.old value.new (r.why ≡ AccessError.OutOfMemory) (r.why ≡ why_of AccessError.NotAnObject (set_made pointer.now (document_tree T.text_of new) (lazy_kept P.part_kept B.lent_tree T.text_of value.old)))) }
+    ensures returned { IfErr result (λ r. r.value ≡ new) }
+    ensures succeeds { IsSome (owned T.text_of value.old) → IsSome (pointed pointer.now (lazy_kept P.part_kept B.lent_tree T.text_of value.old)) → IsOk result }
+{
+    match value.as_mut(alloc) {
+        Ok(document) => made::set(document, alloc, pointer, new),
+        Err(_) => Err(Refused {
+            why: AccessError::OutOfMemory,
+            value: new,
+        }),
+    }
 }

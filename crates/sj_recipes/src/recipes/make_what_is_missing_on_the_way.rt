@@ -1,35 +1,15 @@
-//! A member at a path of keys, each of which is there afterwards.
+//! A value at a path, each of whose keys is there afterwards.
 
-use sj_owned::{AccessError, JsonError, Value};
+use sj_owned::{JsonError, Value};
+use sj_path::{owned, pointer};
 use std::alloc::Global;
 
-/// Sets the member of the last key, in the object that the keys of the way lead to.
 pub fn set_at(
     alloc: Global,
     settings: &mut Value,
-    way: &[&str],
-    last: &str,
+    path: &str,
     value: Value,
 ) -> Result<(), JsonError> {
-    let mut at = settings;
-    for key in way {
-        at = object_at(alloc, at, key)?;
-    }
-    at.insert(String::from_str(alloc, last)?, value)?;
+    owned::set(settings, alloc, &pointer(alloc, path)?, value)?;
     Ok(())
-}
-
-/// The value of the key; an object that is made, where there is none.
-fn object_at<'v>(
-    alloc: Global,
-    value: &'v mut Value,
-    key: &str,
-) -> Result<&'v mut Value, JsonError> {
-    if !value.contains_key(key) {
-        value.insert(String::from_str(alloc, key)?, Value::object(alloc)?)?;
-    }
-    match value.get_mut(key) {
-        Some(found) => Ok(found),
-        None => Err(JsonError::from(AccessError::NotAnObject)),
-    }
 }

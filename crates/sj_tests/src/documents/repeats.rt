@@ -7,7 +7,7 @@ use sj_document::{
 };
 use sj_object::deserialize;
 use sj_tape::{Node, Tape, Value, to_tape};
-use sj_text_core::{Repeats, StaticNode, Writable};
+use sj_text_core::{Repeats, StaticNode};
 use std::alloc::Global;
 use std::borrow::CowStr;
 use std::test::Fail;
@@ -144,21 +144,6 @@ fn other_documents_have_the_first_members(rt: HostRuntime) -> Result<(), Fail> {
     let plain = Plain::read(rt.alloc(), read.as_mut_slice())?;
     assert_eq!(rt; plain.numbers("k00"), Some((32, Some(0))));
     assert_eq!(rt; plain.numbers("k31"), Some((32, Some(31))));
-    Ok(())
-}
-
-/// What the tape of a text prints.
-fn printed(alloc: Global, text: &str) -> Result<String, Fail> {
-    let mut bytes = text.as_bytes().to_vec(alloc)?;
-    let tape = to_tape(alloc, bytes.as_mut_slice())?;
-    Ok(tape.as_value().encode(alloc)?)
-}
-
-#[test]
-fn prints_a_repeat(rt: HostRuntime) -> Result<(), Fail> {
-    let text = text_with_repeat(rt.alloc(), 3, 1)?;
-    let print = "{\"k00\":0,\"k01\":1,\"k02\":2,\"k01\":99}";
-    assert_eq!(rt; printed(rt.alloc(), text.as_str())?.as_str(), print);
     Ok(())
 }
 

@@ -6,7 +6,7 @@ ghost use Rattle.sj_document.specs.Document.{tree};
 
 use sj_document::{Change, Document};
 use sj_object::KeyText;
-use sj_path::{Pointer, borrowed, lazy, owned, pointer};
+use sj_path::{OwnedText, Pointer, borrowed, lazy, owned, pointer};
 use sj_tape::to_tape;
 use sj_text_core::{AccessError, Refused, StaticNode, ValueAsScalar, Writable};
 use std::alloc::Global;
@@ -23,10 +23,11 @@ enum Edit {
     Push,
     Pop,
     Take,
+    Set,
 }
 
 /// Pointers, edits and their keys, what they answer, and what is left.
-const EDITS: [(&str, Edit, &str, &str, &str); 22] = [
+const EDITS: [(&str, Edit, &str, &str, &str); 33] = [
     ("", Edit::Insert, "c", "3", r#"{"a":[1,{"b~":2}],"c":7}"#),
     (
         "",
@@ -85,6 +86,41 @@ const EDITS: [(&str, Edit, &str, &str, &str); 22] = [
         r#"{"a":[1,{"b~":null}],"c":3}"#,
     ),
     ("/a/1/b", Edit::Take, "", "none", SMALL),
+    ("", Edit::Set, "", SMALL, "7"),
+    (
+        "/a/1/b~0",
+        Edit::Set,
+        "",
+        "2",
+        r#"{"a":[1,{"b~":7}],"c":3}"#,
+    ),
+    ("/a/0", Edit::Set, "", "1", r#"{"a":[7,{"b~":2}],"c":3}"#),
+    (
+        "/d",
+        Edit::Set,
+        "",
+        "none",
+        r#"{"a":[1,{"b~":2}],"c":3,"d":7}"#,
+    ),
+    (
+        "/a/1/x~1y/0/",
+        Edit::Set,
+        "",
+        "none",
+        r#"{"a":[1,{"b~":2,"x/y":{"0":{"":7}}}],"c":3}"#,
+    ),
+    (
+        "//a",
+        Edit::Set,
+        "",
+        "none",
+        r#"{"a":[1,{"b~":2}],"c":3,"":{"a":7}}"#,
+    ),
+    ("/a/2", Edit::Set, "", "NotAnObject", SMALL),
+    ("/a/-", Edit::Set, "", "NotAnObject", SMALL),
+    ("/a/0/b/c", Edit::Set, "", "NotAnObject", SMALL),
+    ("/c/d", Edit::Set, "", "NotAnObject", SMALL),
+    ("/a/01", Edit::Set, "", "NotAnObject", SMALL),
 ];
 
 fn number<T: KeyText>(n: u64) -> Document<T> {
@@ -99,7 +135,8 @@ fn by_reason<T: KeyText + Drop>(
 }
 
 /// Makes the edit in a document.
-fn edited<T: KeyText + Drop>(
+fn edited<T: OwnedText + Drop>(
+    alloc: Global,
     value: &mut Document<T>,
     at: &Pointer,
     edit: Edit,
@@ -114,6 +151,7 @@ fn edited<T: KeyText + Drop>(
         },
         Edit::Pop => owned::pop(value, at),
         Edit::Take => Ok(owned::take(value, at)),
+        Edit::Set => by_reason(owned::set(value, alloc, at, number(7))),
     }
 }
 
@@ -139,7 +177,13 @@ fn owned_is_edited(
     want: (&str, &str),
 ) -> Result<bool, Fail> {
     let mut value = sj_owned::from_str(alloc, SMALL)?;
-    let answer = edited(&mut value, at, edit.0, String::from_str(alloc, edit.1)?);
+    let answer = edited(
+        alloc,
+        &mut value,
+        at,
+        edit.0,
+        String::from_str(alloc, edit.1)?,
+    );
     told(alloc, &answer, &value, want)
 }
 
@@ -151,7 +195,7 @@ fn borrowed_is_edited(
 ) -> Result<bool, Fail> {
     let mut room = Vec::new(alloc);
     let mut value = sj_borrowed::from_str(alloc, SMALL, &mut room)?;
-    let answer = edited(&mut value, at, edit.0, CowStr::Borrowed(edit.1));
+    let answer = edited(alloc, &mut value, at, edit.0, CowStr::Borrowed(edit.1));
     told(alloc, &answer, &value, want)
 }
 
@@ -178,6 +222,7 @@ fn lazy_is_edited(
         },
         Edit::Pop => lazy::pop(&mut value, alloc, at),
         Edit::Take => Ok(lazy::take(&mut value, alloc, at)?),
+        Edit::Set => by_reason(lazy::set(&mut value, alloc, at, number(7))),
     };
     Ok(value.is_value() && told(alloc, &answer, &value, want)?)
 }

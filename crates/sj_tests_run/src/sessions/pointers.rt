@@ -2,19 +2,16 @@
 
 use super::repeats::is_answered;
 use super::{SERVED, check};
-use sj_document::{BorrowedValue, OwnedValue};
-use sj_lazy::Value;
-use sj_object::deserialize;
-use sj_run::{BorrowedDoc, Command, Document, LazyDoc, OwnedDoc, Reply, Step, Way};
-use sj_tape::to_tape;
+use sj_document::OwnedValue;
+use sj_run::{Command, Document, Reply, Step};
 use sj_text_core::Repeats;
 use std::alloc::Global;
-use std::borrow::CowStr;
 use std::process::Abort;
 use std::test::Fail;
 
-const DOCUMENT: &str =
-    r#"{"foo":["bar","baz"],"":0,"a/b":1,"c%d":2,"e^f":3,"g|h":4,"i\\j":5,"k\"l":6," ":7,"m~n":8}"#;
+/// The document of RFC 6901, section 5, and a list with an object in it.
+pub const DOCUMENT: &str =
+    r#"{"foo":["bar","baz"],"":0,"a/b":1,"c%d":2,"e^f":3,"g|h":4,"i\\j":5,"k\"l":6," ":7,"m~n":8,"list":[1,[2,{"k":"t","a":-5}]]}"#;
 
 #[test]
 fn lines_have_pointers(rt: HostRuntime) -> Result<(), Fail> {
@@ -129,7 +126,11 @@ fn is_put<D: Document>(alloc: Global, document: &mut D, path: Vec<Step>) -> Opti
 }
 
 /// Keys, places and tokens go together.
-fn check_steps<D: Document>(rt: &impl Abort, alloc: Global, document: &mut D) -> Result<(), Fail> {
+pub fn check_steps<D: Document>(
+    rt: &impl Abort,
+    alloc: Global,
+    document: &mut D,
+) -> Result<(), Fail> {
     for (first, name, second, key, want) in STEPS {
         let path = path(alloc, [first, second], [name, key])?;
         assert!(rt;
@@ -137,11 +138,15 @@ fn check_steps<D: Document>(rt: &impl Abort, alloc: Global, document: &mut D) ->
             "{first} {name}, {second} {key}"
         );
     }
-    check_puts(rt, alloc, document)
+    Ok(())
 }
 
 /// A token leads to a place that is written, and a key does not.
-fn check_puts<D: Document>(rt: &impl Abort, alloc: Global, document: &mut D) -> Result<(), Fail> {
+pub fn check_puts<D: Document>(
+    rt: &impl Abort,
+    alloc: Global,
+    document: &mut D,
+) -> Result<(), Fail> {
     let by_token = path(alloc, ['t', 't'], ["foo", "0"])?;
     let is_written = is_put(alloc, document, by_token) == Some(true);
     let place = path(alloc, ['k', 'i'], ["foo", ""])?;
@@ -150,35 +155,4 @@ fn check_puts<D: Document>(rt: &impl Abort, alloc: Global, document: &mut D) -> 
     let is_missed = is_put(alloc, document, by_key) == Some(false);
     assert_eq!(rt; [is_written, is_read, is_missed], [true; 3]);
     Ok(())
-}
-
-#[test]
-fn tokens_are_steps(rt: HostRuntime) -> Result<(), Fail> {
-    let alloc = rt.alloc();
-    for way in [Way::ByText, Way::ByKnownKey] {
-        let mut bytes = DOCUMENT.as_bytes().to_vec(alloc)?;
-        let value = deserialize::<OwnedValue, String>(alloc, bytes.as_mut_slice())?;
-        check_steps(&rt, alloc, &mut OwnedDoc { way, value })?;
-    }
-    Ok(())
-}
-
-#[test]
-fn tokens_are_steps_of_borrowed_documents(rt: HostRuntime) -> Result<(), Fail> {
-    let alloc = rt.alloc();
-    for way in [Way::ByText, Way::ByKnownKey] {
-        let mut bytes = DOCUMENT.as_bytes().to_vec(alloc)?;
-        let value = deserialize::<BorrowedValue<'_>, CowStr<'_>>(alloc, bytes.as_mut_slice())?;
-        check_steps(&rt, alloc, &mut BorrowedDoc { way, value })?;
-    }
-    Ok(())
-}
-
-#[test]
-fn tokens_are_steps_of_lazy_documents(rt: HostRuntime) -> Result<(), Fail> {
-    let alloc = rt.alloc();
-    let mut bytes = DOCUMENT.as_bytes().to_vec(alloc)?;
-    let tape = to_tape(alloc, bytes.as_mut_slice())?;
-    let value: Value<'_, '_, '_> = Value::from_tape(tape.as_value());
-    check_steps(&rt, alloc, &mut LazyDoc { value })
 }

@@ -61,21 +61,19 @@ fn answers_by_the_choice(rt: HostRuntime) -> Result<(), Fail> {
 
 /// An object of `k00` to `k31` with values 0 to 31, then `k00` with 99.
 #[test]
-fn keeps_the_last_of_many(rt: HostRuntime) -> Result<(), Fail> {
-    let mut behind = String::new(rt.alloc());
+fn keeps_one_of_many(rt: HostRuntime) -> Result<(), Fail> {
+    let alloc = rt.alloc();
+    let mut behind = String::new(alloc);
     for i in 1u8..32 {
-        behind.push_str(format!(in rt.alloc(); ",\"k{i:02}\":{i}")?.as_str())?;
+        behind.push_str(format!(in alloc; ",\"k{i:02}\":{i}")?.as_str())?;
     }
     let lines = "[\"len\",[]]\n[\"encode\",[\"k00\"]]\n[\"encode\",[]]\n";
-    let input = format!(in rt.alloc(); "{{\"k00\":0{behind},\"k00\":99}}\n---\n{lines}")?;
-    let want = format!(in rt.alloc(); "> 32\n99\n{{\"k00\":99{behind}}}\n")?;
-    check(
-        &rt,
-        rt.alloc(),
-        Repeats::Last,
-        input.as_str(),
-        want.as_str(),
-    )
+    let input = format!(in alloc; "{{\"k00\":0{behind},\"k00\":99}}\n---\n{lines}")?;
+    for (repeats, kept) in [(Repeats::First, 0), (Repeats::Last, 99)] {
+        let want = format!(in alloc; "> 32\n{kept}\n{{\"k00\":{kept}{behind}}}\n")?;
+        check(&rt, alloc, repeats, input.as_str(), want.as_str())?;
+    }
+    Ok(())
 }
 
 /// A lazy document finds the last value of a key, and shows all of them until its first write.

@@ -1,5 +1,6 @@
 //! Commands at documents, one by one and in a run.
 
+use super::pointers::{DOCUMENT, check_puts, check_steps};
 use sj_document::{BorrowedValue, OwnedValue};
 use sj_lazy::Value;
 use sj_object::deserialize;
@@ -11,8 +12,6 @@ use std::borrow::CowStr;
 use std::process::Abort;
 use std::test::Fail;
 
-const TEXT: &str = "[1,[2,{\"k\":\"t\",\"a\":-5}]]";
-
 fn owned(alloc: Global, text: &str) -> Result<OwnedValue, Fail> {
     let mut bytes = text.as_bytes().to_vec(alloc)?;
     Ok(deserialize::<OwnedValue, String>(alloc, bytes.as_mut_slice())?)
@@ -22,9 +21,10 @@ fn text(alloc: Global, text: &str) -> Result<String, Fail> {
     Ok(String::from_str(alloc, text)?)
 }
 
-/// The path to the object of `TEXT`.
+/// The path to the object in the list.
 fn inside(alloc: Global) -> Result<Vec<Step>, Fail> {
     let mut path = Vec::new(alloc);
+    path.push(Step::Key(text(alloc, "list")?))?;
     path.push(Step::Idx(1))?;
     path.push(Step::Idx(1))?;
     Ok(path)
@@ -115,14 +115,24 @@ fn check_writes<D: Document>(rt: &impl Abort, alloc: Global, document: &mut D) -
     Ok(())
 }
 
+/// Reads and writes, by keys and by tokens.
+fn check_commands<D: Document>(
+    rt: &impl Abort,
+    alloc: Global,
+    document: &mut D,
+) -> Result<(), Fail> {
+    check_reads(rt, alloc, document)?;
+    check_steps(rt, alloc, document)?;
+    check_writes(rt, alloc, document)?;
+    check_puts(rt, alloc, document)
+}
+
 #[test]
 fn owned_documents_answer(rt: HostRuntime) -> Result<(), Fail> {
     let alloc = rt.alloc();
     for way in [Way::ByText, Way::ByKnownKey] {
-        let value = owned(alloc, TEXT)?;
-        let mut document = OwnedDoc { way, value };
-        check_reads(&rt, alloc, &mut document)?;
-        check_writes(&rt, alloc, &mut document)?;
+        let value = owned(alloc, DOCUMENT)?;
+        check_commands(&rt, alloc, &mut OwnedDoc { way, value })?;
     }
     Ok(())
 }
@@ -131,11 +141,9 @@ fn owned_documents_answer(rt: HostRuntime) -> Result<(), Fail> {
 fn borrowed_documents_answer(rt: HostRuntime) -> Result<(), Fail> {
     let alloc = rt.alloc();
     for way in [Way::ByText, Way::ByKnownKey] {
-        let mut bytes = TEXT.as_bytes().to_vec(alloc)?;
+        let mut bytes = DOCUMENT.as_bytes().to_vec(alloc)?;
         let value = deserialize::<BorrowedValue<'_>, CowStr<'_>>(alloc, bytes.as_mut_slice())?;
-        let mut document = BorrowedDoc { way, value };
-        check_reads(&rt, alloc, &mut document)?;
-        check_writes(&rt, alloc, &mut document)?;
+        check_commands(&rt, alloc, &mut BorrowedDoc { way, value })?;
     }
     Ok(())
 }
@@ -145,17 +153,17 @@ fn borrowed_documents_answer(rt: HostRuntime) -> Result<(), Fail> {
 #[test]
 fn lazy_documents_answer(rt: HostRuntime) -> Result<(), Fail> {
     let alloc = rt.alloc();
-    let mut bytes = TEXT.as_bytes().to_vec(alloc)?;
+    let mut bytes = DOCUMENT.as_bytes().to_vec(alloc)?;
     let tape = to_tape(alloc, bytes.as_mut_slice())?;
     let value: Value<'_, '_, '_> = Value::from_tape(tape.as_value());
     let mut document = LazyDoc { value };
     check_reads(&rt, alloc, &mut document)?;
+    check_steps(&rt, alloc, &mut document)?;
     let is_tape = document.value.is_tape();
     let pop = Command::Pop(key(alloc, "zz")?);
     let is_missed = is_answered(alloc, &mut document, pop, Reply::Missing);
     assert_eq!(rt; [is_tape, is_missed, document.value.is_value()], [true; 3]);
-    check_reads(&rt, alloc, &mut document)?;
-    check_writes(&rt, alloc, &mut document)
+    check_commands(&rt, alloc, &mut document)
 }
 
 /// A push, a bad command and a look at the length.

@@ -106,20 +106,3 @@ fn texts_are_lent_until_they_are_made_static(rt: HostRuntime) -> Result<(), Fail
     assert_eq!(rt; kept.encode(alloc)?.as_str(), "{\"q\\\"k\":\"a/bA\"}");
     Ok(())
 }
-
-#[test]
-fn a_reading_with_buffers(rt: HostRuntime) -> Result<(), Fail> {
-    let mut buffers = Buffers::new(rt.alloc(), 13)?;
-    let mut bytes = *b"{\"a\":1,\"a\":2}";
-    let value = to_borrowed_value_with_buffers(rt.alloc(), &mut bytes, &mut buffers)?;
-    assert_eq!(rt; value.encode(rt.alloc())?.as_str(), "{\"a\":1}");
-    Ok(())
-}
-
-#[test]
-fn a_reading_by_its_other_name(rt: HostRuntime) -> Result<(), Fail> {
-    let mut bytes = *b"{\"a\":1,\"a\":2}";
-    let value = to_borrowed_value(rt.alloc(), &mut bytes)?;
-    assert_eq!(rt; value.encode(rt.alloc())?.as_str(), "{\"a\":1}");
-    Ok(())
-}

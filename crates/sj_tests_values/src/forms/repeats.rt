@@ -1,6 +1,8 @@
 //! Prints of repeats, read again by each choice.
 
-use sj_tape::to_tape;
+use sj_borrowed::{to_borrowed_value, to_borrowed_value_with_buffers};
+use sj_owned::{to_owned_value, to_owned_value_with_buffers};
+use sj_tape::{Buffers, to_tape};
 use sj_text_core::{Repeats, SameAs, Writable};
 use std::alloc::Global;
 use std::test::Fail;
@@ -56,5 +58,30 @@ fn readings_keep_by_choice(rt: HostRuntime) -> Result<(), Fail> {
         is_kept(rt.alloc(), Repeats::Last, "{\"a\":3,\"b\":2}")?,
     ];
     assert_eq!(rt; told, [[true; 2]; 2]);
+    Ok(())
+}
+
+/// Whether both forms are read by their other names, without buffers and with them, to what is
+/// printed so.
+fn is_read_by_other_names(alloc: Global, print: &str) -> Result<[bool; 4], Fail> {
+    let mut buffers = Buffers::new(alloc, 13)?;
+    let (mut bytes, mut copy) = (*REPEATED, *REPEATED);
+    let (mut third, mut fourth) = (*REPEATED, *REPEATED);
+    let owned = to_owned_value(alloc, &mut bytes)?;
+    let borrowed = to_borrowed_value(alloc, &mut copy)?;
+    let with_owned = to_owned_value_with_buffers(alloc, &mut third, &mut buffers)?;
+    let with_borrowed = to_borrowed_value_with_buffers(alloc, &mut fourth, &mut buffers)?;
+    Ok([
+        owned.encode(alloc)?.as_str() == print,
+        borrowed.encode(alloc)?.as_str() == print,
+        with_owned.encode(alloc)?.as_str() == print,
+        with_borrowed.encode(alloc)?.as_str() == print,
+    ])
+}
+
+#[test]
+fn the_other_names_read_alike(rt: HostRuntime) -> Result<(), Fail> {
+    let told = is_read_by_other_names(rt.alloc(), "{\"a\":1}")?;
+    assert_eq!(rt; told, [true; 4]);
     Ok(())
 }

@@ -88,18 +88,6 @@ fn deeper_than_the_reader(rt: HostRuntime) -> Result<(), Fail> {
 }
 
 #[test]
-fn the_other_readings(rt: HostRuntime) -> Result<(), Fail> {
-    let alloc = rt.alloc();
-    let mut buffers = Buffers::new(alloc, 13)?;
-    let mut bytes = *b"{\"a\":1,\"a\":2}";
-    let value = to_owned_value_with_buffers(alloc, &mut bytes, &mut buffers)?;
-    assert_eq!(rt; value.encode(alloc)?.as_str(), "{\"a\":1}");
-    let mut bytes = *b"{\"a\":1,\"a\":2}";
-    assert_eq!(rt; to_owned_value(alloc, &mut bytes)?, value);
-    Ok(())
-}
-
-#[test]
 fn made_of_lists(rt: HostRuntime) -> Result<(), Fail> {
     let alloc = rt.alloc();
     let value = Value::try_make(alloc, vec![in alloc; true]?)?;
