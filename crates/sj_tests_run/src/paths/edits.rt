@@ -27,7 +27,7 @@ enum Edit {
 }
 
 /// Pointers, edits and their keys, what they answer, and what is left.
-const EDITS: [(&str, Edit, &str, &str, &str); 33] = [
+const EDITS: [(&str, Edit, &str, &str, &str); 22] = [
     ("", Edit::Insert, "c", "3", r#"{"a":[1,{"b~":2}],"c":7}"#),
     (
         "",
@@ -86,41 +86,25 @@ const EDITS: [(&str, Edit, &str, &str, &str); 33] = [
         r#"{"a":[1,{"b~":null}],"c":3}"#,
     ),
     ("/a/1/b", Edit::Take, "", "none", SMALL),
-    ("", Edit::Set, "", SMALL, "7"),
-    (
-        "/a/1/b~0",
-        Edit::Set,
-        "",
-        "2",
-        r#"{"a":[1,{"b~":7}],"c":3}"#,
-    ),
-    ("/a/0", Edit::Set, "", "1", r#"{"a":[7,{"b~":2}],"c":3}"#),
-    (
-        "/d",
-        Edit::Set,
-        "",
-        "none",
-        r#"{"a":[1,{"b~":2}],"c":3,"d":7}"#,
-    ),
+];
+
+/// Pointers at which 7 is set, what stood there, and what is left.
+const SETS: [(&str, &str, &str); 11] = [
+    ("", SMALL, "7"),
+    ("/a/1/b~0", "2", r#"{"a":[1,{"b~":7}],"c":3}"#),
+    ("/a/0", "1", r#"{"a":[7,{"b~":2}],"c":3}"#),
+    ("/d", "none", r#"{"a":[1,{"b~":2}],"c":3,"d":7}"#),
     (
         "/a/1/x~1y/0/",
-        Edit::Set,
-        "",
         "none",
         r#"{"a":[1,{"b~":2,"x/y":{"0":{"":7}}}],"c":3}"#,
     ),
-    (
-        "//a",
-        Edit::Set,
-        "",
-        "none",
-        r#"{"a":[1,{"b~":2}],"c":3,"":{"a":7}}"#,
-    ),
-    ("/a/2", Edit::Set, "", "NotAnObject", SMALL),
-    ("/a/-", Edit::Set, "", "NotAnObject", SMALL),
-    ("/a/0/b/c", Edit::Set, "", "NotAnObject", SMALL),
-    ("/c/d", Edit::Set, "", "NotAnObject", SMALL),
-    ("/a/01", Edit::Set, "", "NotAnObject", SMALL),
+    ("//a", "none", r#"{"a":[1,{"b~":2}],"c":3,"":{"a":7}}"#),
+    ("/a/2", "NotAnObject", SMALL),
+    ("/a/-", "NotAnObject", SMALL),
+    ("/a/0/b/c", "NotAnObject", SMALL),
+    ("/c/d", "NotAnObject", SMALL),
+    ("/a/01", "NotAnObject", SMALL),
 ];
 
 fn number<T: KeyText>(n: u64) -> Document<T> {
@@ -227,17 +211,38 @@ fn lazy_is_edited(
     Ok(value.is_value() && told(alloc, &answer, &value, want)?)
 }
 
+/// Makes the edit in each form.
+fn are_edited(
+    alloc: Global,
+    at: &Pointer,
+    edit: (Edit, &str),
+    want: (&str, &str),
+) -> Result<[bool; 3], Fail> {
+    Ok([
+        owned_is_edited(alloc, at, edit, want)?,
+        borrowed_is_edited(alloc, at, edit, want)?,
+        lazy_is_edited(alloc, at, edit, want)?,
+    ])
+}
+
 #[test]
 fn containers_are_edited(rt: HostRuntime) -> Result<(), Fail> {
     let alloc = rt.alloc();
     for (text, edit, key, answer, left) in EDITS {
         let at = pointer(alloc, text)?;
-        let seen = [
-            owned_is_edited(alloc, &at, (edit, key), (answer, left))?,
-            borrowed_is_edited(alloc, &at, (edit, key), (answer, left))?,
-            lazy_is_edited(alloc, &at, (edit, key), (answer, left))?,
-        ];
+        let seen = are_edited(alloc, &at, (edit, key), (answer, left))?;
         assert_eq!(rt; seen, [true; 3], "{text} {edit:?} {key}");
+    }
+    Ok(())
+}
+
+#[test]
+fn what_is_missing_is_made(rt: HostRuntime) -> Result<(), Fail> {
+    let alloc = rt.alloc();
+    for (text, answer, left) in SETS {
+        let at = pointer(alloc, text)?;
+        let seen = are_edited(alloc, &at, (Edit::Set, ""), (answer, left))?;
+        assert_eq!(rt; seen, [true; 3], "{text}");
     }
     Ok(())
 }
