@@ -14,7 +14,10 @@ test:
 programs:
 	cd crates/sjval && rt run -- owned < stdin > /dev/null
 	cd crates/refusals && rt run -- insert insert 32 > /dev/null
+	cd crates/refusals_paths && rt run -- print owned canonical > /dev/null
 	cd crates/sjroute && rt run -- --help > /dev/null
+	cd crates/sjpatch && rt run -- --help > /dev/null
+	cd crates/patch_lines && rt run -- owned < stdin > /dev/null
 	cd crates/deep && rt run -- copies owned 10 > /dev/null
 
 # Writes what the sources make of the pages: docs/calling, and README's numbers.
@@ -44,6 +47,9 @@ check-program:
 	tools/replies.py crates/sjval/out/sjval
 	tools/sjroute.sh crates/sjroute/out/sjroute
 	tools/console.py docs/SJROUTE.md crates/sjroute/out/sjroute
+	tools/sjpatch.sh crates/sjpatch/out/sjpatch
+	tools/console.py docs/SJPATCH.md crates/sjpatch/out/sjpatch
+	tools/patches.py crates/patch_lines/out/patch_lines
 
 # Edits that make documents 50,000 levels deep, and calls on documents of 1,000,000 levels, on a small stack.
 # Needs python3, and the programs built.
@@ -52,7 +58,7 @@ check-depth:
 
 # Refuses each request for memory of each call in turn. Needs gcc and python3, and the programs built.
 check-refusals:
-	tools/refusals.sh crates/refusals/out/refusals
+	tools/refusals.sh crates/refusals/out/refusals crates/refusals_paths/out/refusals_paths
 
 # Gives the built programs broken documents, lines, nodes and rules. Needs python3, and the programs built.
 check-broken:

@@ -18,7 +18,9 @@ from pathlib import Path
 
 TOOLS = Path(__file__).resolve().parent
 CRATES = TOOLS.parent / "crates"
-FAULTS = "AllocError|AllocFailed|Unread|WriteError|ErrorKind|AccessError|Why|RunFault|SessionFault|PointerError|Error"
+FAULTS = "AllocError|AllocFailed|Unread|WriteError|ErrorKind|AccessError|Why|RunFault|SessionFault|PointerError|PatchFault|PatchReadFault|Error"
+# what makes the calls
+PROGRAMS = ("refusals", "refusals_paths")
 # calls that are written by operators
 OPERATORS = {"eq", "index", "index_mut", "fmt", "drop"}
 FUNCTION = re.compile(
@@ -146,7 +148,7 @@ def faults(requests):
     names, left_out = libraries()
     crates = sorted({line[0] for line in listed()} | set(names) - set(left_out))
     sources = {(c, *key): can for c in crates for key, can in functions_of(c).items()}
-    program = "\n".join(f.read_text() for f in (CRATES / "refusals/src").glob("*.rt"))
+    program = "\n".join(f.read_text() for name in PROGRAMS for f in (CRATES / name / "src").glob("*.rt"))
     hows, named, wrong = {}, set(), []
     for crate, own, names, how, runs in listed():
         for name in names:
@@ -155,7 +157,7 @@ def faults(requests):
             if key not in sources:
                 wrong.append(f"no such public function: {crate} {own} {name}")
             if how != "within" and name not in OPERATORS and not re.search(rf"\b{name}\b", program):
-                wrong.append(f"not in the program of refusals: {crate} {own} {name}")
+                wrong.append(f"in neither program of refusals: {crate} {own} {name}")
             for run in (run.replace("$", name) for run in runs):
                 named.add(run)
                 asked = requests.get(run)

@@ -1,14 +1,16 @@
 #!/usr/bin/env bash
 # Refuses each request for memory of each call in turn, and looks at what the call answers and at
 # what stands: the Nth request is refused, N counting up until a run meets none.
-# Usage: tools/refusals.sh PROGRAM, which is the program of crates/refusals. Needs gcc and python3. A
-# line for each call has its number of requests; the last line is 'N passed, M failed'. What was run
-# is compared with the public functions of the sources, by tools/calls.py.
+# Usage: tools/refusals.sh PROGRAM PROGRAM_OF_PATHS, which are the programs of crates/refusals and of
+# crates/refusals_paths. Needs gcc and python3. A line for each call has its number of requests; the
+# last line is 'N passed, M failed'. What was run is compared with the public functions of the
+# sources, by tools/calls.py.
 set -u
-program=$(realpath "$1")
-for need in "$program" "$(command -v gcc)" "$(command -v python3)"; do
+program_of_documents=$(realpath "${1:-}")
+program_of_paths=$(realpath "${2:-}")
+for need in "$program_of_documents" "$program_of_paths" "$(command -v gcc)" "$(command -v python3)"; do
   if [ ! -f "$need" ] || [ ! -x "$need" ]; then
-    echo "failed: there is no program ${1:-}, or no gcc, or no python3"
+    echo "failed: there is no program ${1:-} or ${2:-}, or no gcc, or no python3"
     echo '0 passed, 1 failed'
     exit 1
   fi
@@ -20,6 +22,17 @@ gcc -O2 -shared -fPIC -o "$work/refuse.so" "$tools/refuse.c" || exit 1
 cd "$work" || exit 1
 # shellcheck source=tools/refuse.sh
 . "$tools/refuse.sh"
+
+# pick WORDS: the program that makes the call, by its first word
+pick() {
+  case ${1%% *} in
+    apply | command | copy | copy_key | display | from | kinds | lazy | make_lazy | no_pointer | parts | patch | \
+      pointer | pointer_* | print | run | run_fault | session | session_* | within)
+      program=$program_of_paths
+      ;;
+    *) program=$program_of_documents ;;
+  esac
+}
 
 # reads CALL TEXT SEEN [WORD]: a reading, of which the run tells what it has seen
 reads() {
@@ -74,7 +87,8 @@ for error in json pointer; do
 done
 free 'fault meet' $'call: found\n'
 free 'fault known' $'call: found\n'
-free 'fault run' $'call: found\n'
+free 'fault patch' $'call: found\n'
+free run_fault $'call: found\n'
 free 'fault told' $'call: not an array, expected u16, found u64\n'
 
 free 'stream lines' $'call: found\n'
@@ -223,7 +237,7 @@ merged() {
   print+='"n":[{}],"o":"p"}'
 }
 
-# merges WORDS KEPT: a merge, of which the target stands where it was refused, or nothing does
+# merges WORDS KEPT: a merge, or a merge patch that is found, and what stands where it was refused
 merges() {
   each "merge $1" "call: refused, $2merged $print"$'\n' "call: merged $print"$'\n'
 }
@@ -232,10 +246,12 @@ for form in owned borrowed; do
   print='{"some":["key","value",2],"k01":{"a":1},"n":[{}],"o":"p"}'
   merges "$form merge" 'target as before, '
   merges "$form into_merged" ''
+  merges "$form merge_diff" 'both as before, '
   for members in 0 32 64; do
     merged $members
     merges "$form merge $members" 'target as before, '
     merges "$form into_merged $members" ''
+    merges "$form merge_diff $members" 'both as before, '
   done
 done
 
@@ -400,6 +416,25 @@ each 'pointer_edit insert' $'call: refused, document as before, inserted\n' $'ca
 each 'pointer_edit push' $'call: refused, document as before, pushed\n' $'call: done, pushed\n'
 each 'pointer_edit set' $'call: refused, document as before, set\n' $'call: done, set\n'
 free 'pointer_edit edit' $'call: edited, and left\n'
+sorted='{"a":"text","b":[2,{"c":3,"d":4}]}'
+for form in tape owned borrowed lent; do
+  each "print $form canonical" "call: refused, $sorted"$'\n' "call: $sorted"$'\n'
+  each "print $form write_canonical" "call: refused, output as before, kept $sorted"$'\n' "call: kept $sorted"$'\n'
+done
+patched='{"a":[[3],{"b":2},"text"],"d":{"b":{"e":4}}}'
+unpatched='{"a":[1,{"b":2}],"c":"text"}'
+difference='[{"op":"replace","path":"/a/1/b","value":3},{"op":"add","path":"/a/2","value":4},'
+difference+='{"op":"remove","path":"/c"},{"op":"add","path":"/d","value":"text"}]'
+for form in owned borrowed; do
+  each "patch $form operations_of" $'call: refused, patch as before, listed\n' $'call: listed\n'
+  each "patch $form patch" "call: OutOfMemory, document as before, patched, $patched"$'\n' \
+    "call: patched, $patched"$'\n'
+  each "patch $form undo" "call: OutOfMemory, document as before, nothing there, $unpatched"$'\n' \
+    "call: nothing there, $unpatched"$'\n'
+  each "patch $form diff" "call: refused, made, $difference"$'\n' "call: made, $difference"$'\n'
+  each "patch $form document_of" $'call: refused, made, as read\n' $'call: made, as read\n'
+done
+
 for form in owned borrowed; do
   free "pointer_in $form" $'call: found, {"some":["key",null,2]}\n'
 done

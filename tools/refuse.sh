@@ -1,12 +1,16 @@
-# How calls are run with requests for memory refused: for tools/refusals.sh and tools/sjroute.sh, which set
-# program and stand in a folder with refuse.so.
+# How calls are run with requests for memory refused: for tools/refusals.sh, tools/sjroute.sh and tools/sjpatch.sh, which set
+# program, or have a pick of their own, and stand in a folder with refuse.so.
 # shellcheck shell=bash
 passed=0
 failed=0
 
+# pick WORDS: sets program to the one that makes the call, where there are several
+pick() { :; }
+
 # run N WORDS: one run with the Nth request refused; sets status and requests
 run() {
   rm -f count
+  pick "$2"
   # shellcheck disable=SC2086
   REFUSE=$1 REFUSE_COUNT=count LD_PRELOAD=./refuse.so "$program" $2 > out 2> err
   status=$?

@@ -1,10 +1,7 @@
 //! Changes of parts that are lent, by a key and by a position.
 
-use crate::documents::read;
-use crate::fault::Fault;
 use crate::maps::{Numbers, numbered};
-use crate::say::{say, say_call};
-use crate::texts::text_of;
+use refusals_common::{Fault, read, say, say_call, text_of};
 use sj_document::{LendItem, LendMember, OwnedValue, Replace, change_item, change_member};
 use sj_object::deserialize;
 use sj_text_core::{StaticNode, ValueAsScalar};

@@ -1,13 +1,10 @@
 //! Calls on documents, which own their texts or borrow them.
 
-use crate::fault::Fault;
-use crate::say::{say, say_bytes, say_call, say_kept};
-use crate::texts::text_of;
+use refusals_common::{Fault, read, say, say_bytes, say_call, say_kept, text_of};
 use sj_document::{BorrowedValue, CopyText, Document, OwnedValue};
 use sj_object::{KeyText, deserialize};
 use sj_text_core::{
-    AccessError, ErrorKind, Refused, SameAs, TypedValue, ValueAsScalar, ValueType, Writable,
-    WriteError,
+    AccessError, Refused, SameAs, TypedValue, ValueAsScalar, ValueType, Writable, WriteError,
 };
 use std::alloc::{AllocError, Global};
 use std::borrow::CowStr;
@@ -227,17 +224,8 @@ fn on_borrowed(rt: &(impl Print + AllocGlobal), call: Call, bytes: &mut [u8]) ->
     make(rt, call, document, first, second)
 }
 
-/// A document that was read.
-pub fn read<D: Drop>(read: Result<D, ErrorKind>) -> Result<D, Fault> {
-    match read {
-        Ok(document) => Ok(document),
-        Err(ErrorKind::OutOfMemory) => Err(Fault::OutOfMemory),
-        Err(_) => Err(Fault::Usage),
-    }
-}
-
 /// The buckets of an object.
-pub fn buckets_of<T: KeyText + Drop>(document: &Document<T>) -> Option<usize> {
+fn buckets_of<T: KeyText + Drop>(document: &Document<T>) -> Option<usize> {
     document.as_object()?.buckets()
 }
 

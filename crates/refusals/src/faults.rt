@@ -1,13 +1,11 @@
 //! Faults, and the one error that stands for each.
 
-use crate::fault::Fault;
-use crate::say::{say, say_call};
+use refusals_common::{Fault, say, say_call, say_right};
 use sj_borrowed::known_key;
-use sj_run::{RunFault, SessionFault, Why};
 use sj_stream::Unread;
 use sj_text_core::{
-    AccessError, BadTape, ErrorKind, ExtendedValueType, JsonError, PointerError, Refused,
-    TryTypeError, ValueType, WriteError,
+    AccessError, BadTape, ErrorKind, ExtendedValueType, JsonError, OperationFault, PatchFault,
+    PatchReadFault, PointerError, Refused, TryTypeError, ValueType, WriteError,
 };
 use std::alloc::{AllocError, AllocFailed, Global};
 
@@ -53,7 +51,7 @@ pub fn run_call(rt: &(impl Print + AllocGlobal), call: &str) -> Result<(), Fault
         }
         "meet" => meet(rt),
         "known" => meet_known(rt),
-        "run" => meet_runs(rt),
+        "patch" => meet_patches(rt),
         "told" => told(rt),
         _ => Err(Fault::Usage),
     }
@@ -114,32 +112,22 @@ fn meet_known(rt: &(impl Print + AllocGlobal)) -> Result<(), Fault> {
     say_right(rt, is_right)
 }
 
-/// Makes the one error of the faults of runs and of sessions.
-fn meet_runs(rt: &(impl Print + AllocGlobal)) -> Result<(), Fault> {
-    let ended = RunFault {
-        done: Vec::new(rt.alloc()),
-        why: Why::TooLong,
-    };
+/// Makes the faults of patches of each that they may meet, and the one error of each.
+fn meet_patches(rt: &impl Print) -> Result<(), Fault> {
+    let failed = PatchFault::Failed(1, OperationFault::Missing);
+    let unread = PatchReadFault::NotAnArray;
+    let given = AllocFailed { value: 0_u8 };
     say_call(rt)?;
-    let is_right = JsonError::from(Why::OutOfMemory) == JsonError::OutOfMemory
-        && JsonError::from(ended) == JsonError::Write(WriteError::TooLong)
-        && JsonError::from(SessionFault::Usage) == JsonError::NotServed
-        && JsonError::from(SessionFault::TooLong) == JsonError::Write(WriteError::TooLong)
-        && JsonError::from(SessionFault::OutOfMemory) == JsonError::OutOfMemory
-        && JsonError::from(SessionFault::Refused(ErrorKind::Float))
-            == JsonError::Read(ErrorKind::Float);
+    let is_right = PatchFault::from(AllocError) == PatchFault::OutOfMemory
+        && JsonError::from(failed) == JsonError::Patch(failed)
+        && JsonError::from(PatchFault::OutOfMemory) == JsonError::OutOfMemory
+        && PatchReadFault::from(AllocError) == PatchReadFault::OutOfMemory
+        && PatchReadFault::from(given) == PatchReadFault::OutOfMemory
+        && refused(unread) == Err(unread)
+        && refused(unread) == Err(JsonError::PatchRead(unread))
+        && JsonError::from(unread) == JsonError::PatchRead(unread)
+        && JsonError::from(PatchReadFault::OutOfMemory) == JsonError::OutOfMemory;
     say_right(rt, is_right)
-}
-
-fn say_right(rt: &impl Print, is_right: bool) -> Result<(), Fault> {
-    say(
-        rt,
-        if is_right {
-            "found\n"
-        } else {
-            "ANOTHER ERROR\n"
-        },
-    )
 }
 
 /// Tells a refusal and kinds in words.

@@ -1,9 +1,6 @@
 //! The laws that speak of values: each goes over them.
 
-use crate::documents::read;
-use crate::fault::Fault;
-use crate::say::{say, say_call};
-use crate::texts::text_of;
+use refusals_common::{Fault, read, say, say_call, text_of};
 use sj_document::{BorrowedValue, OwnedValue};
 use sj_object::deserialize;
 use sj_tape::to_tape;

@@ -1,8 +1,7 @@
 //! Documents of what stands in the source.
 
-use crate::fault::Fault;
 use crate::makes::{say_again, say_document};
-use crate::say::say_call;
+use refusals_common::{Fault, say_call};
 use sj_document::{BorrowedValue, OwnedValue};
 use std::alloc::{AllocError, Global};
 

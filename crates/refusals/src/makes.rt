@@ -1,9 +1,6 @@
 //! Calls that make a document of something else.
 
-use crate::documents::read;
-use crate::fault::Fault;
-use crate::say::{say, say_call};
-use crate::texts::text_of;
+use refusals_common::{Fault, read, say, say_call, text_of};
 use sj_document::{BorrowedValue, Document, Object, OwnedValue};
 use sj_object::{HashMap, KeyText, ObjectHasher, deserialize};
 use sj_text_core::{TryMake, Writable};

@@ -3,9 +3,8 @@
 
 ghost use Rattle.std.specs.Prelude.{◌≡◌, ◌<◌};
 
-use crate::fault::Fault;
 use crate::maps::{Numbers, numbered};
-use crate::say::{say, say_call};
+use refusals_common::{Fault, say, say_call};
 use sj_borrowed::{KnownKey, StaticNode, Value};
 use sj_object::{HashMap, KeyHasher, ObjectHasher};
 use sj_text_core::Steps;

@@ -3,8 +3,7 @@
 ghost use Rattle.std.specs.Prelude.{◌≡◌, ◌<◌, string_bytes};
 ghost use Rattle.sj_text_core.specs.Hash.{hash as hash_of_text};
 
-use crate::fault::Fault;
-use crate::say::{say, say_call, say_kept, say_made};
+use refusals_common::{Fault, say, say_call, say_kept, say_made};
 use sj_object::{HashMap, KeyHasher, ObjectHasher};
 use sj_text_core::Refused;
 use std::alloc::{AllocError, Global};

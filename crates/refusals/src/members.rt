@@ -4,9 +4,8 @@
 
 ghost use Rattle.std.specs.Prelude.{◌<◌};
 
-use crate::fault::Fault;
 use crate::maps::{buckets_at, key_of};
-use crate::say::{say, say_call, say_kept};
+use refusals_common::{Fault, say, say_call, say_kept};
 use sj_borrowed::known_key::Error;
 use sj_borrowed::{AccessError, KnownKey, Object, Refused, SameAs, StaticNode, Value};
 use sj_document::Replace;

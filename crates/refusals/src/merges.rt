@@ -1,11 +1,8 @@
 //! Merges of a patch into a document.
 
-use crate::documents::{buckets_of, read};
-use crate::fault::Fault;
-use crate::say::{say, say_call, say_kept};
-use crate::texts::text_of;
+use refusals_common::{Fault, read, say, say_call, say_kept, text_of};
 use sj_document::{BorrowedValue, CopyText, Document, OwnedValue};
-use sj_merge::{into_merged, merge};
+use sj_merge::{into_merged, merge, merge_diff};
 use sj_object::{KeyText, deserialize};
 use sj_text_core::Writable;
 use std::alloc::{AllocError, Global};
@@ -78,6 +75,7 @@ fn make<T: CopyText + Drop>(
     match call {
         "merge" => by_merge(rt, first, again.1),
         "into_merged" => by_into_merged(rt, first, again),
+        "merge_diff" => by_merge_diff(rt, first, again),
         _ => Err(Fault::Usage),
     }
 }
@@ -90,12 +88,12 @@ fn by_merge<T: CopyText + Drop>(
 ) -> Result<(), Fault> {
     let alloc = rt.alloc();
     let (mut target, patch) = given;
-    let (before, buckets) = (target.encode(alloc)?, buckets_of(&target));
+    let before = target.encode(alloc)?;
     say_call(rt)?;
     if let Err(AllocError) = merge(alloc, &mut target, patch) {
         say(rt, "refused, ")?;
         let is_same = target.encode(alloc)?.as_str() == before.as_str();
-        say_kept(rt, "target", is_same && buckets_of(&target) == buckets)?;
+        say_kept(rt, "target", is_same)?;
         merge(alloc, &mut target, again)?;
     }
     say_merged(rt, &target)
@@ -123,6 +121,36 @@ fn by_into_merged<T: CopyText + Drop>(
         }
     };
     say_merged(rt, &merged)
+}
+
+/// Merges the patch that leads to the merged document, which is looked for between the first two writes.
+fn by_merge_diff<T: CopyText + Drop>(
+    rt: &(impl Print + AllocGlobal),
+    given: Given<T>,
+    again: Given<T>,
+) -> Result<(), Fault> {
+    let alloc = rt.alloc();
+    let (mut target, _patch) = given;
+    let wanted = made(alloc, again)?;
+    let before = target.encode(alloc)?;
+    let wanted_before = wanted.encode(alloc)?;
+    say_call(rt)?;
+    let found = match merge_diff(alloc, &target, &wanted) {
+        Ok(found) => found,
+        Err(AllocError) => {
+            say(rt, "refused, ")?;
+            let is_same = target.encode(alloc)?.as_str() == before.as_str();
+            let is_wanted = wanted.encode(alloc)?.as_str() == wanted_before.as_str();
+            say_kept(rt, "both", is_same && is_wanted)?;
+            merge_diff(alloc, &target, &wanted)?
+        }
+    };
+    say(rt, "merged ")?;
+    if let Some(patch) = found {
+        merge(alloc, &mut target, patch)?;
+    }
+    say(rt, target.encode(alloc)?.as_str())?;
+    say(rt, "\n")
 }
 
 fn say_merged<T: KeyText + Drop>(

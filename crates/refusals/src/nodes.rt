@@ -1,8 +1,6 @@
 //! Lists of nodes, of which tapes are made or none.
 
-use crate::documents::read;
-use crate::fault::Fault;
-use crate::say::{say, say_bytes};
+use refusals_common::{Fault, read, say, say_bytes};
 use sj_tape::{Array, Node, Tape, Value, to_tape};
 use sj_text_core::{ValueAsScalar, Writable};
 use std::alloc::Global;

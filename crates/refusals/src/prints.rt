@@ -1,7 +1,6 @@
 //! Calls on generators, behind `[`; in pretty prints at level 1.
 
-use crate::fault::Fault;
-use crate::say::{say, say_bytes, say_call};
+use refusals_common::{Fault, say, say_bytes, say_call};
 use sj_print::{
     BaseGenerator, DumpGenerator, PrettyGenerator, PrettyWriterGenerator, WriterGenerator,
 };

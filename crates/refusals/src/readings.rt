@@ -1,8 +1,6 @@
 //! Readings of texts, to tapes and to documents.
 
-use crate::fault::Fault;
-use crate::say::{say, say_bytes, say_call, say_made};
-use crate::texts::text_of;
+use refusals_common::{Fault, say, say_bytes, say_call, say_made, text_of};
 use sj_document::{BorrowedValue, Document, OwnedValue};
 use sj_object::{KeyText, deserialize, deserialize_with_buffers};
 use sj_tape::{Buffers, Spare, Tape, to_tape, to_tape_with_buffers, to_tape_with_spare};

@@ -1,7 +1,6 @@
 //! Documents that are made with room, and filled without a request for memory.
 
-use crate::fault::Fault;
-use crate::say::{say, say_call};
+use refusals_common::{Fault, say, say_call};
 use sj_document::Document;
 use sj_object::{KeyOf, KeyText};
 use std::borrow::CowStr;

@@ -1,8 +1,6 @@
 //! Streams of documents, and the memory of a tape that serves the next.
 
-use crate::fault::Fault;
-use crate::say::{say, say_call};
-use crate::texts::text_of;
+use refusals_common::{Fault, say, say_call, text_of};
 use sj_lines::{Lines, line_count};
 use sj_stream::{Place, Repeats, Stream, Unread, unread_lines};
 use sj_tape::{ErrorKind, Spare, Tape, to_tape_with_spare};

@@ -1,9 +1,6 @@
 //! Calls on tapes, none of which asks for memory, and readings of tapes with many items or members.
 
-use crate::documents::read;
-use crate::fault::Fault;
-use crate::say::{say, say_call};
-use crate::texts::text_of;
+use refusals_common::{Fault, read, say, say_call, text_of};
 use sj_tape::{ErrorKind, Node, Tape, Value, to_tape, to_tape_with_spare};
 use sj_text_core::{StaticNode, TypedValue, ValueAsScalar, ValueType};
 

@@ -1,9 +1,7 @@
 //! Readings to documents by the calls of each form, and by the choice of a member.
 
-use crate::fault::Fault;
 use crate::readings::tell_document;
-use crate::say::{say, say_call};
-use crate::texts::text_of;
+use refusals_common::{Fault, say, say_call, text_of};
 use sj_document::{BorrowedValue, OwnedValue};
 use sj_object::deserialize_repeats;
 use sj_tape::Buffers;

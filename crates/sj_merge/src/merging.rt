@@ -1,12 +1,12 @@
-//! Merge patches.
+//! Merge patches into targets that are given up where they are refused.
 
-ghost use Rattle.std.specs.Prelude.{◌≡◌, Some, IfOk, OnOk, OnErr};
-ghost use Rattle.sj_text_core.specs.Tree.{obj};
+ghost use Rattle.std.specs.Prelude.{◌≡◌, Some, IfOk, OnOk};
+ghost use Rattle.sj_text_core.specs.Tree.{obj, no_members};
 ghost use Rattle.sj_object.specs.Members.{entry_members};
 ghost use Rattle.sj_document.specs.Document.{tree};
 ghost use Rattle.sj_merge.specs.Merge.{merged, merged_members, merged_pair, target_members};
 
-use sj_document::{CopyText, Document, Object};
+use sj_document::{Document, Object};
 use sj_object::{HashMap, KeyText, ObjectHasher};
 use sj_text_core::{TypedValue, ValueAsScalar};
 use std::alloc::{AllocError, Global};
@@ -91,19 +91,16 @@ fn merge_member<T: KeyText + Drop>(
     }
 }
 
-/// Merges the patch into the target (RFC 7396). Refused for want of memory, the target is as it was.
-pub fn merge<T: CopyText + Drop>(
+/// The members merged into an object that has none.
+pub(crate) fn new_object<T: KeyText + Drop>(
     alloc: Global,
-    target: &mut Document<T>,
-    patch: Document<T>,
-) -> Result<(), AllocError>
-    ensures merged { OnOk result (tree T.text_of target.new ≡ merged (Some (tree T.text_of target.old)) (tree T.text_of patch)) }
-    ensures refused { OnErr result (target.new ≡ target.old) }
+    members: Object<T>,
+) -> Result<Document<T>, AllocError>
+    ensures { IfOk result (λ made. tree T.text_of made ≡ obj (merged_members no_members (entry_members (tree T.text_of) members.entries))) }
 {
-    let mut made = target.clone()?;
-    merge_value(alloc, &mut made, patch)?;
-    *target = made;
-    Ok(())
+    let mut made = Document::null();
+    merge_object(alloc, &mut made, members)?;
+    Ok(made)
 }
 
 /// The target as the patch makes it (RFC 7396). Refused for want of memory, both are given up, so

@@ -10,6 +10,7 @@ pub mod Walked
 pub mod Hashed
 pub mod Stored
 pub mod Inserted
+pub mod Restored
 pub mod Retained
 pub mod Added
 pub mod Shown

@@ -1,5 +1,5 @@
 -- Where a text stands among entries.
-use Rattle.std.proofs.Common.{◌≡◌, ℕ, suc, ◌+◌, ◌<◌, Bool, true, false, List, [], ◌∷◌, length, Option, Some, None, IfSome, option_map, refl, sym, ap, ◌∙◌, arith, subst, bytes_eq}
+use Rattle.std.proofs.Common.{◌≡◌, ℕ, suc, ◌+◌, ◌<◌, Bool, true, false, List, [], ◌∷◌, length, Option, Some, None, is_some, IfSome, option_map, refl, sym, ap, ◌∙◌, arith, subst, bytes_eq}
 use Rattle.std.specs.List.{position_from}
 use Rattle.std.specs.Bool.{if◌then◌else◌}
 use Rattle.sj_object.specs.Entries.{Entry, entries_of}
@@ -69,6 +69,17 @@ module _ {K V : Type 0} (k : List ℕ) where
     by_test : (b : Bool) → bytes_eq k f.0.1 ≡ b → (if b then Some 0 else option_map suc (position k es)) ≡ None → (position k es ≡ None → lookup k es ≡ None) → lookup k (f ∷ es) ≡ None
     by_test true q h more = cc
     by_test false q h more = by_place (position k es) refl q h more
+
+  pub is_some-position : (es : List (Entry K V)) → is_some (position k es) ≡ is_some (lookup k es)
+  is_some-position [] = refl
+  is_some-position (e ∷ es) = by_test (bytes_eq k e.0.1) (is_some-position es) where
+    behind : (o : Option ℕ) → is_some (option_map suc o) ≡ is_some o
+    behind None = refl
+    behind (Some j) = refl
+
+    by_test : (b : Bool) → is_some (position k es) ≡ is_some (lookup k es) → is_some (if b then Some 0 else option_map suc (position k es)) ≡ is_some (if b then Some e.1 else lookup k es)
+    by_test true h = refl
+    by_test false h = behind (position k es) ∙ h
 
   pub placed_within : (es : List (Entry K V)) (o : Option ℕ) → o ≡ position k es → IfSome o (λ i. i < length es)
   placed_within es None e = tt

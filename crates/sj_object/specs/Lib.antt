@@ -10,6 +10,7 @@ pub mod Chains
 pub mod Holes
 pub mod Index
 pub mod Stored
+pub mod Rooms
 pub mod Lends
 pub mod Laws
 pub mod Builder

@@ -1,10 +1,12 @@
 -- How a map stores its members: as a plain list, or, as a list or in a ring, beside the index of their hashes.
 use Rattle.std.specs.Prelude.{◌≡◌, ◌+◌, ◌<◌, ◌≤◌, ℕ, List, length, Option, Some, None, ⊤}
+use Rattle.std.specs.Global.{Box}
 use Rattle.std.specs.Vec.{vec_len, vec_capacity}
 use Rattle.std.specs.VecDeque.{deque_len, deque_capacity}
 use denote.Struct.Props.{props}
 use Rattle.sj_object.specs.declared.map.members.Members.{Members}
 use Rattle.sj_object.specs.declared.map.members.Members.TheVariants.{Listed, Ring}
+use Rattle.sj_object.specs.declared.map.store.Hashed.{Hashed as HashedOf}
 use Rattle.sj_object.specs.declared.map.store.Store.{Store}
 use Rattle.sj_object.specs.declared.map.store.Store.TheVariants.{Plain, Hashed}
 use Rattle.sj_object.specs.Holes.{AreHoles-prop}
@@ -54,3 +56,12 @@ module _ {K V : Type 0} where
   pub IsIndexOf-prop : (hashes : List ℕ) (s : Store K V) → IsProp (IsIndexOf hashes s)
   IsIndexOf-prop hashes (Plain v) = hlevel props
   IsIndexOf-prop hashes (Hashed b) = hlevel (props, AreHoles-prop)
+
+  -- an index that is there has a table, and no members
+  abbrev pub IsEmptied : Option (Box (HashedOf K V)) → Type 0
+  IsEmptied None = ⊤
+  IsEmptied (Some b) = IsTable b.value.table × (length (members_of b.value.members) ≡ 0)
+
+  pub IsEmptied-prop : (o : Option (Box (HashedOf K V))) → IsProp (IsEmptied o)
+  IsEmptied-prop None = hlevel props
+  IsEmptied-prop (Some b) = hlevel (props, AreHoles-prop)

@@ -9,15 +9,15 @@ ghost use Rattle.sj_path.specs.Made.{nested, set_made, IsEndOf};
 use crate::edits::InsertMember;
 use crate::walk::step;
 use crate::write::{replace, update_in};
-use sj_document::Document;
+use sj_document::{CopyText, Document};
 use sj_object::KeyText;
 use sj_pointer::Pointer;
 use sj_text_core::{AccessError, Refused, TypedValue};
 use std::alloc::{AllocError, Global};
 use std::borrow::CowStr;
 
-/// A text that can be made of an owned one.
-pub trait OwnedText: KeyText {
+/// A text that can be copied, and made of an owned one.
+pub trait OwnedText: CopyText {
     /// The same text, moved.
     fn owned(text: String) -> Self
         ensures { Self.text_of result ≡ string_bytes text };

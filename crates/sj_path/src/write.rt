@@ -30,8 +30,8 @@ impl Leads<String> for ByToken {
     }
 }
 
-/// Changes what the tokens lead to.
-pub(crate) fn update_in<T: KeyText + Drop, C: Change<Document<T>>>(
+/// `update` of what the tokens lead to, which may be some of a pointer's.
+pub fn update_in<T: KeyText + Drop, C: Change<Document<T>>>(
     value: &mut Document<T>,
     tokens: &[String],
     change: C,

@@ -95,6 +95,21 @@ fn further_changes(rt: &(impl Print + AllocGlobal)) -> anyhow::Result<()> {
     Ok(())
 }
 
+/// What a patch changes, and what one leaves that fails.
+fn patches(rt: &(impl Print + AllocGlobal)) -> anyhow::Result<()> {
+    let alloc = rt.alloc();
+    let mut settings = read_and_keep::read_settings(alloc, r#"{"foo":["bar","baz"]}"#)?;
+    let add = r#"[{"op":"add","path":"/foo/1","value":"qux"}]"#;
+    apply_a_patch::apply_patch(alloc, &mut settings, add)?;
+    println!(rt; "{settings}")?;
+    let failing = r#"[{"op":"remove","path":"/foo/0"},{"op":"test","path":"/foo/0","value":1}]"#;
+    match apply_a_patch::apply_patch(alloc, &mut settings, failing) {
+        Ok(()) => println!(rt; "patched")?,
+        Err(fault) => println!(rt; "{fault}, {settings}")?,
+    }
+    Ok(())
+}
+
 /// What keeps some members, and counts texts.
 fn sifts(rt: &(impl Print + AllocGlobal)) -> anyhow::Result<()> {
     let alloc = rt.alloc();
@@ -130,6 +145,19 @@ fn prints(rt: &(impl Print + AllocGlobal)) -> anyhow::Result<()> {
         "{}",
         a_type_of_my_own::count(alloc, "[1,[2,3],{\"a\":4,\"a\":5}]")?
     )?;
+    Ok(())
+}
+
+/// What prints the same for documents that are the same.
+fn signs(rt: &(impl Print + AllocGlobal)) -> anyhow::Result<()> {
+    let alloc = rt.alloc();
+    let settings = read_and_keep::read_settings(alloc, SETTINGS)?;
+    println!(rt; "{}", sign_a_document::text_to_sign(alloc, &settings)?)?;
+    let moved = r#"{"topic": "news", "hosts": ["a"], "port": 70000, "server": {"port": 8080}}"#;
+    let moved = read_and_keep::read_settings(alloc, moved)?;
+    println!(rt; "{}", sign_a_document::text_to_sign(alloc, &moved)?)?;
+    let bytes = sign_a_document::bytes_to_sign(alloc, "kiosk", &settings)?;
+    println!(rt; "{}", bytes.len())?;
     Ok(())
 }
 
@@ -226,8 +254,10 @@ fn main(rt: HostRuntime) -> anyhow::Result<()> {
     reads(&rt)?;
     changes(&rt)?;
     further_changes(&rt)?;
+    patches(&rt)?;
     sifts(&rt)?;
     prints(&rt)?;
+    signs(&rt)?;
     proves(&rt)?;
     passes(&rt)?;
     runs(&rt)?;

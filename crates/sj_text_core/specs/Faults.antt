@@ -12,6 +12,10 @@ use Rattle.sj_text_core.specs.declared.error.PointerError.{PointerError}
 use Rattle.sj_text_core.specs.declared.error.PointerError.TheVariants as pointer_error
 use Rattle.sj_text_core.specs.declared.error.WriteError.{WriteError}
 use Rattle.sj_text_core.specs.declared.error.WriteError.TheVariants as write_error
+use Rattle.sj_text_core.specs.declared.patch_fault.PatchFault.{PatchFault}
+use Rattle.sj_text_core.specs.declared.patch_fault.PatchFault.TheVariants as patch_fault
+use Rattle.sj_text_core.specs.declared.patch_fault.PatchReadFault.{PatchReadFault}
+use Rattle.sj_text_core.specs.declared.patch_fault.PatchReadFault.TheVariants as patch_read_fault
 use Rattle.sj_text_core.specs.declared.json_error.JsonError.{JsonError}
 use Rattle.sj_text_core.specs.declared.json_error.JsonError.TheVariants as json_error
 
@@ -52,3 +56,11 @@ unchanged why = json_error.Access why
 abbrev pub no_pointer : PointerError → JsonError
 no_pointer pointer_error.OutOfMemory = json_error.OutOfMemory
 no_pointer why = json_error.Pointer why
+
+abbrev pub no_patch : PatchReadFault → JsonError
+no_patch patch_read_fault.OutOfMemory = json_error.OutOfMemory
+no_patch why = json_error.PatchRead why
+
+abbrev pub unpatched : PatchFault → JsonError
+unpatched patch_fault.OutOfMemory = json_error.OutOfMemory
+unpatched why = json_error.Patch why

@@ -1,6 +1,7 @@
 //! One error for all calls.
 
 use crate::error::{AccessError, BadTape, ErrorKind, PointerError, WriteError};
+use crate::patch_fault::{PatchFault, PatchReadFault};
 use crate::refused::Refused;
 use crate::value_type::TryTypeError;
 use std::alloc::{AllocError, AllocFailed};
@@ -28,6 +29,12 @@ pub enum JsonError {
     /// A text is no pointer.
     #[error("no pointer: {0}")]
     Pointer(PointerError),
+    /// A document is no patch.
+    #[error("no patch: {0}")]
+    PatchRead(PatchReadFault),
+    /// A patch was not done.
+    #[error("not patched: {0}")]
+    Patch(PatchFault),
     /// A session's form is not served in its way.
     #[error("this form is not served in this way")]
     NotServed,
@@ -88,6 +95,34 @@ impl From<PointerError> for JsonError {
         match why {
             PointerError::OutOfMemory => JsonError::OutOfMemory,
             _ => JsonError::Pointer(why),
+        }
+    }
+}
+
+impl From<PatchReadFault> for JsonError {
+    ghost use Rattle.std.specs.Prelude.{◌≡◌};
+    ghost use Rattle.sj_text_core.specs.Faults.{no_patch};
+
+    ghost from_gives = { λ why e. e ≡ no_patch why };
+
+    fn from(why: PatchReadFault) -> JsonError {
+        match why {
+            PatchReadFault::OutOfMemory => JsonError::OutOfMemory,
+            _ => JsonError::PatchRead(why),
+        }
+    }
+}
+
+impl From<PatchFault> for JsonError {
+    ghost use Rattle.std.specs.Prelude.{◌≡◌};
+    ghost use Rattle.sj_text_core.specs.Faults.{unpatched};
+
+    ghost from_gives = { λ why e. e ≡ unpatched why };
+
+    fn from(why: PatchFault) -> JsonError {
+        match why {
+            PatchFault::OutOfMemory => JsonError::OutOfMemory,
+            _ => JsonError::Patch(why),
         }
     }
 }
@@ -173,6 +208,16 @@ impl Reason for BadTape {
     ghost use Rattle.sj_text_core.specs.declared.json_error.JsonError.TheVariants.{Tape};
 
     ghost stands_for = { Tape };
+
+    fn json_error(self) -> JsonError {
+        JsonError::from(self)
+    }
+}
+
+impl Reason for PatchReadFault {
+    ghost use Rattle.sj_text_core.specs.Faults.{no_patch};
+
+    ghost stands_for = { no_patch };
 
     fn json_error(self) -> JsonError {
         JsonError::from(self)

@@ -6,6 +6,7 @@ pub mod fleet;
 pub mod merging;
 pub mod messages;
 pub mod patch;
+pub mod patching;
 pub mod router;
 pub mod settings;
 pub mod typed;

@@ -59,6 +59,29 @@ impl Table {
         })
     }
 
+    /// An empty table with as many buckets.
+    pub fn emptied(&self, alloc: Global) -> Result<Self, AllocError>
+        requires { IsTable self.now }
+        ensures hashes { IfOk result (λ i. hashes_in i ≡ []) }
+        ensures table { IfOk result IsTable }
+        ensures buckets { IfOk result (λ i. length i.heads.items ≡ length self.now.heads.items) }
+    {
+        let buckets = self.heads.len();
+        let holes = Vec::with_capacity(alloc, HOLES)?;
+        let hashes = Vec::with_capacity(alloc, buckets + buckets / 4)?;
+        let mut links = Vec::with_capacity(alloc, buckets + buckets / 4)?;
+        let mut heads = vec![in alloc; 0; buckets]?;
+        link(self.bits, &hashes, &mut links, &mut heads);
+        Ok(Table {
+            bits: self.bits,
+            gone: 0,
+            holes,
+            hashes,
+            links,
+            heads,
+        })
+    }
+
     /// How many members there are.
     fn len(&self) -> usize
         requires { IsTable self.now }

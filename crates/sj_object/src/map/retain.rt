@@ -116,7 +116,11 @@ fn retain_in<K: Drop, V: Drop, F: FnMut(&K, &mut V) -> bool + Drop>(
 }
 
 /// Makes the table that of the members, for which it has buckets.
-fn index_anew<K: KeyText, V, S: KeyHasher>(members: &Members<K, V>, hasher: &S, table: &mut Table)
+pub(super) fn index_anew<K: KeyText, V, S: KeyHasher>(
+    members: &Members<K, V>,
+    hasher: &S,
+    table: &mut Table,
+)
     requires table { IsTable table.old }
     requires room { length (members_of members.now) ≤ length table.old.heads.items }
     ensures table { IsTableOf (map (λ p. S.hash_of hasher.now (K.text_of p.0)) (members_of members.now)) table.new }

@@ -2,6 +2,8 @@
 
 ghost use Rattle.std.specs.Prelude.{◌≡◌, ◌+◌, ◌<◌, ◌%◌, ◌^◌, ◌∷◌, ◌++◌, [], true, map, length, slice_index_or, IsSome, bytes_eq};
 ghost use Rattle.std.specs.List.{position_from};
+ghost use Rattle.std.specs.Option.{is_some};
+ghost use Rattle.sj_object.specs.Edits.{lookup};
 ghost use Rattle.sj_object.specs.Entries.{entries_of, texts};
 ghost use Rattle.sj_object.specs.Texts.{no_repeats};
 ghost use Rattle.sj_object.specs.Steps.{visited, walk, compared};
@@ -49,6 +51,24 @@ fn position_in_list<K: KeyText, V, L: Ledger>(
         left -= 1;
     }
     None
+}
+
+/// Whether a pair has a key with the text, where nobody reads the steps.
+fn has_key_blank<K: KeyText, V, L: Ledger>(pairs: &[(K, V)], text: &[u8], blank: Blank) -> bool
+    requires name { blank.name ≡ L.name }
+    requires parts { blank.parts ≡ L.parts }
+    requires some { 0 < L.parts }
+    ensures { result ≡ is_some (lookup text.now (entries_of K.text_of pairs.now)) }
+{
+    let mut steps = Steps::<L>::new(blank);
+    position_in_list(pairs, text, &mut steps).is_some()
+}
+
+/// Whether a pair has a key with the text.
+pub fn has_key<K: KeyText, V>(pairs: &[(K, V)], text: &str) -> bool
+    ensures { result ≡ is_some (lookup text.now (entries_of K.text_of pairs.now)) }
+{
+    has_key_blank::<K, V, Brand>(pairs, text.as_bytes(), Blank::new(1))
 }
 
 /// The pair at a position of two parts.

@@ -1,0 +1,12 @@
+mod Alike
+mod Characters
+mod Chosen
+mod Lengths
+mod Ordered
+mod Picked
+mod Strict
+mod Rests
+mod Sorted
+mod Texts
+mod rows
+mod Pairs

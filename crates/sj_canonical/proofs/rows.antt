@@ -1,0 +1,2 @@
+-- What the definitions give on small examples, by computation.
+pub mod Orders

@@ -1,0 +1,23 @@
+use Rattle.std.proofs.Common.{option_map, sym, ap, ◌∙◌}
+use Rattle.sj_text_core.specs.Tree.{obj}
+use Rattle.sj_object.specs.Members.{entry_members}
+use Rattle.sj_object.proofs.Shown.{lookup-entry_members, entry_members-cut}
+use Rattle.sj_document.specs.Document.{tree}
+use Rattle.sj_patch.proofs.Leaves.{no_member, cut_absent}
+use Rattle.sj_patch.proofs.Taken.{took_member}
+use Rattle.sj_patch.proofs.change.take_member.Goals as goal
+
+pub returns-in-Some : goal.returns-in-Some
+returns-in-Some g c =
+    let t = g.T.KeyText.text_of in
+    let h = c.in-Some.ensures in
+    took_member t c.args.key.now c.in-Some.index c.args.members.now.entries c.shift_remove_full.new.self.entries c.in_ok-room.room c.in-Some.key c.in-Some.taken h.answer h.entries h.back h.within c.args.members.now.distinct c.in_ok-room.ensures
+
+pub returns-in-None : goal.returns-in-None
+returns-in-None g c =
+    let t = g.T.KeyText.text_of in
+    let es = c.args.members.now.entries in
+    let k = c.args.key.now in
+    let ms = entry_members (tree t) es in
+    let missing = sym (lookup-entry_members (tree t) k es) ∙ ap (option_map (tree t)) (sym c.in-None.ensures.answer) in
+    (ap obj (ap (entry_members (tree t)) c.in-None.ensures.entries ∙ entry_members-cut (tree t) k es ∙ cut_absent k ms missing), no_member k ms missing)

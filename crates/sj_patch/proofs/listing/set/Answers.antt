@@ -1,0 +1,16 @@
+use Rattle.std.proofs.Common.{rules, ◌≡◌, ◌∙◌, ap}
+use Rattle.sj_text_core.specs.Edits as members
+use Rattle.sj_object.specs.Edits as entries
+use Rattle.sj_object.specs.Members.{entry_members}
+use Rattle.sj_object.proofs.Shown.{entry_members-put}
+use Rattle.sj_document.specs.Document.{tree}
+use Rattle.sj_patch.proofs.listing.set.Goals as goal
+
+pub returns-in-Ok : goal.returns-in-Ok
+returns-in-Ok g c =
+    let t = g.T.KeyText.text_of in
+    let old = c.args.members.now.entries in
+    let key = c.in_ok-named.field-0 in
+    let inserted : c.insert.new.self.entries ≡ entries.put (key, t key) c.args.value old = search rules in
+    let name : t key ≡ c.args.name.now = search rules in
+    ap (entry_members (tree t)) inserted ∙ entry_members-put (tree t) (key, t key) c.args.value old ∙ ap (λ k. members.put k (tree t c.args.value) (entry_members (tree t) old)) name

@@ -1,0 +1,13 @@
+use Rattle.std.proofs.Common.{◌≡◌, rules, Box, Vec, Global, ap, ◌∙◌}
+use Rattle.sj_text_core.specs.Tree.{null}
+use Rattle.sj_document.specs.declared.value.Document.{Document, Array, the_lemmas}
+use Rattle.sj_patch.specs.Changed.{Reverts}
+use Rattle.sj_patch.specs.declared.reversal.Reversal.TheVariants as reversal
+use Rattle.sj_patch.proofs.Holders.{in_array}
+use Rattle.sj_patch.proofs.reversal.out_at.Goals as goal
+
+pub returns-in-Array : goal.returns-in-Array
+returns-in-Array g c =
+    let t = g.T.KeyText.text_of in
+    let b : Box (Vec (Document g.row.T.Denot) Global) Global = record c.in-Array.items { value = c.out_item.new.items } in
+    in_array t (λ u w. Reverts t (reversal.OutItem c.args.at) null c.args.token.now u w c.out_item.result) _ _ c.in-Array.items c.deref_mut.result.now c.out_item.new.items c.in-Array.is (c.deref_mut.ensures.value ∙ ap (λ b. b.value) c.in-Array.items-is) (let e : _ ≡ Array b = search (rules, the_lemmas) in e) c.out_item.ensures
