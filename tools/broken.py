@@ -3,13 +3,15 @@
 
 Usage: tools/broken.py PROGRAM [--seconds N] [--cases N] [--seed N] [WORDS ..], each of WORDS the words of one form and way, as
 'owned known' or 'lazy last'; none: all that the program knows. It stops after N seconds or N cases, whichever comes first; a
-case is a document that is refused, or a command line, in one form and way; of a session that fails all cases count as failed. A
+case is a document that is refused, or a command line, in one form and way; of a session that fails all cases count as failed. One
+case more of each input is what Python's own json has of its document, beside tools/reading.py and the prints of tools/model.py. A
 program that cannot be run, and a run of this tool's own that ends early, are failures. The same seed gives the same cases. The last
 line is 'N passed, M failed'.
 """
 
 import argparse
 import itertools
+import json
 import multiprocessing
 import queue
 import random
@@ -37,6 +39,7 @@ BITS = [b'"', b'\\', b'\\u', b'\\ud83d', b'\\ude00', b'\\u12g4', b'\\x', b'[', b
 IN_STRINGS = [b'\\ud83d', b'\\ude00', b'\\ud83d\\ude00', b'\\ud83dx', b'\\ud83d\\n', b'\\ud83d\\u0041', b'\\ud83d\\u12g4', b'\\u', b'\\u00e',
               b'\\q', b'\\', b'\t', b'\x00', b'\xff', b'\xed\xa0\xbd']
 IN_POINTERS = ['~', '~0', '~1', '~2', '~01', '~~', '/', '//', '0', '1', '-', '+', ' ', '\u0663', '\\']
+REFUSED = ('refused',)
 IN_NUMBERS = [b'.', b'.0', b'e1', b'E', b'-', b'+', b'0' * 40, b'9' * 20, b'x', b' 1', b'\xd9\xa3']
 
 
@@ -183,6 +186,56 @@ class Writer:
         return b'\n'.join([document, self.random.choice((b'---', b'---\r')), *lines])
 
 
+def no_number(text):
+    raise ValueError(text)
+
+
+def loads(text):
+    """What Python's json reads: a tree as tools/model.py has it, but for its carriers; REFUSED where it refuses the text."""
+    try:
+        return json.loads(text, object_pairs_hook=lambda pairs: ('obj', pairs), parse_constant=no_number)
+    except ValueError:
+        return REFUSED
+
+
+def pythons(tree):
+    """The tree as `loads` has it."""
+    if model.is_list(tree):
+        return [pythons(item) for item in tree[1]]
+    if model.is_obj(tree):
+        return 'obj', [(key, pythons(value)) for key, value in tree[1]]
+    return tree[1] if model.is_int(tree) else tree
+
+
+def dicts(tree):
+    """The same with a dict for each object."""
+    if isinstance(tree, tuple):
+        return {key: dicts(value) for key, value in tree[1]}
+    return [dicts(item) for item in tree] if isinstance(tree, list) else tree
+
+
+def judged(given):
+    """What tools/reading.py and tools/model.py have of an input's document otherwise than Python's json; None where nothing."""
+    document = model.cut(given)[0]
+    try:
+        theirs = loads(document.decode())
+    except UnicodeDecodeError:
+        theirs = REFUSED
+    try:
+        tree = reading.read(document)
+    except reading.Unread as refused:
+        # json takes fractions, any number and any escape of four digits
+        return f'{refused}, and not {theirs!r}' if str(refused) in ('Syntax', 'InvalidUtf8') and theirs is not REFUSED else None
+    if repr(theirs) != repr(pythons(tree)):
+        return f'{tree!r}, and not {theirs!r}'
+    kept = model.keep(tree)
+    for print_of, format in ((model.compact, {'separators': (',', ':')}), (model.pretty, {'indent': 2})):
+        want = json.dumps(dicts(pythons(kept)), ensure_ascii=False, **format)
+        if print_of(kept) != want or repr(loads(print_of(tree))) != repr(theirs):
+            return f'{print_of(kept)!r}, and not {want!r}'
+    return None
+
+
 def wanted(given, words):
     """What the program has to end with on an input: status, output, what it says, and the number of cases."""
     choice = model.LAST if 'last' in words else model.FIRST
@@ -203,7 +256,8 @@ def tried(program, ways, seed):
     """Runs one input in each way; how many cases passed and failed, and of each failure the words and what came."""
     sys.setrecursionlimit(20000)
     given = Writer(seed).input()
-    passed, failed, failures = 0, 0, []
+    otherwise = judged(given)
+    passed, failed, failures = (0, 1, [(seed, 'and json', given, 'one reading', otherwise)]) if otherwise else (1, 0, [])
     for words in ways:
         want, counted = wanted(given, words.split())
         try:
