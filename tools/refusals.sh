@@ -34,18 +34,18 @@ pick() {
   esac
 }
 
-# reads CALL TEXT SEEN [WORD]: a reading, of which the run tells what it has seen
+# reads FORM CALL TEXT SEEN: a reading, of which the run tells what it has seen
 reads() {
-  each "${4:-read} $1 $2" $'call: OutOfMemory\nagain read, '"$3"$'\n' \
-    "call: read, $3"$'\nagain read, '"$3"$'\n'
+  each "read $1 $2 $3" $'call: OutOfMemory\nagain read, '"$4"$'\n' \
+    "call: read, $4"$'\nagain read, '"$4"$'\n'
 }
 
-# reads_value FORM CALL REPEAT: the same of each text, by a call of the form; REPEAT is what the text
-# with a repeat prints
+# reads_value FORM CALL REPEAT: the same of each text; REPEAT is what the text with a repeat prints
 reads_value() {
-  reads "$1 $2" example '{"some":["key","value",2]}' read_value
-  reads "$1 $2" repeat "$3" read_value
-  reads "$1 $2" escapes '{"q\"k":"a/bA"}' read_value
+  reads $1 $2 example '{"some":["key","value",2]}'
+  reads $1 $2 repeat "$3"
+  [ $2 = deserialize ] && printf -v $1 %s "$requests"
+  reads $1 $2 escapes '{"q\"k":"a/bA"}'
 }
 
 print_of_repeat='{"k00":0'
@@ -54,26 +54,19 @@ for ((i = 1; i < 32; i++)); do
   print_of_repeat+=$member
 done
 print_of_repeat+='}'
+print_of_last=${print_of_repeat/'"k00":0'/'"k00":99'}
 
 for call in to_tape to_tape_with_buffers; do
-  reads $call example '6 nodes'
-  reads $call repeat '67 nodes'
-  reads $call escapes '3 nodes'
+  reads tape $call example '6 nodes'
+  reads tape $call repeat '67 nodes'
+  reads tape $call escapes '3 nodes'
 done
-for call in owned owned_with_buffers borrowed borrowed_with_buffers; do
-  reads $call example '{"some":["key","value",2]}'
-  reads $call repeat "$print_of_repeat"
-  [ $call = owned ] && owned=$requests
-  [ $call = borrowed ] && borrowed=$requests
-  reads $call escapes '{"q\"k":"a/bA"}'
-done
-
-print_of_last=${print_of_repeat/'"k00":0'/'"k00":99'}
 for form in owned borrowed; do
-  for call in to_value to_value_with_buffers to_named_value to_named_value_with_buffers; do
+  for call in deserialize to_value to_${form}_value; do
     reads_value $form $call "$print_of_repeat"
+    reads_value $form ${call}_with_buffers "$print_of_repeat"
   done
-  for call in to_value_repeats deserialize_repeats; do
+  for call in deserialize_repeats to_value_repeats; do
     reads_value $form $call "$print_of_last"
   done
   for call in from_slice from_str; do

@@ -1,7 +1,7 @@
 //! Documents of what stands in the source.
 
-use crate::makes::{say_again, say_document};
-use refusals_common::{Fault, say_call};
+use crate::makes::say_document;
+use refusals_common::{Fault, say_again, say_call};
 use sj_document::{BorrowedValue, OwnedValue};
 use std::alloc::{AllocError, Global};
 

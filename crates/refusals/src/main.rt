@@ -2,7 +2,7 @@
 //! stands, and where the call was refused makes it again. It is run with each request for memory of
 //! that call refused in turn, which `tools/refusals.sh` does; its words name the call:
 //!
-//!     refusals read CALL TEXT | read_value FORM CALL TEXT | buffers | stream CALL | fault CALL | laws
+//!     refusals read FORM CALL TEXT | buffers | stream CALL | fault CALL | laws
 //!     refusals insert CALL MEMBERS | present CALL MEMBERS | queue MEMBERS | thin MEMBERS
 //!     refusals member CALL MEMBERS | member_present CALL MEMBERS | capacity | room | room_in FORM
 //!     refusals map reads | reads WHAT | write CALL GENERATOR | tape CALL | changes
@@ -32,7 +32,6 @@ mod readings;
 mod rooms;
 mod streams;
 mod tapes;
-mod values;
 
 use refusals_common::{Fault, word};
 use std::env;
@@ -43,8 +42,7 @@ use std::rt::Env;
 fn run_texts(rt: &(impl Print + AllocGlobal), words: &[String]) -> Result<(), Fault> {
     let (second, third) = (word(words, 1), word(words, 2));
     match word(words, 0) {
-        "read" => readings::read(rt, second, third),
-        "read_value" => values::read(rt, second, third, word(words, 3)),
+        "read" => readings::read(rt, second, third, word(words, 3)),
         "buffers" => readings::buffers(rt),
         "stream" => streams::run_call(rt, second),
         "fault" => faults::run_call(rt, second),

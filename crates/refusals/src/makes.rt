@@ -1,12 +1,11 @@
 //! Calls that make a document of something else.
 
-use refusals_common::{Fault, read, say, say_call, text_of};
-use sj_document::{BorrowedValue, Document, Object, OwnedValue};
-use sj_object::{HashMap, KeyText, ObjectHasher, deserialize};
+use refusals_common::{Fault, Given, prepare, read, say, say_again, say_call, text_of};
+use sj_document::{BorrowedValue, Document, OwnedValue};
+use sj_object::{KeyText, deserialize};
 use sj_text_core::{TryMake, Writable};
 use std::alloc::{AllocError, Global};
 use std::borrow::CowStr;
-use std::collections;
 
 /// What a document is made of.
 #[derive(Clone, Copy, Debug)]
@@ -22,63 +21,28 @@ enum Source {
 }
 
 impl Source {
-    fn of(word: &str) -> Option<Source> {
+    fn of(word: &str) -> Result<Source, Fault> {
         match word {
-            "text" => Some(Source::Text),
-            "string" => Some(Source::String),
-            "cow" => Some(Source::Cow),
-            "items" => Some(Source::Items),
-            "object" => Some(Source::Object),
-            "map" => Some(Source::Map),
-            "from_items" => Some(Source::FromItems),
-            "from_pairs" => Some(Source::FromPairs),
-            _ => None,
+            "text" => Ok(Source::Text),
+            "string" => Ok(Source::String),
+            "cow" => Ok(Source::Cow),
+            "items" => Ok(Source::Items),
+            "object" => Ok(Source::Object),
+            "map" => Ok(Source::Map),
+            "from_items" => Ok(Source::FromItems),
+            "from_pairs" => Ok(Source::FromPairs),
+            _ => Err(Fault::Usage),
         }
     }
 }
 
-/// What is given to the calls; each of them takes its part.
-#[derive(Drop)]
-struct Given {
-    string: String,
-    items: Vec<bool>,
-    values: Vec<OwnedValue>,
-    pairs: Vec<(String, OwnedValue)>,
-    object: Object<String>,
-    map: collections::HashMap<String, OwnedValue>,
-}
-
-impl Given {
-    fn new(alloc: Global) -> Result<Given, Fault> {
-        let mut given = Given {
-            string: String::from_str(alloc, "a text")?,
-            items: Vec::new(alloc),
-            values: Vec::new(alloc),
-            pairs: Vec::new(alloc),
-            object: HashMap::with_capacity_and_hasher(alloc, 2, ObjectHasher::default())?,
-            map: collections::HashMap::new(alloc),
-        };
-        for key in ["b", "a"] {
-            let name = String::from_str(alloc, key)?;
-            given.items.push(key == "a")?;
-            given.values.push(OwnedValue::from(key == "a"))?;
-            given.pairs.push((name.clone()?, OwnedValue::null()))?;
-            given.map.insert(name.clone()?, OwnedValue::null())?;
-            if given.object.insert(name, OwnedValue::null()).is_err() {
-                return Err(Fault::OutOfMemory);
-            }
-        }
-        Ok(given)
-    }
-}
-
-fn made(alloc: Global, source: Source, given: Given) -> Result<OwnedValue, AllocError> {
+fn made(alloc: Global, source: Source, given: Given<String>) -> Result<OwnedValue, AllocError> {
     match source {
         Source::Text => OwnedValue::try_make(alloc, "a text"),
         Source::String => OwnedValue::try_make(alloc, &given.string),
         Source::Cow => OwnedValue::try_make(alloc, CowStr::Borrowed("a text")),
         Source::Items => OwnedValue::try_make(alloc, given.items),
-        Source::Object => OwnedValue::try_make(alloc, given.object),
+        Source::Object => OwnedValue::try_make(alloc, given.members),
         Source::Map => OwnedValue::try_make(alloc, given.map),
         Source::FromItems => OwnedValue::try_from_items(alloc, given.values.into_iter()),
         Source::FromPairs => OwnedValue::try_from_pairs(alloc, given.pairs.into_iter()),
@@ -88,10 +52,8 @@ fn made(alloc: Global, source: Source, given: Given) -> Result<OwnedValue, Alloc
 /// Makes a document of its source twice, the first time between the first two writes.
 pub fn make(rt: &(impl Print + AllocGlobal), source: &str) -> Result<(), Fault> {
     let alloc = rt.alloc();
-    let Some(source) = Source::of(source) else {
-        return Err(Fault::Usage);
-    };
-    let (first, second) = (Given::new(alloc)?, Given::new(alloc)?);
+    let source = Source::of(source)?;
+    let (first, second) = (prepare::<String>(alloc)?, prepare::<String>(alloc)?);
     say_call(rt)?;
     let is_made = made(alloc, source, first).is_ok();
     say_again(rt, is_made)?;
@@ -134,18 +96,6 @@ pub fn convert(rt: &(impl Print + AllocGlobal), call: &str) -> Result<(), Fault>
         }
         _ => Err(Fault::Usage),
     }
-}
-
-/// Tells whether the call made a document.
-pub fn say_again(rt: &impl Print, is_made: bool) -> Result<(), Fault> {
-    say(
-        rt,
-        if is_made {
-            "made, again "
-        } else {
-            "AllocError, then "
-        },
-    )
 }
 
 pub fn say_document<T: KeyText + Drop>(

@@ -1,6 +1,6 @@
 //! Calls on maps, whose members are `k00` with 0, `k01` with 1 and so on.
 
-ghost use Rattle.std.specs.Prelude.{◌≡◌, ◌<◌, string_bytes};
+ghost use Rattle.std.specs.Prelude.{◌≡◌, ◌<◌, IfOk, string_bytes};
 ghost use Rattle.sj_text_core.specs.Hash.{hash as hash_of_text};
 
 use refusals_common::{Fault, say, say_call, say_kept, say_made};
@@ -71,16 +71,16 @@ enum Call {
 }
 
 impl Call {
-    fn named(name: &str) -> Option<Call> {
-        match name {
-            "insert" => Some(Call::Insert),
-            "insert_hashed" => Some(Call::Hashed),
-            "get_or_insert_with" => Some(Call::OrInsert),
-            "get_or_insert_hashed_with" => Some(Call::OrInsertHashed),
-            "append_hashed" => Some(Call::Append),
-            "append_hashed_with" => Some(Call::AppendWith),
-            "shift_insert" => Some(Call::Shift),
-            _ => None,
+    fn of(word: &str) -> Result<Call, Fault> {
+        match word {
+            "insert" => Ok(Call::Insert),
+            "insert_hashed" => Ok(Call::Hashed),
+            "get_or_insert_with" => Ok(Call::OrInsert),
+            "get_or_insert_hashed_with" => Ok(Call::OrInsertHashed),
+            "append_hashed" => Ok(Call::Append),
+            "append_hashed_with" => Ok(Call::AppendWith),
+            "shift_insert" => Ok(Call::Shift),
+            _ => Err(Fault::Usage),
         }
     }
 }
@@ -189,18 +189,20 @@ fn insert_by(call: Call, map: &mut Numbers, key: String, value: u64) -> Answer {
     }
 }
 
-/// Inserts a new key behind so many members.
-pub fn insert(rt: &(impl Print + AllocGlobal), call: &str, members: &str) -> Result<(), Fault> {
-    match (Call::named(call), members.parse::<u8>()) {
-        (Some(call), Ok(members)) => insert_new(rt, call, u64::from(members)),
-        _ => Err(Fault::Usage),
+/// The number of members that a word names, at most 255.
+pub fn count_of(word: &str) -> Result<u64, Fault>
+    ensures { IfOk result (λ count. count < 256) }
+{
+    match word.parse::<u8>() {
+        Ok(count) => Ok(u64::from(count)),
+        Err(_) => Err(Fault::Usage),
     }
 }
 
-fn insert_new(rt: &(impl Print + AllocGlobal), call: Call, members: u64) -> Result<(), Fault>
-    requires { members < 256 }
-{
+/// Inserts a new key behind so many members.
+pub fn insert(rt: &(impl Print + AllocGlobal), call: &str, members: &str) -> Result<(), Fault> {
     let alloc = rt.alloc();
+    let (call, members) = (Call::of(call)?, count_of(members)?);
     let mut map = numbered(alloc, members)?;
     let before = keys_of(alloc, members)?;
     let after = keys_of(alloc, members + 1)?;
@@ -239,11 +241,9 @@ pub fn insert_present(
     members: &str,
 ) -> Result<(), Fault> {
     let alloc = rt.alloc();
-    let (Some(call), Ok(members)) = (Call::named(call), members.parse::<u8>()) else {
-        return Err(Fault::Usage);
-    };
-    let mut map = numbered(alloc, u64::from(members))?;
-    let keys = keys_of(alloc, u64::from(members))?;
+    let (call, members) = (Call::of(call)?, count_of(members)?);
+    let mut map = numbered(alloc, members)?;
+    let keys = keys_of(alloc, members)?;
     let key = key_of(alloc, 5)?;
     say_call(rt)?;
     match insert_by(call, &mut map, key, 99) {

@@ -2,9 +2,7 @@
 //! and what such a key puts in the place of a value.
 //! The members are `k00` with 0, `k01` with 1 and so on.
 
-ghost use Rattle.std.specs.Prelude.{◌<◌};
-
-use crate::maps::{buckets_at, key_of};
+use crate::maps::{buckets_at, count_of, key_of};
 use refusals_common::{Fault, say, say_call, say_kept};
 use sj_borrowed::known_key::Error;
 use sj_borrowed::{AccessError, KnownKey, Object, Refused, SameAs, StaticNode, Value};
@@ -25,16 +23,16 @@ enum Call {
 }
 
 impl Call {
-    fn named(name: &str) -> Option<Call> {
-        match name {
-            "insert" => Some(Call::Insert),
-            "known_insert" => Some(Call::Known),
-            "lookup_or_insert" => Some(Call::LookupOrInsert),
-            "map_insert" => Some(Call::MapInsert),
-            "map_lookup_or_insert" => Some(Call::MapLookupOrInsert),
-            "replace" => Some(Call::Replace),
-            "change" => Some(Call::Change),
-            _ => None,
+    fn of(word: &str) -> Result<Call, Fault> {
+        match word {
+            "insert" => Ok(Call::Insert),
+            "known_insert" => Ok(Call::Known),
+            "lookup_or_insert" => Ok(Call::LookupOrInsert),
+            "map_insert" => Ok(Call::MapInsert),
+            "map_lookup_or_insert" => Ok(Call::MapLookupOrInsert),
+            "replace" => Ok(Call::Replace),
+            "change" => Ok(Call::Change),
+            _ => Err(Fault::Usage),
         }
     }
 }
@@ -232,16 +230,8 @@ pub fn insert_member(
     call: &str,
     members: &str,
 ) -> Result<(), Fault> {
-    match (Call::named(call), members.parse::<u8>()) {
-        (Some(call), Ok(members)) => insert_new(rt, call, u64::from(members)),
-        _ => Err(Fault::Usage),
-    }
-}
-
-fn insert_new(rt: &(impl Print + AllocGlobal), call: Call, members: u64) -> Result<(), Fault>
-    requires { members < 256 }
-{
     let alloc = rt.alloc();
+    let (call, members) = (Call::of(call)?, count_of(members)?);
     let mut document = numbered(alloc, members)?;
     let key = keyed(alloc, members)?;
     let again = keyed(alloc, members)?;
@@ -270,10 +260,8 @@ pub fn insert_present(
     members: &str,
 ) -> Result<(), Fault> {
     let alloc = rt.alloc();
-    let (Some(call), Ok(members)) = (Call::named(call), members.parse::<u8>()) else {
-        return Err(Fault::Usage);
-    };
-    let mut document = numbered(alloc, u64::from(members))?;
+    let (call, members) = (Call::of(call)?, count_of(members)?);
+    let mut document = numbered(alloc, members)?;
     let (key, again) = (keyed(alloc, 5)?, keyed(alloc, 5)?);
     say_call(rt)?;
     match insert_by(call, &mut document, key, 99) {
@@ -285,7 +273,7 @@ pub fn insert_present(
         Answer::There(before) => say_kept(rt, "value", before == if is_set { 99 } else { 5 })?,
         _ => say(rt, "NOT THERE, ")?,
     }
-    tell(rt, &document, u64::from(members))
+    tell(rt, &document, members)
 }
 
 /// Tells how many members the object has, if they are as they should be.

@@ -1,79 +1,132 @@
-//! Readings of texts, to tapes and to documents.
+//! Readings of texts, to tapes and to documents of both forms, by the choice of a member too.
 
 use refusals_common::{Fault, say, say_bytes, say_call, say_made, text_of};
 use sj_document::{BorrowedValue, Document, OwnedValue};
-use sj_object::{KeyText, deserialize, deserialize_with_buffers};
-use sj_tape::{Buffers, Spare, Tape, to_tape, to_tape_with_buffers, to_tape_with_spare};
-use sj_text_core::{ErrorKind, Writable};
+use sj_object::{KeyText, deserialize, deserialize_repeats, deserialize_with_buffers};
+use sj_tape::{Buffers, Tape, to_tape, to_tape_with_buffers};
+use sj_text_core::{ErrorKind, Repeats, Writable};
 use std::borrow::CowStr;
 
-/// What a text is read by.
-#[derive(Clone, Copy, Debug)]
-enum Call {
-    ToTape,
-    ToTapeWithBuffers,
-    ToTapeWithSpare,
-    Owned,
-    OwnedWithBuffers,
-    Borrowed,
-    BorrowedWithBuffers,
-}
-
-impl Call {
-    fn of(word: &str) -> Result<Call, Fault> {
-        match word {
-            "to_tape" => Ok(Call::ToTape),
-            "to_tape_with_buffers" => Ok(Call::ToTapeWithBuffers),
-            "to_tape_with_spare" => Ok(Call::ToTapeWithSpare),
-            "owned" => Ok(Call::Owned),
-            "owned_with_buffers" => Ok(Call::OwnedWithBuffers),
-            "borrowed" => Ok(Call::Borrowed),
-            "borrowed_with_buffers" => Ok(Call::BorrowedWithBuffers),
-            _ => Err(Fault::Usage),
-        }
-    }
-}
-
-/// Reads the text of that name twice, each time from a fresh copy: between the first two writes,
-/// and once more.
-pub fn read(rt: &(impl Print + AllocGlobal), call: &str, text: &str) -> Result<(), Fault> {
-    let call = Call::of(call)?;
+/// Reads the text of that name twice by that call of the form, each time from a fresh copy: between
+/// the first two writes, and once more.
+pub fn read(
+    rt: &(impl Print + AllocGlobal),
+    form: &str,
+    call: &str,
+    text: &str,
+) -> Result<(), Fault> {
     let mut bytes = text_of(rt.alloc(), text)?;
     let mut copy = text_of(rt.alloc(), text)?;
     let mut buffers = Buffers::new(rt.alloc(), 0)?;
     say_call(rt)?;
-    read_once(rt, call, bytes.as_mut_slice(), &mut buffers)?;
+    read_once(rt, form, call, bytes.as_mut_slice(), &mut buffers)?;
     say(rt, "again ")?;
-    read_once(rt, call, copy.as_mut_slice(), &mut buffers)
+    read_once(rt, form, call, copy.as_mut_slice(), &mut buffers)
 }
 
 fn read_once(
     rt: &(impl Print + AllocGlobal),
-    call: Call,
+    form: &str,
+    call: &str,
+    bytes: &mut [u8],
+    buffers: &mut Buffers,
+) -> Result<(), Fault> {
+    match form {
+        "tape" => read_tape(rt, call, bytes, buffers),
+        "owned" => read_owned(rt, call, bytes, buffers),
+        "borrowed" => read_borrowed(rt, call, bytes, buffers),
+        _ => Err(Fault::Usage),
+    }
+}
+
+fn read_tape(
+    rt: &(impl Print + AllocGlobal),
+    call: &str,
     bytes: &mut [u8],
     buffers: &mut Buffers,
 ) -> Result<(), Fault> {
     let alloc = rt.alloc();
     match call {
-        Call::ToTape => tell_tape(rt, to_tape(alloc, bytes)),
-        Call::ToTapeWithBuffers => tell_tape(rt, to_tape_with_buffers(alloc, bytes, buffers)),
-        Call::ToTapeWithSpare => match to_tape_with_spare(bytes, Spare::new(alloc)) {
-            Ok(tape) => tell_tape(rt, Ok(tape)),
-            Err(refused) => tell_kind(rt, refused.why),
-        },
-        Call::Owned => tell_document(rt, deserialize::<OwnedValue, String>(alloc, bytes)),
-        Call::OwnedWithBuffers => tell_document(
-            rt,
-            deserialize_with_buffers::<OwnedValue, String>(alloc, bytes, buffers),
-        ),
-        Call::Borrowed => tell_document(
-            rt,
-            deserialize::<BorrowedValue<'_>, CowStr<'_>>(alloc, bytes),
-        ),
-        Call::BorrowedWithBuffers => tell_document(
-            rt,
-            deserialize_with_buffers::<BorrowedValue<'_>, CowStr<'_>>(alloc, bytes, buffers),
-        ),
+        "to_tape" => tell_tape(rt, to_tape(alloc, bytes)),
+        "to_tape_with_buffers" => tell_tape(rt, to_tape_with_buffers(alloc, bytes, buffers)),
+        _ => Err(Fault::Usage),
+    }
+}
+
+fn read_owned(
+    rt: &(impl Print + AllocGlobal),
+    call: &str,
+    bytes: &mut [u8],
+    buffers: &mut Buffers,
+) -> Result<(), Fault> {
+    let alloc = rt.alloc();
+    let read = match call {
+        "deserialize" => deserialize::<OwnedValue, String>(alloc, bytes),
+        "deserialize_with_buffers" => {
+            deserialize_with_buffers::<OwnedValue, String>(alloc, bytes, buffers)
+        }
+        "deserialize_repeats" => {
+            deserialize_repeats::<OwnedValue, String>(alloc, bytes, Repeats::Last)
+        }
+        "to_value" => sj_owned::to_value(alloc, bytes),
+        "to_value_with_buffers" => sj_owned::to_value_with_buffers(alloc, bytes, buffers),
+        "to_value_repeats" => sj_owned::to_value_repeats(alloc, bytes, Repeats::Last),
+        "to_owned_value" => sj_owned::to_owned_value(alloc, bytes),
+        "to_owned_value_with_buffers" => {
+            sj_owned::to_owned_value_with_buffers(alloc, bytes, buffers)
+        }
+        "from_slice" => sj_owned::from_slice(alloc, bytes),
+        "from_str" => sj_owned::from_str(alloc, text_in(bytes)?),
+        _ => return Err(Fault::Usage),
+    };
+    tell_document(rt, read)
+}
+
+fn read_borrowed(
+    rt: &(impl Print + AllocGlobal),
+    call: &str,
+    bytes: &mut [u8],
+    buffers: &mut Buffers,
+) -> Result<(), Fault> {
+    let alloc = rt.alloc();
+    let read = match call {
+        "deserialize" => deserialize::<BorrowedValue<'_>, CowStr<'_>>(alloc, bytes),
+        "deserialize_with_buffers" => {
+            deserialize_with_buffers::<BorrowedValue<'_>, CowStr<'_>>(alloc, bytes, buffers)
+        }
+        "deserialize_repeats" => {
+            deserialize_repeats::<BorrowedValue<'_>, CowStr<'_>>(alloc, bytes, Repeats::Last)
+        }
+        "to_value" => sj_borrowed::to_value(alloc, bytes),
+        "to_value_with_buffers" => sj_borrowed::to_value_with_buffers(alloc, bytes, buffers),
+        "to_value_repeats" => sj_borrowed::to_value_repeats(alloc, bytes, Repeats::Last),
+        "to_borrowed_value" => sj_borrowed::to_borrowed_value(alloc, bytes),
+        "to_borrowed_value_with_buffers" => {
+            sj_borrowed::to_borrowed_value_with_buffers(alloc, bytes, buffers)
+        }
+        _ => return read_copied(rt, call, bytes),
+    };
+    tell_document(rt, read)
+}
+
+/// Reads a copy of the bytes to a borrowed document.
+fn read_copied(rt: &(impl Print + AllocGlobal), call: &str, bytes: &[u8]) -> Result<(), Fault> {
+    let alloc = rt.alloc();
+    let mut room = Vec::new(alloc);
+    let lent = &mut room;
+    let read = match call {
+        "from_slice" => sj_borrowed::from_slice(alloc, bytes, lent),
+        "from_str" => sj_borrowed::from_str(alloc, text_in(bytes)?, lent),
+        _ => return Err(Fault::Usage),
+    };
+    tell_document(rt, read)
+}
+
+/// The bytes as a text.
+fn text_in(bytes: &[u8]) -> Result<&str, Fault> {
+    match str::from_utf8(bytes) {
+        Ok(text) => Ok(text),
+        Err(_) => Err(Fault::Usage),
     }
 }
 
@@ -93,7 +146,7 @@ fn tell_tape(
 }
 
 /// Tells the print of the document.
-pub fn tell_document<T: KeyText + Drop>(
+fn tell_document<T: KeyText + Drop>(
     rt: &(impl Print + AllocGlobal),
     read: Result<Document<T>, ErrorKind>,
 ) -> Result<(), Fault> {

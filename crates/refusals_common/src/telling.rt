@@ -37,6 +37,18 @@ pub fn say_made(rt: &impl Print, is_made: bool) -> Result<(), Fault> {
     say(rt, if is_made { "made\n" } else { "AllocError\n" })
 }
 
+/// Tells whether the call made a document.
+pub fn say_again(rt: &impl Print, is_made: bool) -> Result<(), Fault> {
+    say(
+        rt,
+        if is_made {
+            "made, again "
+        } else {
+            "AllocError, then "
+        },
+    )
+}
+
 /// Tells whether an error was the one that should come.
 pub fn say_right(rt: &impl Print, is_right: bool) -> Result<(), Fault> {
     say(

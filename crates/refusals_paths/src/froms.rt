@@ -3,42 +3,38 @@
 use crate::scalars::{is_nothing, is_seven, is_text, is_true};
 use refusals_common::{Fault, say, say_call};
 use sj_borrowed::KnownKey;
-use sj_document::{BorrowedValue, OwnedValue};
+use sj_document::{BorrowedValue, Document, OwnedValue};
 use sj_lazy::Value;
-use sj_object::{KeyHasher, KeyOf, KeyText, ObjectHasher};
+use sj_object::{KeyHasher, KeyMade, KeyOf, KeyText, ObjectHasher};
 use sj_text_core::{SameAs, StaticNode, TypedValue};
 use std::alloc::{AllocError, Global};
 use std::borrow::CowStr;
 
 /// Whether the values that are made of the scalars of each type are these.
 macro_rules! made_of_scalars {
-    ($of:ident) => {
-        is_seven(&$of::from(7_u8))
-            && is_seven(&$of::from(7_u16))
-            && is_seven(&$of::from(7_u32))
-            && is_seven(&$of::from(7_u64))
-            && is_seven(&$of::from(7_usize))
-            && is_seven(&$of::from(StaticNode::U64(7)))
-            && $of::from(7_i8).same_as(&7_u8)
-            && $of::from(7_i16).same_as(&7_u8)
-            && $of::from(7_i32).same_as(&7_u8)
-            && $of::from(7_i64).same_as(&7_u8)
-            && $of::from(7_i128).same_as(&7_u8)
-            && $of::from(7_u128).same_as(&7_u8)
-            && is_true(&$of::from(true))
-            && is_true(&$of::from(Some(true)))
-            && is_nothing(&$of::from(()))
-            && is_nothing(&$of::null())
-            && is_nothing(&$of::default())
+    ($($of:tt)+) => {
+        is_seven(&$($of)+::from(7_u8))
+            && is_seven(&$($of)+::from(7_u16))
+            && is_seven(&$($of)+::from(7_u32))
+            && is_seven(&$($of)+::from(7_u64))
+            && is_seven(&$($of)+::from(7_usize))
+            && is_seven(&$($of)+::from(StaticNode::U64(7)))
+            && $($of)+::from(7_i8).same_as(&7_u8)
+            && $($of)+::from(7_i16).same_as(&7_u8)
+            && $($of)+::from(7_i32).same_as(&7_u8)
+            && $($of)+::from(7_i64).same_as(&7_u8)
+            && $($of)+::from(7_i128).same_as(&7_u8)
+            && $($of)+::from(7_u128).same_as(&7_u8)
+            && is_true(&$($of)+::from(true))
+            && is_true(&$($of)+::from(Some(true)))
+            && is_nothing(&$($of)+::from(()))
+            && is_nothing(&$($of)+::null())
+            && is_nothing(&$($of)+::default())
     };
 }
 
-fn is_owned_made() -> bool {
-    made_of_scalars!(OwnedValue)
-}
-
-fn is_borrowed_made() -> bool {
-    made_of_scalars!(BorrowedValue)
+fn is_document_made<K: KeyMade + Drop>() -> bool {
+    made_of_scalars!(Document::<K>)
 }
 
 type Lazy = Value<'static, 'static, 'static>;
@@ -112,8 +108,8 @@ pub fn make(rt: &(impl Print + AllocGlobal), of: &str) -> Result<(), Fault> {
     };
     say_call(rt)?;
     let is_made = match of {
-        "owned" => is_owned_made(),
-        "borrowed" => is_borrowed_made(),
+        "owned" => is_document_made::<String>(),
+        "borrowed" => is_document_made::<CowStr<'static>>(),
         "lazy" => is_lazy_made(),
         "texts" => is_text_made(alloc, texts),
         _ => return Err(Fault::Usage),

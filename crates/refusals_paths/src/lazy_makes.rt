@@ -1,10 +1,8 @@
 //! Calls that make a lazy document of something else.
 
 use crate::lazy::form_of;
-use refusals_common::{Fault, say, say_call};
-use sj_document::{BorrowedValue, Object};
+use refusals_common::{Fault, Given, prepare, say, say_again, say_call};
 use sj_lazy::{Lazy, Value};
-use sj_object::{HashMap, ObjectHasher};
 use sj_text_core::{TryMake, Writable};
 use std::alloc::{AllocError, Global};
 use std::borrow::CowStr;
@@ -38,42 +36,10 @@ impl Source {
     }
 }
 
-/// What is given to the calls; each of them takes its part.
-#[derive(Drop)]
-struct Given {
-    items: Vec<bool>,
-    values: Vec<BorrowedValue<'static>>,
-    pairs: Vec<(CowStr<'static>, BorrowedValue<'static>)>,
-    members: Object<CowStr<'static>>,
-}
-
-impl Given {
-    fn new(alloc: Global) -> Result<Given, Fault> {
-        let mut given = Given {
-            items: Vec::new(alloc),
-            values: Vec::new(alloc),
-            pairs: Vec::new(alloc),
-            members: HashMap::with_capacity_and_hasher(alloc, 2, ObjectHasher::default())?,
-        };
-        for key in ["b", "a"] {
-            given.items.push(key == "a")?;
-            given.values.push(BorrowedValue::from(key == "a"))?;
-            given
-                .pairs
-                .push((CowStr::Borrowed(key), BorrowedValue::null()))?;
-            let name = CowStr::Borrowed(key);
-            if given.members.insert(name, BorrowedValue::null()).is_err() {
-                return Err(Fault::OutOfMemory);
-            }
-        }
-        Ok(given)
-    }
-}
-
 fn made(
     alloc: Global,
     source: Source,
-    given: Given,
+    given: Given<CowStr<'static>>,
 ) -> Result<Value<'static, 'static, 'static>, AllocError> {
     match source {
         Source::Array => Lazy::array(alloc),
@@ -91,17 +57,10 @@ fn made(
 pub fn make(rt: &(impl Print + AllocGlobal), source: &str) -> Result<(), Fault> {
     let alloc = rt.alloc();
     let source = Source::of(source)?;
-    let (first, second) = (Given::new(alloc)?, Given::new(alloc)?);
+    let (first, second) = (prepare(alloc)?, prepare(alloc)?);
     say_call(rt)?;
     let is_made = made(alloc, source, first).is_ok();
-    say(
-        rt,
-        if is_made {
-            "made, again "
-        } else {
-            "AllocError, then "
-        },
-    )?;
+    say_again(rt, is_made)?;
     let again = made(alloc, source, second)?;
     say(rt, form_of(&again))?;
     say(rt, " ")?;

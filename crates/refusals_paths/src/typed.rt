@@ -7,21 +7,33 @@ macro_rules! reads_member {
     };
 }
 
-/// Whether every typed read finds its member of the document of each kind.
-macro_rules! reads_members {
+/// Whether the typed reads of signed numbers find theirs.
+macro_rules! reads_signed {
     ($value:expr) => {
         reads_member!($value, get_i8, try_get_i8)
             && reads_member!($value, get_i16, try_get_i16)
             && reads_member!($value, get_i32, try_get_i32)
             && reads_member!($value, get_i64, try_get_i64)
             && reads_member!($value, get_i128, try_get_i128)
-            && reads_member!($value, get_u8, try_get_u8)
+    };
+}
+
+/// Whether those of unsigned numbers find theirs.
+macro_rules! reads_unsigned {
+    ($value:expr) => {
+        reads_member!($value, get_u8, try_get_u8)
             && reads_member!($value, get_u16, try_get_u16)
             && reads_member!($value, get_u32, try_get_u32)
             && reads_member!($value, get_u64, try_get_u64)
             && reads_member!($value, get_u128, try_get_u128)
             && reads_member!($value, get_usize, try_get_usize)
-            && $value.get_bool("bool") == Some(true)
+    };
+}
+
+/// Whether the other typed reads find a truth, a text, an array and an object.
+macro_rules! reads_others {
+    ($value:expr) => {
+        $value.get_bool("bool") == Some(true)
             && matches!($value.try_get_bool("bool"), Ok(Some(true)))
             && $value.get_str("str") == Some("s")
             && $value.try_get_str("str").is_ok_and(|text| text == Some("s"))
@@ -59,28 +71,82 @@ use sj_tape::Value as TapeValue;
 
 /// Whether a document has a member of each kind, by every read.
 pub fn is_document_of_kinds<T: KeyText>(value: &Document<T>, text: &String) -> bool {
-    reads_members!(value)
-        && reads_parts!(value)
+    has_signed(value)
+        && has_unsigned(value)
+        && has_others(value)
+        && has_parts(value)
         && value.get("null").is_some_and(|found| is_nothing(found))
         && value.get("bool").is_some_and(|found| is_true(found))
         && value.get("int").is_some_and(|found| is_seven(found))
         && value.get("str").is_some_and(|found| is_text(found, text))
 }
 
+fn has_signed<T: KeyText>(value: &Document<T>) -> bool {
+    reads_signed!(value)
+}
+
+fn has_unsigned<T: KeyText>(value: &Document<T>) -> bool {
+    reads_unsigned!(value)
+}
+
+fn has_others<T: KeyText>(value: &Document<T>) -> bool {
+    reads_others!(value)
+}
+
+fn has_parts<T: KeyText>(value: &Document<T>) -> bool {
+    reads_parts!(value)
+}
+
 /// Whether a part of a tape has a member of each kind, by every read.
 pub fn is_tape_of_kinds(value: TapeValue<'_, '_>, text: &String) -> bool {
-    reads_members!(value)
-        && reads_parts!(value)
+    tape_has_signed(value)
+        && tape_has_unsigned(value)
+        && tape_has_others(value)
+        && tape_has_parts(value)
         && value.get("null").is_some_and(|found| is_nothing(&found))
         && value.get("bool").is_some_and(|found| is_true(&found))
         && value.get("int").is_some_and(|found| is_seven(&found))
         && value.get("str").is_some_and(|found| is_text(&found, text))
 }
 
+fn tape_has_signed(value: TapeValue<'_, '_>) -> bool {
+    reads_signed!(value)
+}
+
+fn tape_has_unsigned(value: TapeValue<'_, '_>) -> bool {
+    reads_unsigned!(value)
+}
+
+fn tape_has_others(value: TapeValue<'_, '_>) -> bool {
+    reads_others!(value)
+}
+
+fn tape_has_parts(value: TapeValue<'_, '_>) -> bool {
+    reads_parts!(value)
+}
+
 /// Whether a lazy value has a member of each kind, by every read.
 pub fn is_lazy_of_kinds(value: &LazyValue<'_, '_, '_>, text: &String) -> bool {
-    reads_members!(value)
-        && reads_parts!(value)
+    lazy_has_signed(value)
+        && lazy_has_unsigned(value)
+        && lazy_has_others(value)
+        && lazy_has_parts(value)
         && is_lazy_seven(value.get("int"))
         && are_lazy_scalars(value.get("bool"), value.get("str"), text)
+}
+
+fn lazy_has_signed(value: &LazyValue<'_, '_, '_>) -> bool {
+    reads_signed!(value)
+}
+
+fn lazy_has_unsigned(value: &LazyValue<'_, '_, '_>) -> bool {
+    reads_unsigned!(value)
+}
+
+fn lazy_has_others(value: &LazyValue<'_, '_, '_>) -> bool {
+    reads_others!(value)
+}
+
+fn lazy_has_parts(value: &LazyValue<'_, '_, '_>) -> bool {
+    reads_parts!(value)
 }
