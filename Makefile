@@ -15,6 +15,7 @@ programs:
 	cd crates/sjval && rt run -- owned < stdin > /dev/null
 	cd crates/refusals && rt run -- insert insert 32 > /dev/null
 	cd crates/refusals_paths && rt run -- print owned canonical > /dev/null
+	cd crates/refusals_commands && rt run -- run_fault > /dev/null
 	cd crates/sjroute && rt run -- --help > /dev/null
 	cd crates/sjpatch && rt run -- --help > /dev/null
 	cd crates/patch_lines && rt run -- owned < stdin > /dev/null
@@ -58,7 +59,7 @@ check-depth:
 
 # Refuses each request for memory of each call in turn. Needs gcc and python3, and the programs built.
 check-refusals:
-	tools/refusals.sh crates/refusals/out/refusals crates/refusals_paths/out/refusals_paths
+	tools/refusals.sh crates/refusals/out/refusals crates/refusals_paths/out/refusals_paths crates/refusals_commands/out/refusals_commands
 
 # Gives the built programs broken documents, lines, nodes and rules. Needs python3, and the programs built.
 check-broken:

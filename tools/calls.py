@@ -20,7 +20,7 @@ TOOLS = Path(__file__).resolve().parent
 CRATES = TOOLS.parent / "crates"
 FAULTS = "AllocError|AllocFailed|Unread|WriteError|ErrorKind|AccessError|Why|RunFault|SessionFault|PointerError|PatchFault|PatchReadFault|Error"
 # what makes the calls
-PROGRAMS = ("refusals", "refusals_paths")
+PROGRAMS = ("refusals", "refusals_paths", "refusals_commands")
 # calls that are written by operators
 OPERATORS = {"eq", "index", "index_mut", "fmt", "drop"}
 FUNCTION = re.compile(

@@ -1,16 +1,17 @@
 #!/usr/bin/env bash
 # Refuses each request for memory of each call in turn, and looks at what the call answers and at
 # what stands: the Nth request is refused, N counting up until a run meets none.
-# Usage: tools/refusals.sh PROGRAM PROGRAM_OF_PATHS, which are the programs of crates/refusals and of
-# crates/refusals_paths. Needs gcc and python3. A line for each call has its number of requests; the
-# last line is 'N passed, M failed'. What was run is compared with the public functions of the
-# sources, by tools/calls.py.
+# Usage: tools/refusals.sh PROGRAM PROGRAM_OF_PATHS PROGRAM_OF_COMMANDS, which are the programs of
+# crates/refusals, crates/refusals_paths and crates/refusals_commands. Needs gcc and python3. A line for
+# each call has its number of requests; the last line is 'N passed, M failed'. What was run is compared
+# with the public functions of the sources, by tools/calls.py.
 set -u
 program_of_documents=$(realpath "${1:-}")
 program_of_paths=$(realpath "${2:-}")
-for need in "$program_of_documents" "$program_of_paths" "$(command -v gcc)" "$(command -v python3)"; do
+program_of_commands=$(realpath "${3:-}")
+for need in "$program_of_documents" "$program_of_paths" "$program_of_commands" "$(command -v gcc)" "$(command -v python3)"; do
   if [ ! -f "$need" ] || [ ! -x "$need" ]; then
-    echo "failed: there is no program ${1:-} or ${2:-}, or no gcc, or no python3"
+    echo "failed: there is no program ${1:-}, ${2:-} or ${3:-}, or no gcc, or no python3"
     echo '0 passed, 1 failed'
     exit 1
   fi
@@ -26,8 +27,8 @@ cd "$work" || exit 1
 # pick WORDS: the program that makes the call, by its first word
 pick() {
   case ${1%% *} in
-    apply | command | copy | copy_key | display | from | kinds | lazy | make_lazy | no_pointer | parts | patch | \
-      pointer | pointer_* | print | run | run_fault | session | session_* | within)
+    apply | command | patch | run | run_fault | session | session_*) program=$program_of_commands ;;
+    copy | copy_key | display | from | kinds | lazy | make_lazy | no_pointer | parts | pointer | pointer_* | print | within)
       program=$program_of_paths
       ;;
     *) program=$program_of_documents ;;

@@ -9,8 +9,8 @@
 //!     refusals document FORM CALL [MEMBERS] | merge FORM CALL [MEMBERS] | make SOURCE
 //!     refusals literal FORM | convert CALL
 //!
-//! `refusals nodes LIST ..` makes a tape of each list of nodes. The calls on lazy documents, on what
-//! pointers find, of patches, commands and runs are those of `refusals_paths`.
+//! `refusals nodes LIST ..` makes a tape of each list of nodes. The calls on lazy documents and on
+//! what pointers find are those of `refusals_paths`, commands and patches those of `refusals_commands`.
 //!
 //! The statuses: 0 told; 2 usage; 4 out of memory where the call was not yet made, or again; 5
 //! output failed.

@@ -1,5 +1,5 @@
-//! What the programs `refusals` and `refusals_paths` have in common: what ends them, what they tell,
-//! the texts that they read and what they make documents of.
+//! What the programs `refusals`, `refusals_paths` and `refusals_commands` have in common: what ends
+//! them, what they tell, the texts that they read and what they make documents of.
 #![tactic(auto)]
 
 mod fault;

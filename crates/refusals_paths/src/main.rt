@@ -6,17 +6,15 @@
 //!     refusals_paths from SOURCE | kinds FORM | parts FORM | within FORM | display FORM
 //!     refusals_paths print FORM CALL | pointer | no_pointer | pointer_parts CALL
 //!     refusals_paths pointer_in FORM | pointer_lazy FORM CALL | pointer_edit CALL
-//!     refusals_paths pointer_edit_lazy FORM CALL | patch FORM CALL | command LINE | run FORM WAY
-//!     refusals_paths apply FORM WAY | run_fault | session FORM INPUT
-//!     refusals_paths session_known FORM INPUT | session_last FORM INPUT
+//!     refusals_paths pointer_edit_lazy FORM CALL
 //!
-//! The calls that take no lazy document, pointer, patch or command are those of `refusals`.
+//! The calls that take no lazy document and no pointer are those of `refusals`, commands and patches
+//! those of `refusals_commands`.
 //!
 //! The statuses: 0 told; 2 usage; 4 out of memory where the call was not yet made, or again; 5
 //! output failed.
 #![tactic(auto)]
 
-mod applies;
 mod canonicals;
 mod copies;
 mod depths;
@@ -26,40 +24,19 @@ mod kinds;
 mod lazy;
 mod lazy_makes;
 mod lazy_pointer_edits;
-mod lines;
 mod parts;
-mod patches;
 mod pointer_edits;
 mod pointer_parts;
 mod pointers;
-mod run_faults;
-mod runs;
 mod scalars;
-mod sessions;
 mod typed;
 
-use crate::sessions::Session;
 use refusals_common::{Fault, word};
 use std::env;
 use std::process::ExitCode;
 use std::rt::Env;
 
-/// Calls that answer commands.
-fn run_commands(rt: &(impl Print + AllocGlobal), words: &[String]) -> Result<(), Fault> {
-    let (second, third) = (word(words, 1), word(words, 2));
-    match word(words, 0) {
-        "run" => runs::run_form(rt, second, third),
-        "run_fault" => run_faults::meet(rt),
-        "apply" => applies::insert(rt, second, third),
-        "command" => lines::read(rt, second),
-        "session" => sessions::answer(rt, Session::First, second, third),
-        "session_known" => sessions::answer(rt, Session::Known, second, third),
-        "session_last" => sessions::answer(rt, Session::Last, second, third),
-        _ => run_pointers(rt, words),
-    }
-}
-
-/// Calls on pointers, what they find, and patches.
+/// Calls on pointers and what they find.
 fn run_pointers(rt: &(impl Print + AllocGlobal), words: &[String]) -> Result<(), Fault> {
     let (second, third) = (word(words, 1), word(words, 2));
     match word(words, 0) {
@@ -70,7 +47,6 @@ fn run_pointers(rt: &(impl Print + AllocGlobal), words: &[String]) -> Result<(),
         "pointer_edit" => pointer_edits::run_call(rt, second),
         "pointer_edit_lazy" => lazy_pointer_edits::run_call(rt, second, third),
         "pointer_lazy" => pointers::in_lazy(rt, second, third),
-        "patch" => patches::run_call(rt, second, third),
         _ => run_documents(rt, words),
     }
 }
@@ -95,7 +71,7 @@ fn run_documents(rt: &(impl Print + AllocGlobal), words: &[String]) -> Result<()
 
 fn run(rt: &(impl Env + Print + AllocGlobal)) -> Result<(), Fault> {
     let words: Vec<String> = env::args(rt)?.skip(1).collect(rt.alloc())?;
-    run_commands(rt, &words)
+    run_pointers(rt, &words)
 }
 
 fn main(rt: HostRuntime) -> ExitCode {
