@@ -1,4 +1,4 @@
-use Rattle.sj_tests.proofs.map.counts_steps.Given as goal
+use Rattle.sj_tests_map.proofs.map.counts_steps.Given as goal
 
 abbrev pub ghosts-counted : goal.ghosts-counted
 ghosts-counted g a = record { name = a.blank.name; parts = a.blank.parts }

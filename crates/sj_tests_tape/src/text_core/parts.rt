@@ -13,7 +13,7 @@ enum Part<'t> {
 
 impl Meaning for Part<'_> {
     ghost use Rattle.sj_text_core.specs.Tree.{text, list, obj, no_items, no_members};
-    ghost use Rattle.sj_tests.specs.declared.text_core.parts.Part.TheVariants.{Text, Array, Object};
+    ghost use Rattle.sj_tests_tape.specs.declared.text_core.parts.Part.TheVariants.{Text, Array, Object};
 
     ghost tree = { elim [ Text s ↦ text s.now | Array ↦ list no_items | Object ↦ obj no_members ] };
 }
