@@ -28,17 +28,30 @@ fn reads(rt: &(impl Print + AllocGlobal)) -> anyhow::Result<()> {
         Err(fault) => println!(rt; "{fault}")?,
     }
     println!(rt; "{}", defaults::host_of(&settings))?;
+    Ok(())
+}
+
+/// What reaches nested members.
+fn reaches(rt: &(impl Print + AllocGlobal)) -> anyhow::Result<()> {
+    let alloc = rt.alloc();
+    let settings = read_and_keep::read_settings(alloc, SETTINGS)?;
     println!(rt; "{:?}", reach_a_nested_member::server_port(&settings))?;
     let port = reach_a_nested_member::port_at(alloc, &settings, "/server/port")?;
     println!(rt; "{port:?}")?;
     let servers = r#"{"servers":{"a/b":{"port":8081}}}"#;
     let servers = read_and_keep::read_settings(alloc, servers)?;
     println!(rt; "{:?}", a_pointer_of_keys::port_of(alloc, &servers, "a/b")?)?;
+    Ok(())
+}
+
+/// What heeds repeated keys, takes apart, looks up, and tells where a text is wrong.
+fn looks(rt: &(impl Print + AllocGlobal)) -> anyhow::Result<()> {
+    let alloc = rt.alloc();
     let last = the_last_of_repeated_keys::read_last(alloc, r#"{"a":1,"b":2,"a":3}"#)?;
     println!(rt; "{}", last.encode(alloc)?)?;
     let hosts = read_and_keep::read_settings(alloc, r#"["a",1,"b"]"#)?;
     println!(rt; "{:?}", take_a_document_apart::words(alloc, hosts)?)?;
-    let documents = [settings, last];
+    let documents = [read_and_keep::read_settings(alloc, SETTINGS)?, last];
     match look_one_key_up_in_many::first_of_topic(&documents, "news") {
         Some(found) => println!(rt; "{}", found.encode(alloc)?)?,
         None => println!(rt; "none")?,
@@ -252,6 +265,8 @@ fn shows(rt: &(impl Input + Print + AllocGlobal)) -> anyhow::Result<()> {
 
 fn main(rt: HostRuntime) -> anyhow::Result<()> {
     reads(&rt)?;
+    reaches(&rt)?;
+    looks(&rt)?;
     changes(&rt)?;
     further_changes(&rt)?;
     patches(&rt)?;
