@@ -7,6 +7,41 @@ use sj_tape::{Buffers, Tape, to_tape, to_tape_with_buffers};
 use sj_text_core::{ErrorKind, Repeats, Writable};
 use std::borrow::CowStr;
 
+/// A call that reads a document.
+#[derive(Clone, Copy, Debug)]
+enum Reader {
+    Deserialize,
+    DeserializeWithBuffers,
+    DeserializeRepeats,
+    ToValue,
+    ToValueWithBuffers,
+    ToValueRepeats,
+    ToNamedValue,
+    ToNamedValueWithBuffers,
+    FromSlice,
+    FromStr,
+}
+
+impl Reader {
+    fn of(word: &str) -> Result<Reader, Fault> {
+        match word {
+            "deserialize" => Ok(Reader::Deserialize),
+            "deserialize_with_buffers" => Ok(Reader::DeserializeWithBuffers),
+            "deserialize_repeats" => Ok(Reader::DeserializeRepeats),
+            "to_value" => Ok(Reader::ToValue),
+            "to_value_with_buffers" => Ok(Reader::ToValueWithBuffers),
+            "to_value_repeats" => Ok(Reader::ToValueRepeats),
+            "to_owned_value" | "to_borrowed_value" => Ok(Reader::ToNamedValue),
+            "to_owned_value_with_buffers" | "to_borrowed_value_with_buffers" => {
+                Ok(Reader::ToNamedValueWithBuffers)
+            }
+            "from_slice" => Ok(Reader::FromSlice),
+            "from_str" => Ok(Reader::FromStr),
+            _ => Err(Fault::Usage),
+        }
+    }
+}
+
 /// Reads the text of that name twice by that call of the form, each time from a fresh copy: between
 /// the first two writes, and once more.
 pub fn read(
@@ -33,8 +68,8 @@ fn read_once(
 ) -> Result<(), Fault> {
     match form {
         "tape" => read_tape(rt, call, bytes, buffers),
-        "owned" => read_owned(rt, call, bytes, buffers),
-        "borrowed" => read_borrowed(rt, call, bytes, buffers),
+        "owned" => read_owned(rt, Reader::of(call)?, bytes, buffers),
+        "borrowed" => read_borrowed(rt, Reader::of(call)?, bytes, buffers),
         _ => Err(Fault::Usage),
     }
 }
@@ -55,69 +90,67 @@ fn read_tape(
 
 fn read_owned(
     rt: &(impl Print + AllocGlobal),
-    call: &str,
+    reader: Reader,
     bytes: &mut [u8],
     buffers: &mut Buffers,
 ) -> Result<(), Fault> {
     let alloc = rt.alloc();
-    let read = match call {
-        "deserialize" => deserialize::<OwnedValue, String>(alloc, bytes),
-        "deserialize_with_buffers" => {
+    let read = match reader {
+        Reader::Deserialize => deserialize::<OwnedValue, String>(alloc, bytes),
+        Reader::DeserializeWithBuffers => {
             deserialize_with_buffers::<OwnedValue, String>(alloc, bytes, buffers)
         }
-        "deserialize_repeats" => {
+        Reader::DeserializeRepeats => {
             deserialize_repeats::<OwnedValue, String>(alloc, bytes, Repeats::Last)
         }
-        "to_value" => sj_owned::to_value(alloc, bytes),
-        "to_value_with_buffers" => sj_owned::to_value_with_buffers(alloc, bytes, buffers),
-        "to_value_repeats" => sj_owned::to_value_repeats(alloc, bytes, Repeats::Last),
-        "to_owned_value" => sj_owned::to_owned_value(alloc, bytes),
-        "to_owned_value_with_buffers" => {
+        Reader::ToValue => sj_owned::to_value(alloc, bytes),
+        Reader::ToValueWithBuffers => sj_owned::to_value_with_buffers(alloc, bytes, buffers),
+        Reader::ToValueRepeats => sj_owned::to_value_repeats(alloc, bytes, Repeats::Last),
+        Reader::ToNamedValue => sj_owned::to_owned_value(alloc, bytes),
+        Reader::ToNamedValueWithBuffers => {
             sj_owned::to_owned_value_with_buffers(alloc, bytes, buffers)
         }
-        "from_slice" => sj_owned::from_slice(alloc, bytes),
-        "from_str" => sj_owned::from_str(alloc, text_in(bytes)?),
-        _ => return Err(Fault::Usage),
+        Reader::FromSlice => sj_owned::from_slice(alloc, bytes),
+        Reader::FromStr => sj_owned::from_str(alloc, text_in(bytes)?),
     };
     tell_document(rt, read)
 }
 
 fn read_borrowed(
     rt: &(impl Print + AllocGlobal),
-    call: &str,
+    reader: Reader,
     bytes: &mut [u8],
     buffers: &mut Buffers,
 ) -> Result<(), Fault> {
     let alloc = rt.alloc();
-    let read = match call {
-        "deserialize" => deserialize::<BorrowedValue<'_>, CowStr<'_>>(alloc, bytes),
-        "deserialize_with_buffers" => {
+    let read = match reader {
+        Reader::FromSlice | Reader::FromStr => return read_copied(rt, reader, bytes),
+        Reader::Deserialize => deserialize::<BorrowedValue<'_>, CowStr<'_>>(alloc, bytes),
+        Reader::DeserializeWithBuffers => {
             deserialize_with_buffers::<BorrowedValue<'_>, CowStr<'_>>(alloc, bytes, buffers)
         }
-        "deserialize_repeats" => {
+        Reader::DeserializeRepeats => {
             deserialize_repeats::<BorrowedValue<'_>, CowStr<'_>>(alloc, bytes, Repeats::Last)
         }
-        "to_value" => sj_borrowed::to_value(alloc, bytes),
-        "to_value_with_buffers" => sj_borrowed::to_value_with_buffers(alloc, bytes, buffers),
-        "to_value_repeats" => sj_borrowed::to_value_repeats(alloc, bytes, Repeats::Last),
-        "to_borrowed_value" => sj_borrowed::to_borrowed_value(alloc, bytes),
-        "to_borrowed_value_with_buffers" => {
+        Reader::ToValue => sj_borrowed::to_value(alloc, bytes),
+        Reader::ToValueWithBuffers => sj_borrowed::to_value_with_buffers(alloc, bytes, buffers),
+        Reader::ToValueRepeats => sj_borrowed::to_value_repeats(alloc, bytes, Repeats::Last),
+        Reader::ToNamedValue => sj_borrowed::to_borrowed_value(alloc, bytes),
+        Reader::ToNamedValueWithBuffers => {
             sj_borrowed::to_borrowed_value_with_buffers(alloc, bytes, buffers)
         }
-        _ => return read_copied(rt, call, bytes),
     };
     tell_document(rt, read)
 }
 
 /// Reads a copy of the bytes to a borrowed document.
-fn read_copied(rt: &(impl Print + AllocGlobal), call: &str, bytes: &[u8]) -> Result<(), Fault> {
+fn read_copied(rt: &(impl Print + AllocGlobal), reader: Reader, bytes: &[u8]) -> Result<(), Fault> {
     let alloc = rt.alloc();
     let mut room = Vec::new(alloc);
     let lent = &mut room;
-    let read = match call {
-        "from_slice" => sj_borrowed::from_slice(alloc, bytes, lent),
-        "from_str" => sj_borrowed::from_str(alloc, text_in(bytes)?, lent),
-        _ => return Err(Fault::Usage),
+    let read = match reader {
+        Reader::FromStr => sj_borrowed::from_str(alloc, text_in(bytes)?, lent),
+        _ => sj_borrowed::from_slice(alloc, bytes, lent),
     };
     tell_document(rt, read)
 }
