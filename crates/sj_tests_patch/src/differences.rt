@@ -38,7 +38,7 @@ fn leads<T: OwnedText + Drop>(
 #[test]
 fn differences_lead_to_the_other(rt: HostRuntime) -> Result<(), Fail> {
     let alloc = rt.alloc();
-    for (from, to, count) in PAIRS {
+    for &(from, to, count) in &PAIRS {
         let wanted = owned(alloc, to)?;
         assert!(rt; leads(alloc, owned(alloc, from)?, &wanted, count)?);
         let wanted = borrowed(alloc, to)?;

@@ -43,7 +43,7 @@ fn is_merged<T: OwnedText + Drop>(
 #[test]
 fn merges(rt: HostRuntime) -> Result<(), Fail> {
     let alloc = rt.alloc();
-    for (target, patch, wanted) in MERGES {
+    for &(target, patch, wanted) in &MERGES {
         let result = owned(alloc, wanted)?;
         assert!(rt; is_merged(alloc, owned(alloc, target)?, owned(alloc, patch)?, &result)?);
         let result = borrowed(alloc, wanted)?;
@@ -113,7 +113,7 @@ fn leads<T: OwnedText + Drop>(
 #[test]
 fn merge_patches_lead_to_the_other(rt: HostRuntime) -> Result<(), Fail> {
     let alloc = rt.alloc();
-    for (target, _patch, wanted) in MERGES {
+    for &(target, _patch, wanted) in &MERGES {
         let result = owned(alloc, wanted)?;
         assert!(rt; leads(alloc, owned(alloc, target)?, &result)?);
         let result = borrowed(alloc, wanted)?;
@@ -142,7 +142,7 @@ fn is_patch<T: OwnedText + Drop>(
 #[test]
 fn merge_patches_tell_what_differs(rt: HostRuntime) -> Result<(), Fail> {
     let alloc = rt.alloc();
-    for (from, to, wanted) in DIFFERENCES {
+    for &(from, to, wanted) in &DIFFERENCES {
         let patch = match wanted {
             Some(text) => Some(owned(alloc, text)?),
             None => None,

@@ -76,7 +76,7 @@ fn is_refused<T: KeyText + Drop>(
 #[test]
 fn faults_are_named(rt: HostRuntime) -> Result<(), Fail> {
     let alloc = rt.alloc();
-    for (text, said) in REFUSED {
+    for &(text, said) in &REFUSED {
         assert!(rt; is_refused(alloc, owned(alloc, text)?, text, said)?);
         assert!(rt; is_refused(alloc, borrowed(alloc, text)?, text, said)?);
     }

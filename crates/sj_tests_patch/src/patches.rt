@@ -244,7 +244,7 @@ fn is_done_in_both(
 #[test]
 fn patches_are_done(rt: HostRuntime) -> Result<(), Fail> {
     let alloc = rt.alloc();
-    for (document, listed, wanted) in DONE {
+    for &(document, listed, wanted) in &DONE {
         assert!(rt; is_done_in_both(alloc, document, listed, wanted)?);
     }
     Ok(())
@@ -262,7 +262,7 @@ fn values_are_moved(rt: HostRuntime) -> Result<(), Fail> {
 #[test]
 fn faults_leave_the_document(rt: HostRuntime) -> Result<(), Fail> {
     let alloc = rt.alloc();
-    for (document, listed, said) in FAULTS {
+    for &(document, listed, said) in &FAULTS {
         assert!(rt; is_refused(alloc, owned(alloc, document)?, owned(alloc, listed)?, said)?);
         assert!(rt;
             is_refused(

@@ -83,10 +83,10 @@ fn with_blanks(alloc: Global, line: &str, (len, before): (usize, usize)) -> Resu
 #[test]
 fn a_line_with_blanks_is_the_same_command(rt: HostRuntime) -> Result<(), Fail> {
     let alloc = rt.alloc();
-    for (line, is_one) in LINES {
+    for &(line, is_one) in &LINES {
         let short = shown(alloc, line)?;
         assert!(rt; short.1 == is_one, "{line}");
-        for form in BLANKS {
+        for &form in &BLANKS {
             // Within a word, as that of no command is, blanks change nothing either.
             let long = with_blanks(alloc, line, form)?;
             assert!(rt;

@@ -154,7 +154,7 @@ const ANSWERS: [(&str, &str); 18] = [
 
 #[test]
 fn answers(rt: HostRuntime) -> Result<(), Fail> {
-    for (input, want) in ANSWERS {
+    for &(input, want) in &ANSWERS {
         check(&rt, rt.alloc(), input, want)?;
     }
     Ok(())

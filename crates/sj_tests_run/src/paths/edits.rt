@@ -228,7 +228,7 @@ fn are_edited(
 #[test]
 fn containers_are_edited(rt: HostRuntime) -> Result<(), Fail> {
     let alloc = rt.alloc();
-    for (text, edit, key, answer, left) in EDITS {
+    for &(text, edit, key, answer, left) in &EDITS {
         let at = pointer(alloc, text)?;
         let seen = are_edited(alloc, &at, (edit, key), (answer, left))?;
         assert_eq!(rt; seen, [true; 3], "{text} {edit:?} {key}");
@@ -239,7 +239,7 @@ fn containers_are_edited(rt: HostRuntime) -> Result<(), Fail> {
 #[test]
 fn what_is_missing_is_made(rt: HostRuntime) -> Result<(), Fail> {
     let alloc = rt.alloc();
-    for (text, answer, left) in SETS {
+    for &(text, answer, left) in &SETS {
         let at = pointer(alloc, text)?;
         let seen = are_edited(alloc, &at, (Edit::Set, ""), (answer, left))?;
         assert_eq!(rt; seen, [true; 3], "{text}");

@@ -65,7 +65,7 @@ fn owned_documents(rt: HostRuntime) -> Result<(), Fail> {
     let alloc = rt.alloc();
     let mut bytes = DOCUMENT.as_bytes().to_vec(alloc)?;
     let mut value = sj_owned::to_value(alloc, bytes.as_mut_slice())?;
-    for (text, want) in ROWS {
+    for &(text, want) in &ROWS {
         let pointer = pointer(alloc, text)?;
         let is_read = is_found(alloc, owned::find(&value, &pointer), want)?;
         let is_written = is_lent(alloc, owned::find_mut(&mut value, &pointer), want)?;
@@ -79,7 +79,7 @@ fn borrowed_documents(rt: HostRuntime) -> Result<(), Fail> {
     let alloc = rt.alloc();
     let mut bytes = DOCUMENT.as_bytes().to_vec(alloc)?;
     let mut value = sj_borrowed::to_value(alloc, bytes.as_mut_slice())?;
-    for (text, want) in ROWS {
+    for &(text, want) in &ROWS {
         let pointer = pointer(alloc, text)?;
         let is_read = is_found(alloc, borrowed::find(&value, &pointer), want)?;
         let is_written = is_lent(alloc, borrowed::find_mut(&mut value, &pointer), want)?;
@@ -111,12 +111,12 @@ fn lazy_documents(rt: HostRuntime) -> Result<(), Fail> {
     let mut bytes = DOCUMENT.as_bytes().to_vec(alloc)?;
     let tape = to_tape(alloc, bytes.as_mut_slice())?;
     let mut value: lazy::Value<'_, '_, '_> = lazy::Value::from_tape(tape.as_value());
-    for (text, want) in ROWS {
+    for &(text, want) in &ROWS {
         assert!(rt; is_found_as(alloc, &value, text, want)?, "{text}");
     }
     assert!(rt; value.is_tape());
     value.as_mut(alloc)?;
-    for (text, want) in ROWS {
+    for &(text, want) in &ROWS {
         assert!(rt; is_found_as(alloc, &value, text, want)?, "{text}");
     }
     assert!(rt; value.is_value());
@@ -140,7 +140,7 @@ fn lazy_writes_upgrade_first(rt: HostRuntime) -> Result<(), Fail> {
     let alloc = rt.alloc();
     let mut bytes = DOCUMENT.as_bytes().to_vec(alloc)?;
     let tape = to_tape(alloc, bytes.as_mut_slice())?;
-    for (text, want) in ROWS {
+    for &(text, want) in &ROWS {
         let mut value: lazy::Value<'_, '_, '_> = lazy::Value::from_tape(tape.as_value());
         assert!(rt; is_upgraded(alloc, &mut value, text, want)?, "{text}");
     }

@@ -64,7 +64,7 @@ fn are(tokens: &[String], want: &[&str]) -> bool {
 
 #[test]
 fn texts_are_cut_and_decoded(rt: HostRuntime) -> Result<(), Fail> {
-    for (text, want) in TOKENS {
+    for &(text, want) in &TOKENS {
         let pointer = pointer(rt.alloc(), text)?;
         let is_read = are(pointer.tokens(), want);
         let is_taken = are(pointer.into_tokens().as_slice(), want);
@@ -85,7 +85,7 @@ fn made_of(alloc: Global, tokens: &[&str]) -> Result<Pointer, Fail> {
 #[test]
 fn tokens_are_written(rt: HostRuntime) -> Result<(), Fail> {
     let alloc = rt.alloc();
-    for (text, tokens) in TOKENS {
+    for &(text, tokens) in &TOKENS {
         let written = made_of(alloc, tokens)?;
         assert!(rt; written == pointer(alloc, text)?, "{written}");
         assert_eq!(rt; format!(in alloc; "{written}")?.as_str(), text);
@@ -150,7 +150,7 @@ fn ends_are_cut_and_joined(rt: HostRuntime) -> Result<(), Fail> {
 #[test]
 fn texts_are_refused(rt: HostRuntime) -> Result<(), Fail> {
     let alloc = rt.alloc();
-    for (text, why) in REFUSED {
+    for &(text, why) in &REFUSED {
         assert_eq!(rt; pointer(alloc, text).err(), Some(why), "{text}");
     }
     Ok(())
@@ -158,7 +158,7 @@ fn texts_are_refused(rt: HostRuntime) -> Result<(), Fail> {
 
 #[test]
 fn tokens_name_positions(rt: HostRuntime) {
-    for (token, want) in POSITIONS {
+    for &(token, want) in &POSITIONS {
         assert_eq!(rt; position(token), want, "{token}");
     }
 }

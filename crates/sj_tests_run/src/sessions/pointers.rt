@@ -131,7 +131,7 @@ pub fn check_steps<D: Document>(
     alloc: Global,
     document: &mut D,
 ) -> Result<(), Fail> {
-    for (first, name, second, key, want) in STEPS {
+    for &(first, name, second, key, want) in &STEPS {
         let path = path(alloc, [first, second], [name, key])?;
         assert!(rt;
             is_encoded(alloc, document, path, want),
