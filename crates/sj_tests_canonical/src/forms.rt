@@ -91,7 +91,7 @@ fn is_printed(alloc: Global, text: &str, wanted: &str) -> Result<bool, Fail> {
 #[test]
 fn forms_are_printed(rt: HostRuntime) -> Result<(), Fail> {
     let alloc = rt.alloc();
-    for (text, wanted) in FORMS {
+    for &(text, wanted) in &FORMS {
         assert!(rt; is_printed(alloc, text, wanted)?);
     }
     Ok(())
@@ -108,7 +108,7 @@ fn many_members_are_sorted(rt: HostRuntime) -> Result<(), Fail> {
 #[test]
 fn a_canonical_form_is_its_own(rt: HostRuntime) -> Result<(), Fail> {
     let alloc = rt.alloc();
-    for (_, wanted) in FORMS {
+    for &(_, wanted) in &FORMS {
         assert!(rt; is_printed(alloc, wanted, wanted)?);
     }
     Ok(())

@@ -253,7 +253,7 @@ fn patches_are_done(rt: HostRuntime) -> Result<(), Fail> {
 #[test]
 fn values_are_moved(rt: HostRuntime) -> Result<(), Fail> {
     let alloc = rt.alloc();
-    for (document, listed, wanted) in MOVED {
+    for &(document, listed, wanted) in &MOVED {
         assert!(rt; is_done_in_both(alloc, document, listed, wanted)?);
     }
     Ok(())

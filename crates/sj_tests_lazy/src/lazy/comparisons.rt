@@ -62,7 +62,7 @@ fn is_owned(
 #[test]
 fn forms_are_compared(rt: HostRuntime) -> Result<(), Fail> {
     let alloc = rt.alloc();
-    for (left, right, same) in ROWS {
+    for &(left, right, same) in &ROWS {
         let mut left = left.as_bytes().to_vec(alloc)?;
         let mut right = right.as_bytes().to_vec(alloc)?;
         let left = to_tape(alloc, left.as_mut_slice())?;

@@ -61,7 +61,7 @@ fn is_found(
 
 #[test]
 fn known_keys_are_found(rt: HostRuntime) -> Result<(), Fail> {
-    for (members, key, want) in LOOKS {
+    for &(members, key, want) in &LOOKS {
         let told = is_found(rt.alloc(), members, &KnownKey::from(key), want)?;
         assert_eq!(rt; told, [true; 3], "{members} {key}");
     }

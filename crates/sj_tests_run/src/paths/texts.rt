@@ -128,10 +128,10 @@ fn end_is(alloc: Global, text: &str, want: Option<(&str, &str)>) -> Result<bool,
 #[test]
 fn ends_are_cut_and_joined(rt: HostRuntime) -> Result<(), Fail> {
     let alloc = rt.alloc();
-    for (text, want) in ENDS {
+    for &(text, want) in &ENDS {
         assert!(rt; end_is(alloc, text, want)?, "{text}");
     }
-    for (whole, front, begins) in FRONTS {
+    for &(whole, front, begins) in &FRONTS {
         let (whole, front) = (pointer(alloc, whole)?, pointer(alloc, front)?);
         assert!(rt; whole.begins_with(&front) == begins, "{whole} {front}");
         let joined = front.join(&whole)?;

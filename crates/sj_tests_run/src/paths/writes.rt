@@ -71,7 +71,7 @@ fn lazy_is_replaced(alloc: Global, text: &str, before: &str, after: &str) -> Res
 #[test]
 fn documents_are_replaced(rt: HostRuntime) -> Result<(), Fail> {
     let alloc = rt.alloc();
-    for (text, before, after) in WRITES {
+    for &(text, before, after) in &WRITES {
         let told = [
             owned_is_replaced(alloc, text, before, after)?,
             borrowed_is_replaced(alloc, text, before, after)?,
@@ -145,7 +145,7 @@ fn lazy_with_null(alloc: Global, pointer: &Pointer) -> Result<String, Fail> {
 #[test]
 fn references_are_written_through(rt: HostRuntime) -> Result<(), Fail> {
     let alloc = rt.alloc();
-    for (text, _, after) in WRITES {
+    for &(text, _, after) in &WRITES {
         let pointer = pointer(alloc, text)?;
         let told = [
             owned_with_null(alloc, &pointer)?.as_str() == after,

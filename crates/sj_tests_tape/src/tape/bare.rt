@@ -51,7 +51,7 @@ const ANSWERS: [(&str, &str); 5] = [
 #[test]
 fn bare_tapes_are_answered_alike(rt: HostRuntime) -> Result<(), AllocError> {
     let mut buffers = Buffers::new(rt.alloc(), 4)?;
-    for (text, wanted) in ANSWERS {
+    for &(text, wanted) in &ANSWERS {
         let are = are_answered(rt.alloc(), text, wanted, &mut buffers)?;
         assert!(rt; are == [true; 3], "{text}: {are:?}");
     }

@@ -189,7 +189,7 @@ const REFUSALS: [(&str, &str); 35] = [
 
 #[test]
 fn refusals(rt: HostRuntime) {
-    for (text, kind) in REFUSALS {
+    for &(text, kind) in &REFUSALS {
         assert!(rt;
             answers(rt.alloc(), text.as_bytes(), kind) == Ok(true),
             "{text}"

@@ -58,7 +58,7 @@ fn is_read(
 fn texts_are_read(rt: HostRuntime) -> Result<(), Fail> {
     let alloc = rt.alloc();
     let mut room = b"{\"a\":[true]}".to_vec(alloc)?;
-    for (text, want) in TEXTS {
+    for &(text, want) in &TEXTS {
         let told = is_read(alloc, text, &mut room, want)?;
         assert_eq!(rt; told, [true; 4], "{text}");
     }

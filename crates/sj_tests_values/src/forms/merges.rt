@@ -106,7 +106,7 @@ fn merges_texts(alloc: Global, case: [&str; 3]) -> Result<[bool; 3], Fail> {
 fn both_calls_merge(rt: HostRuntime) -> Result<(), Fail> {
     let alloc = rt.alloc();
     let mut cases = 0_usize;
-    for (target, patch, want) in EXAMPLES {
+    for &(target, patch, want) in &EXAMPLES {
         assert_eq!(rt;
             merges_texts(alloc, [target, patch, want])?,
             [true; 3],

@@ -43,7 +43,7 @@ fn is_shown<K: KeyMade>(
 
 #[test]
 fn texts(rt: HostRuntime) -> Result<(), Fail> {
-    for (text, print) in TEXTS {
+    for &(text, print) in &TEXTS {
         let owned: Document<String> = Document::try_make(rt.alloc(), text)?;
         let borrowed: Document<CowStr<'static>> = Document::from(text);
         let told = [
