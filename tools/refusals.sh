@@ -510,6 +510,7 @@ none
 for form in owned borrowed; do
   answers example $form "$replies" session_known
 done
+answers example owned "$replies" session_kept
 for form in owned borrowed lazy; do
   answers example $form "$replies"
   many=1

@@ -4,7 +4,7 @@
 //!
 //!     refusals_commands command LINE | run FORM WAY | apply FORM WAY | run_fault
 //!     refusals_commands session FORM INPUT | session_known FORM INPUT | session_last FORM INPUT
-//!     refusals_commands patch FORM CALL
+//!     refusals_commands session_kept owned INPUT | patch FORM CALL
 //!
 //! The calls that take no command and no patch are those of `refusals` and `refusals_paths`.
 //!
@@ -35,6 +35,7 @@ fn run(rt: &(impl Env + Print + AllocGlobal)) -> Result<(), Fault> {
         "command" => lines::read(rt, second),
         "session" => sessions::answer(rt, Session::First, second, third),
         "session_known" => sessions::answer(rt, Session::Known, second, third),
+        "session_kept" => sessions::answer(rt, Session::Kept, second, third),
         "session_last" => sessions::answer(rt, Session::Last, second, third),
         "patch" => patches::run_call(rt, second, third),
         _ => Err(Fault::Usage),

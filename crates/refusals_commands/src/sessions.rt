@@ -1,8 +1,10 @@
 //! One session.
 
 use refusals_common::{Fault, say, say_bytes, say_call, say_kept};
-use sj_run::{Form, SessionFault, Way, session, session_repeats};
-use sj_text_core::Repeats;
+use sj_commands::cut_at_mark;
+use sj_owned::to_value;
+use sj_run::{Form, OwnedDoc, SessionFault, Way, answer_owned, session, session_repeats};
+use sj_text_core::{ErrorKind, Repeats};
 use std::alloc::Global;
 
 /// A call that answers lines.
@@ -14,6 +16,24 @@ pub enum Session {
     Known,
     /// By text, and the last value of a key.
     Last,
+    /// By text, on an owned document that is kept.
+    Kept,
+}
+
+/// Reads the document of the input, and answers its lines on that.
+fn answer_kept(alloc: Global, input: &mut [u8], out: &mut Vec<u8>) -> Result<(), SessionFault> {
+    let cut = cut_at_mark(input);
+    let (text, behind) = input.split_at_mut(cut.document);
+    let lines = &mut behind[cut.commands - cut.document..];
+    match to_value(alloc, text) {
+        Ok(value) => {
+            let way = Way::ByText;
+            let mut document = OwnedDoc { way, value };
+            Ok(answer_owned(alloc, &mut document, lines, out)?)
+        }
+        Err(ErrorKind::OutOfMemory) => Err(SessionFault::OutOfMemory),
+        Err(kind) => Err(SessionFault::Refused(kind)),
+    }
 }
 
 fn answer_once(
@@ -27,6 +47,7 @@ fn answer_once(
         Session::First => session(alloc, form, Way::ByText, input, out),
         Session::Known => session(alloc, form, Way::ByKnownKey, input, out),
         Session::Last => session_repeats(alloc, form, Way::ByText, Repeats::Last, input, out),
+        Session::Kept => answer_kept(alloc, input, out),
     }
 }
 

@@ -1,4 +1,4 @@
--- Steps of a session: what a reply leaves of the tree and of the output. Only private clauses cite it.
+-- Steps of a session: what a reply leaves of the tree and of the output. Of public clauses only that of `answer_owned` cites it.
 use Rattle.std.specs.Prelude.{◌≡◌, ℕ, ◌+◌, ◌^◌, ◌≤◌, List, ◌++◌, length}
 use Rattle.sj_text_core.specs.Tree.{Tree, IsWithin}
 use Rattle.sj_text_core.specs.Grammar.{Spells}

@@ -25,7 +25,7 @@ mod texts;
 pub use document::{BorrowedDoc, Document, LazyDoc, OwnedDoc, Way};
 pub use reply::Reply;
 pub use runs::{RunFault, Why, run};
-pub use sessions::{Form, SessionFault, session, session_repeats};
+pub use sessions::{Form, SessionFault, answer_owned, session, session_repeats};
 pub use sj_commands::{Command, Step, Width};
 pub use sj_document::{BorrowedValue, OwnedValue};
 pub use sj_text_core::{ErrorKind, JsonError, ValueType};

@@ -1,15 +1,19 @@
 //! Sessions over bytes.
 
-ghost use Rattle.std.specs.Prelude.{◌≡◌, ◌≢◌, ◌↔◌, List, ℕ, ◌++◌, OnOk, OnErr, IsErrOf, IsUtf8, Err, length};
+ghost use Rattle.std.specs.Prelude.{◌≡◌, ◌≢◌, ◌↔◌, List, ℕ, ◌++◌, OnOk, OnErr, IsErrOf, IsUtf8, Err, length, string_bytes};
 ghost use Rattle.sj_text_core.specs.Grammar.{IsReadable};
-ghost use Rattle.sj_commands.specs.Lines.{document as document_of};
+ghost use Rattle.sj_text_core.specs.declared.repeats.Repeats.TheVariants.{First};
+ghost use Rattle.sj_document.specs.Document.{tree};
+ghost use Rattle.sj_commands.specs.Lines.{document as document_of, full_lines, line_texts};
+ghost use Rattle.sj_run.specs.Answered.{AnswersLines, PassesLines};
 ghost use Rattle.sj_run.specs.Session.{IsServed, IsAnswered, IsAnsweredBy, PassesAll, PassesAllBy};
 
 mod answer;
 mod forms;
 
-use crate::document::Way;
+use crate::document::{OwnedDoc, Way};
 use crate::runs::Why;
+use crate::sessions::answer::answer_all;
 use crate::sessions::forms::{borrowed, lazy, owned};
 use sj_commands::cut_at_mark;
 use sj_text_core::{ErrorKind, Repeats};
@@ -137,4 +141,23 @@ pub fn session_repeats(
         Form::Borrowed => borrowed(alloc, way, repeats, text, lines, out),
         Form::Lazy => lazy(alloc, repeats, text, lines, out),
     }
+}
+
+/// Answers command lines in turn on a document that is kept, and appends each printed reply with a
+/// line feed to `out`. The lines are written over.
+///
+/// Refused as `OutOfMemory` where memory was refused, and as `TooLong` only where `out` with all
+/// replies would pass `usize::MAX` bytes. On a fault `out` is as it was; of which commands were done
+/// nothing is said.
+pub fn answer_owned(
+    alloc: Global,
+    document: &mut OwnedDoc,
+    lines: &mut [u8],
+    out: &mut Vec<u8>,
+) -> Result<(), Why>
+    ensures ok { OnOk result (AnswersLines (First, tree string_bytes document.old.value) (line_texts (full_lines lines.old)) (First, tree string_bytes document.new.value) out.old.items out.new.items) }
+    ensures err { OnErr result (out.new.items ≡ out.old.items) }
+    ensures too_long { IsErrOf result Why.TooLong → PassesLines (First, tree string_bytes document.old.value) (line_texts (full_lines lines.old)) (length out.old.items) }
+{
+    answer_all(alloc, document, lines, out)
 }

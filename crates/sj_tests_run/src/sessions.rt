@@ -4,7 +4,8 @@ mod pointers;
 mod repeats;
 mod runs;
 
-use sj_run::{Form, SessionFault, Way, session};
+use sj_owned::to_value;
+use sj_run::{Form, OwnedDoc, SessionFault, Way, answer_owned, session};
 use sj_text_core::ErrorKind;
 use std::alloc::Global;
 use std::process::Abort;
@@ -157,6 +158,27 @@ fn answers(rt: HostRuntime) -> Result<(), Fail> {
     for &(input, want) in &ANSWERS {
         check(&rt, rt.alloc(), input, want)?;
     }
+    Ok(())
+}
+
+/// Lines that come in two calls are answered on one document.
+#[test]
+fn a_kept_document_answers(rt: HostRuntime) -> Result<(), Fail> {
+    let alloc = rt.alloc();
+    let mut text = b"{\"a\":[1]}".to_vec(alloc)?;
+    let value = to_value(alloc, text.as_mut_slice())?;
+    let way = Way::ByText;
+    let mut document = OwnedDoc { way, value };
+    let mut out = b"> ".to_vec(alloc)?;
+    for lines in [
+        "[\"push\",[\"a\"],2]\n[\"len\",[\"a\"]]\n",
+        "\r\n[\"pop\",[\"a\"]]\nhelp\n[\"encode\",[]]",
+    ] {
+        let mut lines = lines.as_bytes().to_vec(alloc)?;
+        answer_owned(alloc, &mut document, lines.as_mut_slice(), &mut out)?;
+    }
+    let want = "> ok\n2\n2\nbad command\n{\"a\":[1]}\n";
+    assert_eq!(rt; out.as_slice(), want.as_bytes());
     Ok(())
 }
 
