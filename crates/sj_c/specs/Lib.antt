@@ -1,0 +1,7 @@
+pub mod Owned
+pub mod Meant
+pub mod Shown
+pub mod Refusals
+pub mod Lines
+pub mod Edits
+pub mod Patches
