@@ -20,6 +20,7 @@ enum Call {
     MapLookupOrInsert,
     Replace,
     Change,
+    ChangeOrInsert,
 }
 
 impl Call {
@@ -32,6 +33,7 @@ impl Call {
             "map_lookup_or_insert" => Ok(Call::MapLookupOrInsert),
             "replace" => Ok(Call::Replace),
             "change" => Ok(Call::Change),
+            "change_or_insert" => Ok(Call::ChangeOrInsert),
             _ => Err(Fault::Usage),
         }
     }
@@ -134,6 +136,26 @@ fn change(document: &mut Value<'static>, key: &KnownKey<'static>, new: u64) -> A
     }
 }
 
+/// A key that is absent goes last with a number that no member has, which the change then replaces.
+fn change_or_insert(document: &mut Value<'static>, key: &KnownKey<'static>, new: u64) -> Answer {
+    let change = Replace { value: number(new) };
+    match KnownKey::change_or_insert(document, key, number(u64::MAX), change) {
+        Ok(before) => match number_of(&before) {
+            Some(u64::MAX) => Answer::Inserted,
+            Some(number) => Answer::There(number),
+            None => Answer::Other,
+        },
+        Err(refused) => {
+            let (value, change) = refused.value;
+            if refused.why == Error::OutOfMemory {
+                Answer::OutOfMemory(value.same_as(&u64::MAX) && change.value.same_as(&new))
+            } else {
+                Answer::Other
+            }
+        }
+    }
+}
+
 fn map_insert(members: &mut Object<'static>, key: &KnownKey<'static>, new: u64) -> Answer {
     match key.map_insert(members, number(new)) {
         Ok(before) => answer_of(before),
@@ -190,6 +212,7 @@ fn insert_by(call: Call, document: &mut Value<'static>, key: Key, new: u64) -> A
             None => Answer::Other,
         },
         Call::Change => change(document, &known, new),
+        Call::ChangeOrInsert => change_or_insert(document, &known, new),
     }
 }
 

@@ -6,27 +6,25 @@ use Rattle.std.proofs.lemmas.List.{map-append}
 use Rattle.sj_text_core.specs.Tree.{Tree, null, boolean, int, text, list, obj, Members, no_members, member}
 use Rattle.sj_text_core.specs.Edits.{put}
 use Rattle.sj_text_core.specs.Reads.{as_members}
-use Rattle.sj_text_core.specs.Paths.{by_token, change_found, set_found}
+use Rattle.sj_text_core.specs.Paths.{by_token, set_found}
 use Rattle.sj_text_core.specs.declared.repeats.Repeats.TheVariants.{First}
 use Rattle.sj_text_core.proofs.Writes.{step_there, set_found-twice, find-put_same, put-twice}
 use Rattle.sj_text_core.specs.declared.error.AccessError.{AccessError}
 use Rattle.sj_text_core.specs.declared.error.AccessError.TheVariants.{NotAnObject, OutOfMemory}
 use Rattle.sj_document.specs.Document.{with_member, why_of}
 use Rattle.sj_pointer.specs.Pointed.{token_into, pointed, set_pointed}
+use Rattle.sj_path.proofs.Ways.{set_further}
 use Rattle.sj_path.specs.Made.{nested, member_added, set_within, set_made, IsEndOf}
 
 pub some_is : (t u : Tree) → Some t ≡ Some u → t ≡ u
 some_is t u e = cc
-
-further : (k : List ℕ) (ks : List (List ℕ)) (u v t : Tree) → token_into First k t ≡ Some v → set_pointed (k ∷ ks) u t ≡ set_found (by_token k) (set_pointed ks u v) t
-further k ks u v t e = ap (λ o. change_found o (by_token k) (set_pointed ks u) t) e
 
 -- where tokens find something, it is set
 found_by : (o : Option Tree) (k : List ℕ) (ks : List (List ℕ)) (u x t : Tree) → token_into First k t ≡ o → option_and_then (pointed ks) o ≡ Some x → ((v : Tree) → pointed ks v ≡ Some x → set_made ks u v ≡ Some (set_pointed ks u v))
     → set_made (k ∷ ks) u t ≡ Some (set_pointed (k ∷ ks) u t)
 found_by None k ks u x t e f ih = cc
 found_by (Some v) k ks u x t e f ih =
-    ap (λ o. set_within o k (set_made ks u) (nested ks u) t) e ∙ ap (option_map (λ w. set_found (by_token k) w t)) (ih v f) ∙ ap Some (sym (further k ks u v t e))
+    ap (λ o. set_within o k (set_made ks u) (nested ks u) t) e ∙ ap (option_map (λ w. set_found (by_token k) w t)) (ih v f) ∙ ap Some (sym (set_further k ks t u v e))
 
 pub made_found : (ks : List (List ℕ)) (u x t : Tree) → pointed ks t ≡ Some x → set_made ks u t ≡ Some (set_pointed ks u t)
 made_found [] u x t e = refl
@@ -35,7 +33,7 @@ made_found (k ∷ ks) u x t e = found_by (token_into First k t) k ks u x t refl 
 -- where they find nothing, it is added at what the last that find something lead to
 added_by : (m : Option Tree) (k : List ℕ) (ks : List (List ℕ)) (v t : Tree) → token_into First k t ≡ Some v → option_map (λ w. set_found (by_token k) w t) (option_map (λ w. set_pointed ks w v) m) ≡ option_map (λ w. set_pointed (k ∷ ks) w t) m
 added_by None k ks v t e = refl
-added_by (Some w) k ks v t e = ap Some (sym (further k ks w v t e))
+added_by (Some w) k ks v t e = ap Some (sym (set_further k ks t w v e))
 
 itself : (m : Option Tree) → m ≡ option_map (λ w. w) m
 itself None = refl
@@ -82,7 +80,7 @@ module _ (p : List (List ℕ)) (k : List ℕ) (r : List (List ℕ)) (u x t : Tre
 -- what is set in the place of what was made is what is made of it
 put_again : (k : List ℕ) (ks : List (List ℕ)) (u v : Tree) (ms : Members) → set_pointed ks u (nested ks v) ≡ nested ks u → set_pointed (k ∷ ks) u (obj (put k (nested ks v) ms)) ≡ obj (put k (nested ks u) ms)
 put_again k ks u v ms h =
-    further k ks u (nested ks v) (obj (put k (nested ks v) ms)) (find-put_same k (nested ks v) ms) ∙ ap obj (put-twice k (set_pointed ks u (nested ks v)) (nested ks v) ms) ∙ ap (λ w. obj (put k w ms)) h
+    set_further k ks (obj (put k (nested ks v) ms)) u (nested ks v) (find-put_same k (nested ks v) ms) ∙ ap obj (put-twice k (set_pointed ks u (nested ks v)) (nested ks v) ms) ∙ ap (λ w. obj (put k w ms)) h
 
 nested_set : (ks : List (List ℕ)) (u v : Tree) → set_pointed ks u (nested ks v) ≡ nested ks u
 nested_set [] u v = refl
@@ -100,7 +98,7 @@ found_again : (m : Option Tree) (k : List ℕ) (ks : List (List ℕ)) (u x t : T
     → option_map (λ w. set_found (by_token k) w t) (option_map (set_pointed ks u) m) ≡ option_map (set_pointed (k ∷ ks) u) (option_map (λ w. set_found (by_token k) w t) m)
 found_again None k ks u x t e = refl
 found_again (Some w) k ks u x t e =
-    ap Some (sym (further k ks u w (set_found (by_token k) w t) (step_there (by_token k) w x t e) ∙ set_found-twice (by_token k) (set_pointed ks u w) w t))
+    ap Some (sym (set_further k ks (set_found (by_token k) w t) u w (step_there (by_token k) w x t e) ∙ set_found-twice (by_token k) (set_pointed ks u w) w t))
 
 again_by : (o : Option Tree) (k : List ℕ) (ks : List (List ℕ)) (u v t : Tree) → token_into First k t ≡ o → ((x : Tree) → set_made ks u x ≡ option_map (set_pointed ks u) (set_made ks v x))
     → set_within o k (set_made ks u) (nested ks u) t ≡ option_map (set_pointed (k ∷ ks) u) (set_within o k (set_made ks v) (nested ks v) t)

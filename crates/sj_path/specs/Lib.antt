@@ -8,4 +8,6 @@ pub use Rattle.sj_pointer.specs.Spelled
 pub use Rattle.sj_pointer.specs.Pointed
 pub use Rattle.sj_pointer.specs.Laws
 pub use Rattle.sj_document.specs.Document
+pub use Rattle.sj_document.specs.Rows as DocumentRows
 pub use Rattle.sj_lazy.specs.Value
+pub use Rattle.sj_lazy.specs.Loans

@@ -1,18 +1,20 @@
 //! Pointers into lazy documents.
 
 ghost use Rattle.std.specs.Prelude.{◌≡◌, Some, IfErr, IfOk, IfSome, IsSome, IsOk, OnErr, OnOk, option_map, map, string_bytes};
-ghost use Rattle.std.specs.Cow.{cow_str_bytes};
+ghost use Rattle.std.specs.Borrow.{sem};
 ghost use Rattle.std.specs.Result.{result_ok};
 ghost use Rattle.sj_document.specs.Document.{tree as document_tree};
+ghost use Rattle.sj_document.specs.Rows.{document_row};
 ghost use Rattle.sj_tape.specs.Value.{tree as tape_tree, choice as tape_choice};
-ghost use Rattle.sj_lazy.specs.Value.{tree, choice, form, part_form, kept, lazy_kept, owned};
+ghost use Rattle.sj_lazy.specs.Value.{tree, choice, form, part_form, lazy_kept, owned};
+ghost use Rattle.sj_lazy.specs.Loans.{LendsPart};
 ghost use Rattle.sj_pointer.specs.Pointed.{token_into, pointed, pointed_by, set_pointed};
 
 mod edits;
 
 use crate::{walk, write};
 pub use edits::{insert, pop, push, remove, set, take, update};
-use sj_document::{BorrowedValue, Document};
+use sj_document::Document;
 pub use sj_lazy::Value;
 use sj_lazy::{Lazy, Lent, Shared, Upgrade};
 use sj_object::KeyText;
@@ -65,17 +67,23 @@ pub fn find<'v, 't, 'i>(
     }
 }
 
-/// What the pointer's tokens find, to write, once the value is owned, also where they find nothing.
-/// Refused, it is as it was. What it is after a write is said by `replace`, and not here.
-pub fn find_mut<'v, 'i>(
-    value: &'v mut Value<'_, '_, 'i>,
+/// What the pointer's tokens find, to write; None where one of them finds nothing. The value is owned
+/// then, with what the reference last held in the place of what the pointer found. Refused for want
+/// of memory, it is as it was.
+pub fn find_mut<'v, P: Upgrade<T> + Drop, B: Lent<T> + Drop, T: KeyText + Drop>(
+    value: &'v mut Lazy<P, B, T>,
     alloc: Global,
     pointer: &Pointer,
-) -> Result<Option<&'v mut BorrowedValue<'i>>, AllocError>
-    ensures value { IfOk result (λ found. option_map (λ v. document_tree cow_str_bytes v.now) found ≡ pointed pointer.now (kept value.old)) }
-    ensures succeeds { IsSome (owned cow_str_bytes value.old) → IsOk result }
+) -> Result<Option<&'v mut Document<T>>, AllocError>
+    ensures* writes_back { sem 𝓛 (LendsPart P.row B.row T.row T.KeyText (document_row T.row T.KeyText) value.entry result
+        (λ w. set_pointed pointer.now (document_tree T.text_of w) (lazy_kept P.part_kept B.lent_tree T.text_of value.old)) (lazy_kept P.part_kept B.lent_tree T.text_of value.old)) }
+    ensures value { IfOk result (λ found. option_map (λ v. document_tree T.text_of v.now) found ≡ pointed pointer.now (lazy_kept P.part_kept B.lent_tree T.text_of value.old)) }
+    ensures succeeds { IsSome (owned T.text_of value.old) → IsOk result }
 {
-    Ok(walk::find_mut(value.as_mut(alloc)?, pointer))
+    match value.as_mut(alloc) {
+        Ok(document) => Ok(walk::find_mut(document, pointer)),
+        Err(why) => Err(why),
+    }
 }
 
 /// Puts the document in the place of what the pointer finds, once the value is owned, also where it

@@ -19,11 +19,13 @@
 pub mod borrowed;
 mod edits;
 pub mod lazy;
+mod lend;
 mod made;
 pub mod owned;
 mod walk;
 mod write;
 
+pub use lend::LendPointed;
 pub use made::OwnedText;
 pub use sj_pointer::{Pointer, PointerError, laws, pointer, position};
 pub use sj_text_core::JsonError;

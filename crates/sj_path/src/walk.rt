@@ -1,9 +1,15 @@
 //! The walk over a document.
 
-ghost use Rattle.std.specs.Prelude.{◌≡◌, map, option_map, string_bytes};
+ghost use Rattle.std.specs.Prelude.{◌≡◌, ◌<◌, ◌^◌, ◌+◌, map, option_and_then, option_map, string_bytes, IfSome, OnSome};
+ghost use Rattle.std.specs.Borrow.{LendsSo, sem};
+ghost use Rattle.std.specs.List.{slice_get};
 ghost use Rattle.sj_document.specs.Document.{tree};
+ghost use Rattle.sj_document.specs.Rows.{document_row};
+ghost use Rattle.sj_text_core.specs.Paths.{by_token, set_found};
+ghost use Rattle.sj_text_core.specs.Places.{place_of};
+ghost use Rattle.sj_text_core.specs.Reads.{as_items};
 ghost use Rattle.sj_text_core.specs.declared.repeats.Repeats.TheVariants.{First};
-ghost use Rattle.sj_pointer.specs.Pointed.{token_into, pointed};
+ghost use Rattle.sj_pointer.specs.Pointed.{token_into, pointed, set_pointed};
 
 use sj_document::Document;
 use sj_object::KeyText;
@@ -38,36 +44,55 @@ pub fn find<'v, T: KeyText>(value: &'v Document<T>, pointer: &Pointer) -> Option
     find_in(value, pointer.tokens())
 }
 
-/// What one token finds, to write.
-fn step_mut<'v, T: KeyText>(value: &'v mut Document<T>, token: &str) -> Option<&'v mut Document<T>>
-    ensures { option_map (λ v. tree T.text_of v.now) result ≡ token_into First token.now (tree T.text_of value.old) }
+/// The position that the token names, on an array.
+fn place_in<T: KeyText>(value: &Document<T>, token: &str) -> Option<usize>
+    ensures { result ≡ option_and_then (λ _. place_of token.now) (as_items (tree T.text_of value.now)) }
 {
     if value.is_array() {
-        value.get_idx_mut(position(token)?)
+        position(token)
     } else {
-        value.get_mut(token)
+        None
     }
 }
 
-fn find_in_mut<'v, T: KeyText>(
-    value: &'v mut Document<T>,
-    tokens: &[String],
-) -> Option<&'v mut Document<T>>
-    ensures { option_map (λ v. tree T.text_of v.now) result ≡ pointed (map string_bytes tokens.now) (tree T.text_of value.old) }
+/// What one token finds, to write.
+fn step_mut<'v, T: KeyText>(value: &'v mut Document<T>, token: &str) -> Option<&'v mut Document<T>>
+    ensures* writes_back { sem 𝓛 (LendsSo (document_row T.row T.KeyText) (document_row T.row T.KeyText) value.entry result
+        (λ n w. OnSome result (tree T.text_of n ≡ set_found (by_token token.now) (tree T.text_of w) (tree T.text_of value.old))) (λ n. tree T.text_of n ≡ tree T.text_of value.old)) }
+    ensures value { option_map (λ v. tree T.text_of v.now) result ≡ token_into First token.now (tree T.text_of value.old) }
 {
-    let mut at = value;
-    for token in tokens {
-        at = step_mut(at, token.as_str())?;
+    match place_in(value, token) {
+        Some(place) => value.get_idx_mut(place),
+        None => value.get_mut(token),
     }
-    Some(at)
 }
 
-/// What `find` finds, to write. What the document is then is said by `replace`, and not here.
+/// The token at that depth, counted from 0.
+fn token_at(pointer: &Pointer, depth: usize) -> Option<&str>
+    ensures value { option_map (λ t. t.now) result ≡ slice_get pointer.now depth }
+    ensures fits { IfSome result (λ _. depth + 1 < 2 ^ 64) }
+{
+    Some(pointer.tokens().get(depth)?.as_str())
+}
+
+/// What `find` finds, to write. The document is then as it was, with what the reference last held in
+/// the place of what the pointer found.
 pub fn find_mut<'v, T: KeyText>(
     value: &'v mut Document<T>,
     pointer: &Pointer,
 ) -> Option<&'v mut Document<T>>
-    ensures { option_map (λ v. tree T.text_of v.now) result ≡ pointed pointer.now (tree T.text_of value.old) }
+    ensures* writes_back { sem 𝓛 (LendsSo (document_row T.row T.KeyText) (document_row T.row T.KeyText) value.entry result
+        (λ n w. OnSome result (tree T.text_of n ≡ set_pointed pointer.now (tree T.text_of w) (tree T.text_of value.old))) (λ n. tree T.text_of n ≡ tree T.text_of value.old)) }
+    ensures value { option_map (λ v. tree T.text_of v.now) result ≡ pointed pointer.now (tree T.text_of value.old) }
 {
-    find_in_mut(value, pointer.tokens())
+    let mut at = value;
+    let mut depth = 0;
+    while let Some(token) = token_at(pointer, depth) {
+        depth += 1;
+        match step_mut(at, token) {
+            Some(next) => at = next,
+            None => return None,
+        }
+    }
+    Some(at)
 }

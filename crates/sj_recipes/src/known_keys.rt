@@ -40,6 +40,10 @@ pub fn makes(alloc: Global) -> Result<(Option<u8>, bool), JsonError> {
     let mut document = Value::object(alloc)?;
     let count = KnownKey::lookup_or_insert_mut(&mut document, &key, || Value::from(0_u8))?;
     *count = Value::from(1_u8);
+    let more = Replace {
+        value: Value::from(2_u8),
+    };
+    KnownKey::change_or_insert(&mut document, &key, Value::from(0_u8), more)?;
     let mut members: Object<'_> = Object::with_capacity_and_hasher(
         alloc,
         0,

@@ -2,6 +2,7 @@
 #![tactic(auto)]
 
 pub mod changes;
+pub mod counts;
 pub mod fleet;
 pub mod merging;
 pub mod messages;

@@ -1,14 +1,66 @@
 //! Changes of the value of a known key.
 
-ghost use Rattle.std.specs.Prelude.{◌≡◌, None, Some, IfOk, IfErr};
+ghost use Rattle.std.specs.Prelude.{◌≡◌, None, Some, IsSome, IfSome, IfOk, IfErr, IsOk, OnOk, OnErr};
 ghost use Rattle.std.specs.Cow.{cow_str_bytes};
+ghost use Rattle.sj_text_core.specs.Find.{find};
+ghost use Rattle.sj_text_core.specs.Reads.{as_members};
+ghost use Rattle.sj_object.specs.Edits.{lookup, put, with_value};
 
 use super::KnownKey;
+use super::error::Error;
+use super::or_insert::members_of;
+use super::stored::StoredKey;
 use super::target::KnownKeyTargetMut;
-use sj_document::Change;
+use sj_document::{Change, Document};
+use sj_object::{HashMap, KeyText, ObjectHasher};
+use sj_text_core::Refused;
+use std::alloc::AllocError;
 use std::mem;
 
+/// Changes the value of the key in a map; where the key is absent, a copy of it goes last with
+/// `value`, and that is changed.
+fn change_or_put<'k, K: StoredKey<'k>, V: Drop, C: Change<V>>(
+    map: &mut HashMap<K, V, ObjectHasher>,
+    key: &KnownKey<'k>,
+    value: V,
+    change: C,
+) -> Result<C::Answer, Refused<AllocError, (V, C)>>
+    ensures present { IfSome (lookup (cow_str_bytes key.now) map.old.entries) (λ before. IfOk result (λ answer. (w : V) × C.makes change before w answer × (map.new ≡ with_value map.old (cow_str_bytes key.now) w))) }
+    ensures absent { lookup (cow_str_bytes key.now) map.old.entries ≡ None → IfOk result (λ answer. (w : V) × C.makes change value w answer × ((copy : K) × (map.new.entries ≡ put (copy, cow_str_bytes key.now) w map.old.entries))) }
+    ensures refused { OnErr result (map.new ≡ map.old) }
+    ensures returned { IfErr result (λ r. r.value ≡ (value, change)) }
+    ensures succeeds { IsSome (lookup (cow_str_bytes key.now) map.old.entries) → IsOk result }
+{
+    let hash = key.hash();
+    if let Some(place) = map.get_hashed_mut(hash, key.key().text()) {
+        return Ok(change.change(place));
+    }
+    let copy = match K::copy_of(key) {
+        Ok(copy) => copy,
+        Err(why) => {
+            return Err(Refused {
+                why,
+                value: (value, change),
+            });
+        }
+    };
+    let last = map.len();
+    match map.append_hashed(hash, copy, value) {
+        Ok(()) => Ok(change.change(map.value_at_mut(last))),
+        Err(Refused { why, value: pair }) => {
+            let (_, value) = pair;
+            Err(Refused {
+                why,
+                value: (value, change),
+            })
+        }
+    }
+}
+
 impl<'k> KnownKey<'k> {
+    ghost use Rattle.sj_document.specs.Document.{tree, with_member};
+    ghost use Rattle.sj_borrowed.specs.Inserts.{why_of};
+
     /// Changes the value of the key, and answers what the change does. The target is then as it
     /// was, with what the change left in the place of that value. Where there is none the target is
     /// as it was, and the change comes back.
@@ -49,6 +101,42 @@ impl<'k> KnownKey<'k> {
         match KnownKey::lookup_mut(target, key) {
             Some(value) => Ok(mem::replace(value, new)),
             None => Err(new),
+        }
+    }
+
+    /// Changes the value of the key, and answers what the change does; where the key is absent, a
+    /// copy of it goes last with `value`, and that is changed. The document is then as it was, with
+    /// what the change left as the value of the key. On a non-object, and for want of memory where
+    /// the key is absent, it is refused: the value and the change come back, and the document is as
+    /// it was.
+    ///
+    /// ```
+    /// let more = Replace { value: Value::from(2_u8) };
+    /// KnownKey::change_or_insert(&mut document, &key, Value::from(0_u8), more)?; // 0, where it is absent
+    /// ```
+    pub fn change_or_insert<T: StoredKey<'k>, C: Change<Document<T>>>(
+        target: &mut Document<T>,
+        key: &KnownKey<'k>,
+        value: Document<T>,
+        change: C,
+    ) -> Result<C::Answer, Refused<Error, (Document<T>, C)>>
+        ensures present { IfSome (find (cow_str_bytes key.now) (tree T.text_of target.old)) (λ before. IfOk result (λ answer. (v : Document T) × (w : Document T) × (tree T.text_of v ≡ before) × C.makes change v w answer × (tree T.text_of target.new ≡ with_member (cow_str_bytes key.now) (tree T.text_of w) (tree T.text_of target.old)))) }
+        ensures absent { find (cow_str_bytes key.now) (tree T.text_of target.old) ≡ None → IfOk result (λ answer. (w : Document T) × C.makes change value w answer × (tree T.text_of target.new ≡ with_member (cow_str_bytes key.now) (tree T.text_of w) (tree T.text_of target.old))) }
+        ensures object { OnOk result (IsSome (as_members (tree T.text_of target.old))) }
+        ensures refused { OnErr result (tree T.text_of target.new ≡ tree T.text_of target.old) }
+        ensures returned { IfErr result (λ r. r.value ≡ (value, change)) }
+        ensures kind { IfErr result (λ r. r.why ≡ why_of (tree T.text_of target.old)) }
+        ensures succeeds { IsSome (find (cow_str_bytes key.now) (tree T.text_of target.old)) → IsOk result }
+    {
+        match members_of(target) {
+            Ok(members) => match change_or_put(members, key, value, change) {
+                Ok(answer) => Ok(answer),
+                Err(refused) => Err(refused.because(Error::OutOfMemory)),
+            },
+            Err(why) => Err(Refused {
+                why,
+                value: (value, change),
+            }),
         }
     }
 }

@@ -7,7 +7,9 @@ ghost use Rattle.sj_borrowed.specs.Loans.{IsInserted};
 
 use sj_borrowed::KnownKey;
 use sj_borrowed::known_key::Error;
-use sj_document::{BorrowedValue, Document, OwnedValue, borrowed_from_tape, owned_from_tape};
+use sj_document::{
+    BorrowedValue, Document, OwnedValue, Replace, borrowed_from_tape, owned_from_tape,
+};
 use sj_object::{HashMap, KeyText, ObjectHasher};
 use sj_tape::to_tape;
 use sj_text_core::{Refused, SameAs, StaticNode, TypedValue, ValueType, Writable};
@@ -112,6 +114,52 @@ fn inserts_where_absent(rt: HostRuntime) -> Result<(), Fail> {
     Ok(())
 }
 
+/// A change that puts the number in the place of a value.
+fn put<'v>(n: u64) -> Replace<BorrowedValue<'v>> {
+    Replace { value: number(n) }
+}
+
+/// Changes two keys of an object with the member `key` of 1, which get 3 first where absent.
+fn changed_or_inserted(alloc: Global, mut value: BorrowedValue<'_>) -> Result<[bool; 3], Fail> {
+    let first = KnownKey::from("key");
+    let second = KnownKey::from("cake");
+    Ok([
+        KnownKey::change_or_insert(&mut value, &first, number(3), put(4)).is_ok_and(
+            |before| before.same_as(&1_u64),
+        ),
+        KnownKey::change_or_insert(&mut value, &second, number(3), put(5)).is_ok_and(
+            |before| before.same_as(&3_u64),
+        ),
+        value.encode(alloc)?.as_str() == "{\"key\":4,\"cake\":5}",
+    ])
+}
+
+#[test]
+fn changes_or_inserts(rt: HostRuntime) -> Result<(), Fail> {
+    let alloc = rt.alloc();
+    let mut text = *b"{\"key\":1}";
+    let told = [
+        changed_or_inserted(alloc, read(alloc, &mut text)?)?,
+        changed_or_inserted(alloc, roomy(alloc, 0)?)?,
+        changed_or_inserted(alloc, roomy(alloc, 128)?)?,
+    ];
+    assert_eq!(rt; told, [[true; 3]; 3]);
+    Ok(())
+}
+
+/// Whether a change of the value is refused, with the number and the change handed back.
+fn is_change_refused<'k>(value: &mut BorrowedValue<'k>, key: &KnownKey<'k>) -> bool {
+    match KnownKey::change_or_insert(value, key, number(2), put(3)) {
+        Ok(_) => false,
+        Err(Refused { why, value }) => {
+            let (new, change) = value;
+            why == Error::NotAnObject(ValueType::Null)
+                && new.same_as(&2_u64)
+                && change.value.same_as(&3_u64)
+        }
+    }
+}
+
 /// No call of the closure is owed where the key is there: this one must not be called.
 fn found<'v>(value: &mut BorrowedValue<'v>, key: &KnownKey<'v>) -> bool
     requires { IsSome (find (cow_str_bytes key.now) (tree cow_str_bytes value.old)) }
@@ -138,10 +186,11 @@ fn refuses_what_is_no_object(rt: HostRuntime) {
         key.lookup(&null).is_none(),
         KnownKey::lookup_mut(&mut null, &key).is_none(),
         is_refused(&mut null, &key),
+        is_change_refused(&mut null, &key),
         refused == Some(Error::NotAnObject(ValueType::Null)),
         null.value_type() == ValueType::Null,
     ];
-    assert_eq!(rt; told, [true; 5]);
+    assert_eq!(rt; told, [true; 6]);
 }
 
 #[test]
