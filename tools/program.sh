@@ -71,6 +71,7 @@ usage='usage: sjval owned|borrowed|lazy [known] [last]\n'
 
 session 'an insert and two encodes' owned '{"a":1}\n---\n["insert",[],"b",[true]]\n["encode",[]]\n' 0 'none\n{"a":1,"b":[true]}\n' ''
 session 'no commands' owned '[1]' 0 '' ''
+session 'a mark without a line feed' owned '[1]\n---' 0 '' ''
 session 'CR LF' owned '[1]\r\n---\r\n["encode",[]]\r\n' 0 '[1]\n' ''
 session 'borrowed' borrowed '{"a":1,"a":2}\n---\n["len",[]]\n["pop",[]]\n["encode",[]]\n' 0 '1\nnot an array\n{"a":1}\n' ''
 session 'lazy, read and written' lazy '{"key": "value", "snot": 42}\n---\n["str",["key"]]\n["insert",[],"new",42]\n["keys",[]]\n["fits",["snot"],"i8"]\n["remove",[],"snot"]\n["encode",[]]\n' 0 '"value"\nnone\n["key","snot","new"]\ntrue\n42\n{"key":"value","new":42}\n' ''

@@ -3,7 +3,7 @@
 use super::DOCUMENT;
 use sj_document::Document;
 use sj_object::KeyMade;
-use sj_path::{borrowed, lazy, owned, pointer};
+use sj_path::{Pointer, borrowed, lazy, owned, pointer};
 use sj_tape::to_tape;
 use sj_text_core::{Repeats, Writable};
 use std::alloc::Global;
@@ -33,6 +33,26 @@ const ROWS: [(&str, Option<&str>); 22] = [
     ("/m~01n", None),
     ("/bar", None),
     ("//", None),
+];
+
+/// Documents, and pointers that find nothing in them.
+const NOWHERE: [(&str, &str); 16] = [
+    ("5", "/0"),
+    ("5", "/a"),
+    ("true", "/"),
+    ("null", "/null"),
+    (r#""ab""#, "/0"),
+    ("[]", "/0"),
+    ("[1,[2]]", "/2"),
+    ("[1,[2]]", "/-"),
+    ("[1,[2]]", "/01"),
+    ("[1,[2]]", "/0/0"),
+    ("[1,[2]]", "/1/1"),
+    ("{}", "/"),
+    (r#"{"a":5}"#, "/b"),
+    (r#"{"a":5}"#, "/0"),
+    (r#"{"a":5}"#, "/a/a"),
+    (r#"{"a":[{"b":5}]}"#, "/a/0/c"),
 ];
 
 /// Whether that is found.
@@ -143,6 +163,46 @@ fn lazy_writes_upgrade_first(rt: HostRuntime) -> Result<(), Fail> {
     for &(text, want) in &ROWS {
         let mut value: lazy::Value<'_, '_, '_> = lazy::Value::from_tape(tape.as_value());
         assert!(rt; is_upgraded(alloc, &mut value, text, want)?, "{text}");
+    }
+    Ok(())
+}
+
+/// Whether nothing is found to write in an owned document of that text, which stays as it is.
+fn is_kept_owned(alloc: Global, text: &str, pointer: &Pointer) -> Result<bool, Fail> {
+    let mut bytes = text.as_bytes().to_vec(alloc)?;
+    let mut value = sj_owned::to_value(alloc, bytes.as_mut_slice())?;
+    let is_missing = owned::find_mut(&mut value, pointer).is_none();
+    Ok(is_missing && value.encode(alloc)?.as_str() == text)
+}
+
+/// In a borrowed one.
+fn is_kept_borrowed(alloc: Global, text: &str, pointer: &Pointer) -> Result<bool, Fail> {
+    let mut bytes = text.as_bytes().to_vec(alloc)?;
+    let mut value = sj_borrowed::to_value(alloc, bytes.as_mut_slice())?;
+    let is_missing = borrowed::find_mut(&mut value, pointer).is_none();
+    Ok(is_missing && value.encode(alloc)?.as_str() == text)
+}
+
+/// In a lazy one.
+fn is_kept_lazy(alloc: Global, text: &str, pointer: &Pointer) -> Result<bool, Fail> {
+    let mut bytes = text.as_bytes().to_vec(alloc)?;
+    let tape = to_tape(alloc, bytes.as_mut_slice())?;
+    let mut value: lazy::Value<'_, '_, '_> = lazy::Value::from_tape(tape.as_value());
+    let is_missing = lazy::find_mut(&mut value, alloc, pointer)?.is_none();
+    Ok(is_missing && value.is_value() && value.encode(alloc)?.as_str() == text)
+}
+
+#[test]
+fn nothing_found_leaves_the_document(rt: HostRuntime) -> Result<(), Fail> {
+    let alloc = rt.alloc();
+    for &(document, text) in &NOWHERE {
+        let pointer = pointer(alloc, text)?;
+        let told = [
+            is_kept_owned(alloc, document, &pointer)?,
+            is_kept_borrowed(alloc, document, &pointer)?,
+            is_kept_lazy(alloc, document, &pointer)?,
+        ];
+        assert_eq!(rt; told, [true; 3], "{document} {text}");
     }
     Ok(())
 }

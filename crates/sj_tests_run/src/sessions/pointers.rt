@@ -1,10 +1,7 @@
-//! Pointers as paths of command lines, and tokens as steps.
+//! Tokens as steps.
 
-use super::repeats::is_answered;
-use super::{SERVED, check};
 use sj_document::OwnedValue;
 use sj_run::{Command, Document, Reply, Step};
-use sj_text_core::Repeats;
 use std::alloc::Global;
 use std::process::Abort;
 use std::test::Fail;
@@ -12,63 +9,6 @@ use std::test::Fail;
 /// The document of RFC 6901, section 5, and a list with an object in it.
 pub const DOCUMENT: &str =
     r#"{"foo":["bar","baz"],"":0,"a/b":1,"c%d":2,"e^f":3,"g|h":4,"i\\j":5,"k\"l":6," ":7,"m~n":8,"list":[1,[2,{"k":"t","a":-5}]]}"#;
-
-#[test]
-fn lines_have_pointers(rt: HostRuntime) -> Result<(), Fail> {
-    let lines = r#"["encode","/foo/0"]
-["push","/foo",1]
-["put","/m~0n",null]
-["insert","/foo","k",1]
-["len","/foo/9"]
-["len","foo"]
-["len","/foo"]
-["len",["foo"]]"#;
-    let want = "> \"bar\"\nok\n8\nnot an object\nmissing\nbad command\n3\n3\n";
-    let given = format!(in rt.alloc(); "{DOCUMENT}\n---\n{lines}")?;
-    check(&rt, rt.alloc(), given.as_str(), want)
-}
-
-const LINES: &str = r#"---
-["encode","/0"]
-["encode","/39/v"]
-["encode","/l/0/v"]
-["put","/33/v",[8]]
-["push","/33/v",9]
-["encode","/33"]
-["pop","/40"]
-["insert","/l/0","w",1]
-["encode","/l"]"#;
-
-/// An object with more members than a plain list holds, the last of them an array.
-#[test]
-fn tokens_find_among_many(rt: HostRuntime) -> Result<(), Fail> {
-    let alloc = rt.alloc();
-    let mut given = String::from_str(alloc, "{")?;
-    for i in 0u8..40 {
-        given.push_str(format!(in alloc; "\"{i}\":{{\"v\":{i}}},")?.as_str())?;
-    }
-    given.push_str("\"l\":[{\"v\":7}]}\n")?;
-    given.push_str(LINES)?;
-    let want = "> {\"v\":0}\n39\n7\n33\nok\n{\"v\":[8,9]}\nmissing\nnone\n[{\"v\":7,\"w\":1}]\n";
-    check(&rt, alloc, given.as_str(), want)
-}
-
-/// Before a lazy document's first write a token finds the member that counts.
-#[test]
-fn tokens_go_by_the_choice(rt: HostRuntime) -> Result<(), Fail> {
-    let given =
-        "{\"a\":1,\"b\":2,\"a\":[3,{\"c\":4,\"c\":5}]}\n---\n[\"encode\",\"/a/1/c\"]\n[\"put\",\"/b\",0]\n[\"encode\",\"\"]";
-    for (repeats, want) in [
-        (Repeats::First, "> missing\n2\n{\"a\":1,\"b\":0}\n"),
-        (Repeats::Last, "> 5\n2\n{\"a\":[3,{\"c\":5}],\"b\":0}\n"),
-    ] {
-        for way in SERVED {
-            let is_so = is_answered(rt.alloc(), way, repeats, given, want)?;
-            assert!(rt; is_so, "{way:?} {repeats:?}");
-        }
-    }
-    Ok(())
-}
 
 /// Pairs of steps, each a key (`k`), a token (`t`) or the place 0 (`i`), and what is printed of what
 /// they find. A token may name a position, and a key may not.

@@ -5,7 +5,7 @@ use std::alloc::{AllocError, Global};
 use std::ops::Range;
 
 /// How long keys are, and where they differ.
-#[derive(Clone, Copy, Debug)]
+#[derive(Clone, Copy, Debug, PartialEq, Eq)]
 pub(super) enum Keys {
     /// Of 0 to 7 bytes.
     Short,

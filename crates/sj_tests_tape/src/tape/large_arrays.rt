@@ -4,6 +4,7 @@ use super::shapes::{Shape, array_of, holder_of, is_printed};
 use super::walks::own_tape;
 use sj_tape::{Buffers, Spare, Value, to_tape, to_tape_with_buffers, to_tape_with_spare};
 use std::alloc::Global;
+use std::process::Abort;
 use std::test::Fail;
 
 /// How many items arrays have.
@@ -56,25 +57,23 @@ fn told_alone(alloc: Global, shape: Shape, len: usize) -> Result<(usize, bool), 
     told(alloc, Some(tape.as_value()), &items)
 }
 
-#[test]
-fn items_of_one_shape(rt: HostRuntime) -> Result<(), Fail> {
-    for shape in [Shape::Scalars, Shape::Pairs, Shape::Records, Shape::Uneven] {
-        for len in LENS {
-            let told = told_alone(rt.alloc(), shape, len)?;
-            assert!(rt; told == (len, true), "{shape:?} {len}: {told:?}");
-        }
+/// All items of an array of that shape are found, and nothing behind them, at each of these lengths.
+fn check(rt: &impl Abort, alloc: Global, shape: Shape, lens: &[usize]) -> Result<(), Fail> {
+    for &len in lens {
+        let told = told_alone(alloc, shape, len)?;
+        assert!(rt; told == (len, true), "{shape:?} {len}: {told:?}");
     }
     Ok(())
 }
 
 /// Places are kept of 256 items and more, where these have five nodes on an average.
 #[test]
-fn items_as_wide_as_those_of_which_places_are_kept(rt: HostRuntime) -> Result<(), Fail> {
+fn items_of_one_shape(rt: HostRuntime) -> Result<(), Fail> {
+    for shape in [Shape::Scalars, Shape::Pairs, Shape::Records, Shape::Uneven] {
+        check(&rt, rt.alloc(), shape, &LENS)?;
+    }
     for shape in [Shape::Wide(5), Shape::WideBut(5, 0), Shape::WideBut(5, 200)] {
-        for len in [255, 256, 257] {
-            let told = told_alone(rt.alloc(), shape, len)?;
-            assert!(rt; told == (len, true), "{shape:?} {len}: {told:?}");
-        }
+        check(&rt, rt.alloc(), shape, &[255, 256, 257])?;
     }
     Ok(())
 }
@@ -94,8 +93,7 @@ const CHANGES: [(usize, usize); 7] = [
 #[test]
 fn items_that_change_in_width(rt: HostRuntime) -> Result<(), Fail> {
     for (from, changes) in CHANGES {
-        let told = told_alone(rt.alloc(), Shape::Changing(from, changes), 300)?;
-        assert!(rt; told == (300, true), "{from} {changes}: {told:?}");
+        check(&rt, rt.alloc(), Shape::Changing(from, changes), &[300])?;
     }
     Ok(())
 }
@@ -122,10 +120,8 @@ const SEAMS: [usize; 14] = [
 #[test]
 fn items_of_two_shapes(rt: HostRuntime) -> Result<(), Fail> {
     for from in SEAMS {
-        let uneven = told_alone(rt.alloc(), Shape::UnevenFrom(from), 1000)?;
-        let even = told_alone(rt.alloc(), Shape::EvenFrom(from), 1000)?;
-        assert!(rt; uneven == (1000, true), "uneven from {from}: {uneven:?}");
-        assert!(rt; even == (1000, true), "even from {from}: {even:?}");
+        check(&rt, rt.alloc(), Shape::UnevenFrom(from), &[1000])?;
+        check(&rt, rt.alloc(), Shape::EvenFrom(from), &[1000])?;
     }
     Ok(())
 }
@@ -137,10 +133,8 @@ const PLACES: [usize; 12] = [0, 1, 62, 63, 64, 65, 127, 128, 255, 256, 319, 320]
 #[test]
 fn one_record_among_others(rt: HostRuntime) -> Result<(), Fail> {
     for at in PLACES {
-        let scalars = told_alone(rt.alloc(), Shape::RecordAt(at), 321)?;
-        let arrays = told_alone(rt.alloc(), Shape::WideAround(5, at), 321)?;
-        assert!(rt; scalars == (321, true), "scalars, {at}: {scalars:?}");
-        assert!(rt; arrays == (321, true), "arrays, {at}: {arrays:?}");
+        check(&rt, rt.alloc(), Shape::RecordAt(at), &[321])?;
+        check(&rt, rt.alloc(), Shape::WideAround(5, at), &[321])?;
     }
     Ok(())
 }
@@ -208,17 +202,10 @@ const SEVERAL: [Row; 8] = [
     (Shape::EvenFrom(7300), 7000, 425),
 ];
 
+/// In an object of up to 64 members, and in one of more, before another object.
 #[test]
-fn several_arrays_in_an_object(rt: HostRuntime) -> Result<(), Fail> {
-    let found = found_in_two(rt.alloc(), (3, &SEVERAL), &SEVERAL)?;
-    assert_eq!(rt; found, [2213, 2213]);
-    Ok(())
-}
-
-/// An object of up to 64 members, and one of more, before another object.
-#[test]
-fn arrays_in_objects_of_many_members(rt: HostRuntime) -> Result<(), Fail> {
-    for numbers in [56, 57, 300] {
+fn several_arrays_in_objects(rt: HostRuntime) -> Result<(), Fail> {
+    for numbers in [3, 56, 57, 300] {
         let found = found_in_two(rt.alloc(), (numbers, &SEVERAL), &SEVERAL)?;
         assert!(rt; found == [2213, 2213], "{numbers}: {found:?}");
     }

@@ -5,6 +5,7 @@ use super::shapes::{Shape, is_printed, object_of};
 use super::walks::walked;
 use sj_tape::{Repeats, Value, Writable, to_tape};
 use std::alloc::Global;
+use std::process::Abort;
 use std::test::Fail;
 
 /// Keys that no object has.
@@ -79,65 +80,61 @@ fn told_alone(
     Ok((found, absent_keys(value, &others)))
 }
 
-/// Shapes of values, how many members have them, and how many other keys are looked up.
-const CASES: [(Shape, usize, usize); 4] = [
-    (Shape::Pairs, 1089, 247),
-    (Shape::Records, 1023, 234),
-    (Shape::Records, 1024, 234),
-    (Shape::Records, 1089, 247),
+/// Keys and values, how many members have them, and how many other keys are looked up.
+const CASES: [(Keys, Shape, usize, usize); 16] = [
+    (Keys::Short, Shape::Pairs, 1089, 247),
+    (Keys::Short, Shape::Records, 1023, 234),
+    (Keys::Short, Shape::Records, 1024, 234),
+    (Keys::Short, Shape::Records, 1089, 247),
+    (Keys::Eight, Shape::Pairs, 1089, 247),
+    (Keys::Eight, Shape::Records, 1023, 234),
+    (Keys::Eight, Shape::Records, 1024, 234),
+    (Keys::Eight, Shape::Records, 1089, 247),
+    (Keys::Middling, Shape::Pairs, 1089, 247),
+    (Keys::Middling, Shape::Records, 1023, 234),
+    (Keys::Middling, Shape::Records, 1024, 234),
+    (Keys::Middling, Shape::Records, 1089, 247),
+    // of one tag, and with escapes
+    (Keys::Long, Shape::Records, 1089, 247),
+    (Keys::Escaped, Shape::Records, 1089, 247),
+    // so many that they have twelve nodes on an average: tags are kept of the first 64, and of all
+    (Keys::Eight, Shape::UnevenFrom(17), 1089, 247),
+    (Keys::Eight, Shape::UnevenFrom(1000), 1092, 248),
 ];
 
-/// How many of the cases are told as they are made, up to one that is not.
-fn right_cases(alloc: Global, keys: Keys) -> Result<usize, Fail> {
-    for (i, (shape, len, absent)) in CASES.iter().enumerate() {
-        let told = told_alone(alloc, (keys, Repeats::First), *shape, *len)?;
-        if told != (*len, *absent) {
-            return Ok(i);
+/// The members of each object with keys of that kind are found, and no others.
+fn check(rt: &impl Abort, alloc: Global, wanted: Keys) -> Result<(), Fail> {
+    let mut cases = 0_u8;
+    for &(keys, shape, len, absent) in &CASES {
+        if keys == wanted {
+            let told = told_alone(alloc, (keys, Repeats::First), shape, len)?;
+            assert!(rt; told == (len, absent), "{keys:?} {shape:?} {len}: {told:?}");
+            cases = cases.saturating_add(1);
         }
     }
-    Ok(CASES.len())
+    assert!(rt; cases > 0, "no case of {wanted:?}");
+    Ok(())
 }
 
 #[test]
 fn short_keys(rt: HostRuntime) -> Result<(), Fail> {
-    assert_eq!(rt; right_cases(rt.alloc(), Keys::Short)?, 4);
-    Ok(())
+    check(&rt, rt.alloc(), Keys::Short)
 }
 
 #[test]
 fn keys_of_eight_bytes(rt: HostRuntime) -> Result<(), Fail> {
-    assert_eq!(rt; right_cases(rt.alloc(), Keys::Eight)?, 4);
-    Ok(())
+    check(&rt, rt.alloc(), Keys::Eight)
 }
 
 #[test]
 fn keys_of_nine_bytes_and_more(rt: HostRuntime) -> Result<(), Fail> {
-    assert_eq!(rt; right_cases(rt.alloc(), Keys::Middling)?, 4);
-    Ok(())
+    check(&rt, rt.alloc(), Keys::Middling)
 }
 
 #[test]
-fn keys_with_one_tag(rt: HostRuntime) -> Result<(), Fail> {
-    let told = told_alone(
-        rt.alloc(),
-        (Keys::Long, Repeats::First),
-        Shape::Records,
-        1089,
-    )?;
-    assert_eq!(rt; told, (1089, 247));
-    Ok(())
-}
-
-#[test]
-fn keys_with_escapes(rt: HostRuntime) -> Result<(), Fail> {
-    let told = told_alone(
-        rt.alloc(),
-        (Keys::Escaped, Repeats::First),
-        Shape::Records,
-        1089,
-    )?;
-    assert_eq!(rt; told, (1089, 247));
-    Ok(())
+fn keys_with_one_tag_or_escapes(rt: HostRuntime) -> Result<(), Fail> {
+    check(&rt, rt.alloc(), Keys::Long)?;
+    check(&rt, rt.alloc(), Keys::Escaped)
 }
 
 #[test]
@@ -145,17 +142,6 @@ fn the_last_of_many_members(rt: HostRuntime) -> Result<(), Fail> {
     let form = (Keys::Eight, Repeats::Last);
     let told = told_alone(rt.alloc(), form, Shape::UnevenFrom(64), 257)?;
     assert_eq!(rt; told, (257, 81));
-    Ok(())
-}
-
-#[test]
-fn uneven_values_behind_even_ones(rt: HostRuntime) -> Result<(), Fail> {
-    // So many that they have twelve nodes on an average: tags are kept of the first 64, and of all.
-    for (from, len, absent) in [(17, 1089, 247), (1000, 1092, 248)] {
-        let shape = Shape::UnevenFrom(from);
-        let told = told_alone(rt.alloc(), (Keys::Eight, Repeats::First), shape, len)?;
-        assert!(rt; told == (len, absent), "{from}: {told:?}");
-    }
     Ok(())
 }
 
