@@ -1,4 +1,4 @@
-.PHONY: demo test programs docs check-docs check-edits check-use check-program check-depth check-refusals check-broken check-bench
+.PHONY: demo test programs docs check-docs check-edits check-use check-program check-depth check-refusals check-broken check-bench check-bindings bindings library call-bindings bench-bindings
 
 # Runs README's first program, in about a minute. It proves nothing.
 demo:
@@ -46,6 +46,7 @@ check-use:
 check-program:
 	tools/program.sh crates/sjval/out/sjval
 	tools/replies.py crates/sjval/out/sjval
+	tools/sessions.py crates/sjval/out/sjval
 	tools/sjroute.sh crates/sjroute/out/sjroute
 	tools/console.py docs/SJROUTE.md crates/sjroute/out/sjroute
 	tools/sjpatch.sh crates/sjpatch/out/sjpatch
@@ -71,3 +72,24 @@ check-broken:
 # Counts what the benchmark's programs take, beside bench/instructions.txt. Needs valgrind and gcc, and `make test` before it.
 check-bench:
 	bench/instructions
+
+# Looks at what C, Rust and Python call the static library by, without building that. Needs gcc; what it leaves out without
+# cargo, python3 and their kin it says.
+check-bindings:
+	tools/bindings.sh
+
+# Builds the static library, and builds and tests what calls it. Needs gcc; what it leaves out without valgrind, cargo, python3
+# and their kin it says.
+bindings: library call-bindings
+
+# Builds the static library, which proves it and all crates below anew.
+library:
+	cd crates/sj_c && rt lib
+
+# Builds and tests what calls the static library.
+call-bindings:
+	tools/bindings.sh crates/sj_c/out/libsj_c.a
+
+# Measures the Rust side beside serde_json, where Debian's package of that is there. It asserts nothing.
+bench-bindings:
+	tools/bench_bindings.sh crates/sj_c/out/libsj_c.a

@@ -115,13 +115,13 @@ for members in 33 64 66; do
 done
 for members in 0 32 64; do
   after="$((members + 1)) members"$'\n'
-  for call in insert known_insert lookup_or_insert map_insert map_lookup_or_insert; do
+  for call in insert known_insert lookup_or_insert change_or_insert map_insert map_lookup_or_insert; do
     each "member $call $members" \
       "call: OutOfMemory, value as before, object as before, then inserted, $after" \
       "call: inserted, $after"
   done
 done
-for call in insert known_insert lookup_or_insert map_insert map_lookup_or_insert; do
+for call in insert known_insert lookup_or_insert change_or_insert map_insert map_lookup_or_insert; do
   free "member_present $call 32" $'call: was there, value as before, 32 members\n'
   free "member_present $call 64" $'call: was there, value as before, 64 members\n'
 done

@@ -7,7 +7,8 @@ in that file. In a page COOKBOOK.md a block has to be the whole of one file of c
 begin with `//!` and the blank line behind them; and each `use crate::FILE::..` in it has to name a file that is a block of that page;
 a ```text block that begins with `use Rattle.` has to be the whole of one file of its proofs.
 Each line of an example in a library's comments has to stand in crates/sj_recipes, or in a test where that has it not: without what
-follows `//`, and maybe inside of a longer line. Tells each piece or line that is in none, and ends with 1 where it told one; the last
+follows `//`, and maybe inside of a longer line. A block that begins with ```c, ```rs or ```python has to stand in an example of
+bindings/ that its tests run, in the same way. Tells each piece or line that is in none, and ends with 1 where it told one; the last
 line has the numbers.
 """
 import re
@@ -102,15 +103,35 @@ def unlike_files(page):
     return len(found) + len(proof), wrong
 
 
+# the programs that tools/bindings.sh runs
+EXAMPLES = {"c": "bindings/c/example.c", "rs": "bindings/rust/examples/*.rs", "python": "bindings/python/example.py"}
+
+
+def in_no_example(page):
+    """What of a page in another language stands in no example of the bindings, and how many pieces there are."""
+    count, wrong = 0, []
+    for kind, pattern in EXAMPLES.items():
+        sources = [path.read_text() for path in sorted(ROOT.glob(pattern))]
+        for line, block in blocks(page, kind):
+            for piece in re.split(r"\n\n(?=\s*\S)", block.strip("\n")):
+                count += 1
+                if not stands(plain(piece), sources):
+                    wrong.append(f"{page}:{line}: in no example: {piece.splitlines()[0]}")
+    return count, wrong
+
+
 def main():
     pages = [Path(p) for p in sys.argv[1:]] or [ROOT / "README.md", *sorted((ROOT / "docs").rglob("*.md"))]
     sources = [p.read_text() for p in sorted((ROOT / "crates").glob("*/src/**/*.rt")) if "sj_tests" not in str(p)]
     shown, wrong = (0, []) if sys.argv[1:] else untried()
     count = 0
     for page in pages:
-        pieces, lines = unlike_files(page) if page.name == "COOKBOOK.md" else unstanding(page, sources)
-        count += pieces
-        wrong += lines
+        for pieces, lines in [
+            unlike_files(page) if page.name == "COOKBOOK.md" else unstanding(page, sources),
+            in_no_example(page),
+        ]:
+            count += pieces
+            wrong += lines
     for line in wrong:
         print(line)
     print(f"{len(pages)} pages, {count} snippets, {shown} lines of examples, {len(wrong)} in no source")
