@@ -47,6 +47,8 @@ check-program:
 	tools/program.sh crates/sjval/out/sjval
 	tools/replies.py crates/sjval/out/sjval
 	tools/sessions.py crates/sjval/out/sjval
+	tools/lookups.py crates/sjval/out/sjval
+	tools/members.py crates/sjval/out/sjval
 	tools/sjroute.sh crates/sjroute/out/sjroute
 	tools/console.py docs/SJROUTE.md crates/sjroute/out/sjroute
 	tools/sjpatch.sh crates/sjpatch/out/sjpatch

@@ -1,12 +1,9 @@
 ghost use Rattle.std.specs.Prelude.{◌≡◌, ◌<◌};
 
 mod beside;
-mod fronts;
 mod hashed;
-mod holes;
 mod ring;
 mod shifts;
-mod turned;
 
 use sj_object::*;
 use sj_text_core::Steps;

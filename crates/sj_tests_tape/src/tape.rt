@@ -1,16 +1,9 @@
 mod bare;
 mod comparisons;
-mod keys;
-mod large_arrays;
-mod large_objects;
 mod prints;
 mod reader;
 mod reads;
-mod runs;
-mod shapes;
-mod tags;
 mod values;
-mod walks;
 
 use sj_tape::{Array, Node, Object, Tape, Value};
 use sj_text_core::ValueAsScalar;
