@@ -8,6 +8,7 @@ use std::alloc::{AllocError, Global};
 /// What readings share, one after another: for how many nodes the next one makes room at once, as
 /// many as the largest text had that was read. What a reading answers does not depend on what was read with the
 /// same buffers before, and they can be used again whatever it answered.
+#[repr(C)]
 #[derive(Drop)]
 pub struct Buffers {
     pub(crate) nodes: usize,
