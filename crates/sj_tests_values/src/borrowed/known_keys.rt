@@ -119,17 +119,24 @@ fn put<'v>(n: u64) -> Replace<BorrowedValue<'v>> {
     Replace { value: number(n) }
 }
 
+/// Whether the change was made, where that number stood before it.
+fn was<E: Drop>(answer: Result<BorrowedValue<'_>, E>, n: u64) -> bool {
+    match answer {
+        Ok(before) => before.same_as(&n),
+        Err(_) => false,
+    }
+}
+
 /// Changes two keys of an object with the member `key` of 1, which get 3 first where absent.
 fn changed_or_inserted(alloc: Global, mut value: BorrowedValue<'_>) -> Result<[bool; 3], Fail> {
     let first = KnownKey::from("key");
     let second = KnownKey::from("cake");
+    let present = KnownKey::change_or_insert(&mut value, &first, number(3), put(4));
+    let is_changed = was(present, 1);
+    let absent = KnownKey::change_or_insert(&mut value, &second, number(3), put(5));
     Ok([
-        KnownKey::change_or_insert(&mut value, &first, number(3), put(4)).is_ok_and(
-            |before| before.same_as(&1_u64),
-        ),
-        KnownKey::change_or_insert(&mut value, &second, number(3), put(5)).is_ok_and(
-            |before| before.same_as(&3_u64),
-        ),
+        is_changed,
+        was(absent, 3),
         value.encode(alloc)?.as_str() == "{\"key\":4,\"cake\":5}",
     ])
 }
