@@ -1,6 +1,6 @@
 //! Documents of scalars, and empty arrays and objects.
 
-ghost use Rattle.std.specs.Prelude.{◌≡◌, ◌≢◌, ◌^◌, ◌<◌, ◌≤◌, ℤ, ◌+ℤ◌, pos, true, false, Some};
+ghost use Rattle.std.specs.Prelude.{◌≡◌, ◌≢◌, ◌↔◌, ◌^◌, ◌<◌, ◌≤◌, ℤ, ◌+ℤ◌, pos, true, false, Some, IsUtf8};
 ghost use Rattle.sj_text_core.specs.Tree.{null, boolean, int, text, list, obj, no_items, no_members, i64, u64, i128, u128};
 ghost use Rattle.sj_c.specs.Meant.{meant};
 ghost use Rattle.sj_c.specs.Shown.{wide};
@@ -16,6 +16,7 @@ use std::alloc::Global;
 #[unsafe(no_mangle)]
 pub extern "C" fn sj_of_null(alloc: Global, doc: &mut Doc) -> u32
     ensures ok { result ≡ OK → meant doc.new.kept.holds ≡ Some null }
+    ensures answers { result ≢ OK → result ≡ OUT_OF_MEMORY }
     ensures err { result ≢ OK → doc.new.kept.holds ≡ doc.old.kept.holds }
 {
     hold(alloc, doc, OwnedValue::from(()))
@@ -25,6 +26,7 @@ pub extern "C" fn sj_of_null(alloc: Global, doc: &mut Doc) -> u32
 #[unsafe(no_mangle)]
 pub extern "C" fn sj_of_bool(alloc: Global, doc: &mut Doc, truth: bool) -> u32
     ensures ok { result ≡ OK → meant doc.new.kept.holds ≡ Some (boolean truth) }
+    ensures answers { result ≢ OK → result ≡ OUT_OF_MEMORY }
     ensures err { result ≢ OK → doc.new.kept.holds ≡ doc.old.kept.holds }
 {
     hold(alloc, doc, OwnedValue::from(truth))
@@ -34,6 +36,7 @@ pub extern "C" fn sj_of_bool(alloc: Global, doc: &mut Doc, truth: bool) -> u32
 #[unsafe(no_mangle)]
 pub extern "C" fn sj_of_signed(alloc: Global, doc: &mut Doc, number: i64) -> u32
     ensures ok { result ≡ OK → meant doc.new.kept.holds ≡ Some (int number i64) }
+    ensures answers { result ≢ OK → result ≡ OUT_OF_MEMORY }
     ensures err { result ≢ OK → doc.new.kept.holds ≡ doc.old.kept.holds }
 {
     hold(alloc, doc, OwnedValue::from(number))
@@ -43,6 +46,7 @@ pub extern "C" fn sj_of_signed(alloc: Global, doc: &mut Doc, number: i64) -> u32
 #[unsafe(no_mangle)]
 pub extern "C" fn sj_of_unsigned(alloc: Global, doc: &mut Doc, number: u64) -> u32
     ensures ok { result ≡ OK → meant doc.new.kept.holds ≡ Some (int (pos number) u64) }
+    ensures answers { result ≢ OK → result ≡ OUT_OF_MEMORY }
     ensures err { result ≢ OK → doc.new.kept.holds ≡ doc.old.kept.holds }
 {
     hold(alloc, doc, OwnedValue::from(number))
@@ -60,6 +64,7 @@ pub extern "C" fn sj_of_wide(
     ensures unsigned { is_signed ≡ false → result ≡ OK → meant doc.new.kept.holds ≡ Some (int (pos (wide low high)) u128) }
     ensures above { is_signed ≡ true → high < 2 ^ 63 → result ≡ OK → meant doc.new.kept.holds ≡ Some (int (pos (wide low high)) u128) }
     ensures below { is_signed ≡ true → 2 ^ 63 ≤ high → result ≡ OK → (n : ℤ) × (n +ℤ pos (2 ^ 128) ≡ pos (wide low high)) × (meant doc.new.kept.holds ≡ Some (int n i128)) }
+    ensures answers { result ≢ OK → result ≡ OUT_OF_MEMORY }
     ensures err { result ≢ OK → doc.new.kept.holds ≡ doc.old.kept.holds }
 {
     if is_signed && high >= 1 << 63 {
@@ -73,6 +78,8 @@ pub extern "C" fn sj_of_wide(
 #[unsafe(no_mangle)]
 pub extern "C" fn sj_of_text(alloc: Global, doc: &mut Doc, bytes: &[u8]) -> u32
     ensures ok { result ≡ OK → meant doc.new.kept.holds ≡ Some (text bytes.now) }
+    ensures utf8 { (result ≡ BAD_ARGUMENT) ↔ ¬ (IsUtf8 bytes.now) }
+    ensures answers { result ≢ OK → result ≢ BAD_ARGUMENT → result ≡ OUT_OF_MEMORY }
     ensures err { result ≢ OK → doc.new.kept.holds ≡ doc.old.kept.holds }
 {
     let Ok(text) = std::str::from_utf8(bytes) else {
@@ -88,6 +95,7 @@ pub extern "C" fn sj_of_text(alloc: Global, doc: &mut Doc, bytes: &[u8]) -> u32
 #[unsafe(no_mangle)]
 pub extern "C" fn sj_of_array(alloc: Global, doc: &mut Doc) -> u32
     ensures ok { result ≡ OK → meant doc.new.kept.holds ≡ Some (list no_items) }
+    ensures answers { result ≢ OK → result ≡ OUT_OF_MEMORY }
     ensures err { result ≢ OK → doc.new.kept.holds ≡ doc.old.kept.holds }
 {
     match OwnedValue::array(alloc) {
@@ -100,6 +108,7 @@ pub extern "C" fn sj_of_array(alloc: Global, doc: &mut Doc) -> u32
 #[unsafe(no_mangle)]
 pub extern "C" fn sj_of_object(alloc: Global, doc: &mut Doc) -> u32
     ensures ok { result ≡ OK → meant doc.new.kept.holds ≡ Some (obj no_members) }
+    ensures answers { result ≢ OK → result ≡ OUT_OF_MEMORY }
     ensures err { result ≢ OK → doc.new.kept.holds ≡ doc.old.kept.holds }
 {
     match OwnedValue::object(alloc) {

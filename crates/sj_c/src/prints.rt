@@ -111,6 +111,7 @@ pub extern "C" fn sj_text_bytes(
 ) -> u32
     ensures len { result ≡ OK → option_map length (print_of text.old.kept.holds) ≡ Some len.new }
     ensures empty { (result ≡ EMPTY) ↔ (text.old.kept.holds ≡ None) }
+    ensures answers { result ≢ OK → (result ≡ EMPTY) × (len.new ≡ len.old) }
     ensures kept { text.new.kept.holds ≡ text.old.kept.holds }
 {
     let Some(printed) = text.take(alloc) else {

@@ -1,11 +1,16 @@
 //! Sessions over bytes: a document and command lines behind it.
 
-ghost use Rattle.std.specs.Prelude.{◌≡◌, ◌≢◌, ℕ, List, Some};
-ghost use Rattle.sj_run.specs.Session.{IsAnsweredBy};
+ghost use Rattle.std.specs.Prelude.{◌≡◌, ◌≢◌, ◌↔◌, ℕ, List, Some, None, IsUtf8};
+ghost use Rattle.sj_text_core.specs.Grammar.{IsReadable};
+ghost use Rattle.sj_commands.specs.Lines.{document};
+ghost use Rattle.sj_run.specs.Session.{IsAnsweredBy, PassesAllBy};
 ghost use Rattle.sj_c.specs.Meant.{print_of, choice};
+ghost use Rattle.sj_c.specs.Statuses.{form_of};
 
 use crate::prints::hold_print;
-use crate::status::{OK, USAGE, choice_of, code_of_session};
+use crate::status::{
+    INVALID_UTF8, OK, OUT_OF_MEMORY, TOO_LONG, USAGE, choice_of, code_of_session, form_by,
+};
 use crate::text::Text;
 use sj_run::{Form, Way, session_repeats};
 use std::alloc::Global;
@@ -21,20 +26,19 @@ pub extern "C" fn sj_session(
     last: bool,
     text: &mut Text,
 ) -> u32
-    ensures owned { form ≡ 0 → result ≡ OK → (written : List ℕ) × (print_of text.new.kept.holds ≡ Some written) × IsAnsweredBy (choice last) Form.Owned input.old written }
-    ensures borrowed { form ≡ 1 → result ≡ OK → (written : List ℕ) × (print_of text.new.kept.holds ≡ Some written) × IsAnsweredBy (choice last) Form.Borrowed input.old written }
-    ensures lazy { form ≡ 2 → result ≡ OK → (written : List ℕ) × (print_of text.new.kept.holds ≡ Some written) × IsAnsweredBy (choice last) Form.Lazy input.old written }
+    ensures ok { result ≡ OK → (f : Form) × (written : List ℕ) × (form_of form ≡ Some f) × (print_of text.new.kept.holds ≡ Some written) × IsAnsweredBy (choice last) f input.old written }
+    ensures too_long { result ≡ TOO_LONG → (f : Form) × (form_of form ≡ Some f) × PassesAllBy (choice last) f input.old 0 }
+    ensures usage { (result ≡ USAGE) ↔ (form_of form ≡ None) }
+    ensures utf8 { form_of form ≢ None → ((result ≡ INVALID_UTF8) ↔ ¬ (IsUtf8 (document input.old))) }
+    ensures unread { result ≢ OK → result ≢ USAGE → result ≢ TOO_LONG → result ≢ OUT_OF_MEMORY → ¬ (IsReadable (document input.old)) }
     ensures err { result ≢ OK → text.new.kept.holds ≡ text.old.kept.holds }
 {
-    let chosen = match form {
-        0 => Form::Owned,
-        1 => Form::Borrowed,
-        2 => Form::Lazy,
-        _ => return USAGE,
+    let Some(form) = form_by(form) else {
+        return USAGE;
     };
     let choice = choice_of(last);
     let mut bytes = Vec::new(alloc);
-    match session_repeats(alloc, chosen, Way::ByText, choice, input, &mut bytes) {
+    match session_repeats(alloc, form, Way::ByText, choice, input, &mut bytes) {
         Ok(()) => hold_print(alloc, text, bytes),
         Err(fault) => code_of_session(fault),
     }

@@ -2,9 +2,10 @@
 
 ghost use Rattle.std.specs.Prelude.{◌≡◌, ◌≢◌, ◌⊎◌, ◌↔◌, ◌≤◌};
 ghost use Rattle.sj_c.specs.Refusals.{access_status};
+ghost use Rattle.sj_c.specs.Statuses.{form_of, kind_status, session_status};
 ghost use Rattle.sj_c.specs.Meant.{choice};
 
-use sj_run::{SessionFault, Why};
+use sj_run::{Form, SessionFault, Why};
 use sj_text_core::{AccessError, ErrorKind, Repeats, WriteError};
 
 /// Done.
@@ -44,6 +45,7 @@ pub const TOO_DEEP: u32 = 21;
 
 /// The status of a refused reading.
 pub fn code_of_kind(kind: ErrorKind) -> u32
+    ensures status { result ≡ kind_status kind }
     ensures fault { result ≢ OK }
     ensures found { result ≢ MISSING }
     ensures utf8 { (result ≡ INVALID_UTF8) ↔ (kind ≡ ErrorKind.InvalidUtf8) }
@@ -90,7 +92,12 @@ pub fn code_of_why(why: Why) -> u32
 
 /// The status of a refused session.
 pub fn code_of_session(fault: SessionFault) -> u32
+    ensures status { result ≡ session_status fault }
     ensures fault { result ≢ OK }
+    ensures usage { (result ≡ USAGE) ↔ (fault ≡ SessionFault.Usage) }
+    ensures too_long { (result ≡ TOO_LONG) ↔ (fault ≡ SessionFault.TooLong) }
+    ensures utf8 { (result ≡ INVALID_UTF8) ↔ (fault ≡ SessionFault.Refused ErrorKind.InvalidUtf8) }
+    ensures unread { result ≢ USAGE → result ≢ TOO_LONG → result ≢ OUT_OF_MEMORY → (k : ErrorKind) × (fault ≡ SessionFault.Refused k) }
 {
     match fault {
         SessionFault::Usage => USAGE,
@@ -117,4 +124,16 @@ pub fn choice_of(last: bool) -> Repeats
     ensures { result ≡ choice last }
 {
     if last { Repeats::Last } else { Repeats::First }
+}
+
+/// The form of a session with the number: 0 owned, 1 borrowed, 2 lazy.
+pub fn form_by(number: u32) -> Option<Form>
+    ensures { result ≡ form_of number }
+{
+    match number {
+        0 => Some(Form::Owned),
+        1 => Some(Form::Borrowed),
+        2 => Some(Form::Lazy),
+        _ => None,
+    }
 }
