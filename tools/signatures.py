@@ -12,6 +12,7 @@ from pathlib import Path
 
 ROOT = Path(__file__).resolve().parent.parent
 SOURCES = ROOT / "crates/sj_c/src"
+BUFFERS = ROOT / "crates/sj_tape/src/reader/buffers.rt"
 
 # an export's type: what stands for it in C, in Rust and in Python
 CROSSES = {
@@ -24,6 +25,7 @@ CROSSES = {
     "*const u8": [("const uint8_t *", "*const u8", "_PLACE")],
     "&mut Doc": [("sj_doc *", "*mut Doc", "_DOC")],
     "&mut Text": [("sj_text *", "*mut Text", "_TEXT")],
+    "&mut Buffers": [("sj_buffers *", "*mut Buffers", "_BUFFERS")],
     "&mut Found": [("sj_value *", "*mut Found", "_FOUND")],
     "&mut bool": [("bool *", "*mut bool", "_BOOL_OUT")],
     "&mut usize": [("size_t *", "*mut usize", "_SIZE_OUT")],
@@ -35,7 +37,7 @@ CROSSES = {
     "Found": [("sj_value", "Found", "_Found")],
 }
 C, RUST, PYTHON = range(3)
-STRUCTS = {"Found": ("sj_value", "_Found"), "Member": ("sj_member", "_Member")}
+STRUCTS = {"Found": ("sj_value", "_Found"), "Member": ("sj_member", "_Member"), "Buffers": ("sj_buffers", "Buffers")}
 CTYPES = {"c_uint32": "_U32", "c_bool": "_BOOL", "c_int64": "_I64", "c_uint64": "_U64", "c_size_t": "_SIZE", "c_void_p": "_PLACE"}
 
 
@@ -63,9 +65,9 @@ def exports():
 
 def structs():
     """The fields' types of each struct that crosses."""
-    text = "\n".join(path.read_text() for path in sorted(SOURCES.rglob("*.rt")))
+    text = "\n".join(path.read_text() for path in [*sorted(SOURCES.rglob("*.rt")), BUFFERS])
     bodies = {name: re.search(rf"pub struct {name} \{{\n(.*?)\n\}}", text, re.S)[1] for name in STRUCTS}
-    return {name: [bare(kind) for kind in re.findall(r"^    pub \w+: (.*),$", body, re.M)] for name, body in bodies.items()}
+    return {name: [bare(kind) for kind in re.findall(r"^    pub(?:\(crate\))? \w+: (.*),$", body, re.M)] for name, body in bodies.items()}
 
 
 def in_header(text):

@@ -70,6 +70,7 @@ static bool holds(sj_doc *doc, const char *want) {
 
 enum call {
     READ,
+    READ_WITH_BUFFERS,
     PRINT,
     CLONE,
     SAME,
@@ -96,31 +97,19 @@ enum call {
     SESSION,
     CALLS
 };
-static const char *const names[CALLS] = {"read",
-                                         "print",
-                                         "clone",
-                                         "same",
-                                         "of_text",
-                                         "of_array",
-                                         "find",
-                                         "print_at",
-                                         "clone_at",
-                                         "items",
-                                         "members",
-                                         "peek",
-                                         "insert",
-                                         "push",
-                                         "put",
-                                         "set",
-                                         "remove",
-                                         "pop",
-                                         "print_canonical",
-                                         "patch",
-                                         "diff",
-                                         "merge",
-                                         "merge_diff",
-                                         "lines",
-                                         "session"};
+static const char *const names[CALLS] = {"read",     "read_with_buffers",
+                                         "print",    "clone",
+                                         "same",     "of_text",
+                                         "of_array", "find",
+                                         "print_at", "clone_at",
+                                         "items",    "members",
+                                         "peek",     "insert",
+                                         "push",     "put",
+                                         "set",      "remove",
+                                         "pop",      "print_canonical",
+                                         "patch",    "diff",
+                                         "merge",    "merge_diff",
+                                         "lines",    "session"};
 
 static sj_status make(enum call call, struct world *w) {
     char text[] = "{\"q\":[\"text\",{\"r\":1}]}",
@@ -130,8 +119,11 @@ static sj_status make(enum call call, struct world *w) {
     sj_member members[2];
     size_t count;
     bool same;
+    sj_buffers buffers = {0};
     switch (call) {
     case READ: return sj_read(&w->doc, (uint8_t *)text, strlen(text), false);
+    case READ_WITH_BUFFERS:
+        return sj_read_with_buffers(&w->doc, (uint8_t *)text, strlen(text), &buffers);
     case PRINT: return sj_print(&w->doc, &w->text, true);
     case CLONE: return sj_clone(&w->doc, &w->old);
     case SAME: return sj_same(&w->doc, &w->value, &same);

@@ -59,6 +59,13 @@ typedef struct sj_text {
     bool private_is_open;
 } sj_text;
 
+/* What readings share, one after another: for how many nodes of a text the next one makes room at
+ * once, which is as many as the largest text had so far. Zero bytes are for none: `sj_buffers
+ * buffers = {0};`. They hold no memory, so there is nothing to let go. */
+typedef struct sj_buffers {
+    size_t private_nodes;
+} sj_buffers;
+
 enum { SJ_MAX_LEVELS = 1024, SJ_MAX_MERGE_LEVELS = 256 };
 
 typedef uint32_t sj_status;
@@ -138,6 +145,9 @@ typedef struct sj_member {
 /* Reads one text into doc. Of several members with one key the first stays, or, where last is true,
  * the last, in the place of the first. Refused, doc holds what it held. */
 sj_status sj_read(sj_doc *doc, uint8_t *bytes, size_t len, bool last);
+
+/* The same, where the first stays, for one text after another. */
+sj_status sj_read_with_buffers(sj_doc *doc, uint8_t *bytes, size_t len, sj_buffers *buffers);
 
 /* Lets the document go. */
 void sj_free(sj_doc *doc);

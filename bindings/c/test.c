@@ -90,6 +90,21 @@ static void reads_and_prints(void) {
     sj_text_free(&text);
 }
 
+/* Texts one after another, of which one is refused. */
+static void reads_with_buffers(void) {
+    sj_doc doc = {0};
+    sj_buffers buffers = {0};
+    char texts[3][32] = {"[1,[2,3],{\"k\":4,\"k\":5}]", "[1,", "{\"k\":1,\"k\":2}"};
+    sj_status wanted[3] = {SJ_OK, SJ_SYNTAX, SJ_OK};
+    const char *kept[3] = {"[1,[2,3],{\"k\":4}]", "[1,[2,3],{\"k\":4}]", "{\"k\":1}"};
+    for (size_t i = 0; i < 3; i++) {
+        uint8_t *text = (uint8_t *)texts[i];
+        CHECK(sj_read_with_buffers(&doc, text, strlen(texts[i]), &buffers) == wanted[i]);
+        CHECK(prints(&doc, false, kept[i]));
+    }
+    sj_free(&doc);
+}
+
 /* A text of so many levels: arrays, or objects of one member. */
 static void nest(char *text, size_t levels, bool is_object) {
     const char *opened = is_object ? "{\"a\":" : "[";
@@ -420,6 +435,7 @@ static void texts_and_lines(void) {
 int main(void) {
     empty_handles();
     reads_and_prints();
+    reads_with_buffers();
     levels();
     finds();
     parts();

@@ -18,7 +18,7 @@ import json
 import os
 from typing import Any, Callable, Dict, Iterator, List, Optional, Tuple, Union
 
-__all__ = ["Document", "Value", "JsonError", "session"]
+__all__ = ["Buffers", "Document", "Value", "JsonError", "session"]
 
 Bytes = Union[str, bytes, bytearray]
 _Call = Callable[[Any], Any]
@@ -47,7 +47,14 @@ class _Member(ctypes.Structure):
     _fields_ = [("key", ctypes.c_void_p), ("key_len", ctypes.c_size_t), ("value", _Found)]
 
 
+class Buffers(ctypes.Structure):
+    """What readings share, one after another: room at once for as much as the largest text so far had."""
+
+    _fields_ = [("_nodes", ctypes.c_size_t)]
+
+
 _DOC = _TEXT = ctypes.POINTER(_Handle)
+_BUFFERS = ctypes.POINTER(Buffers)
 _FOUND = ctypes.POINTER(_Found)
 _MEMBER = ctypes.POINTER(_Member)
 _READ = ctypes.c_char_p
@@ -64,6 +71,7 @@ _I64 = ctypes.c_int64
 # Each call of sj.h: what it answers, and what it takes.
 _CALLS: Dict[str, Tuple[Any, ...]] = {
     "sj_read": (_U32, _DOC, _WRITTEN, _SIZE, _BOOL),
+    "sj_read_with_buffers": (_U32, _DOC, _WRITTEN, _SIZE, _BUFFERS),
     "sj_free": (None, _DOC),
     "sj_clone": (_U32, _DOC, _DOC),
     "sj_same": (_U32, _DOC, _DOC, _BOOL_OUT),
@@ -221,6 +229,14 @@ class Document:
         data = _utf8(text)
         doc = cls()
         _check(_lib.sj_read(doc._at, _room(data), len(data), last))
+        return doc
+
+    @classmethod
+    def parse_with_buffers(cls, text: Bytes, buffers: Buffers) -> "Document":
+        """Reads a text, one of many; of several members with one key the first stays."""
+        data = _utf8(text)
+        doc = cls()
+        _check(_lib.sj_read_with_buffers(doc._at, _room(data), len(data), ctypes.byref(buffers)))
         return doc
 
     @classmethod

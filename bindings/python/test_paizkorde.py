@@ -9,7 +9,7 @@ import random
 import threading
 import unittest
 
-from paizkorde import Document, JsonError, Value, session
+from paizkorde import Buffers, Document, JsonError, Value, session
 
 
 def tearDownModule():
@@ -236,6 +236,14 @@ class Calls(unittest.TestCase):
     def test_first_and_last(self):
         self.assertEqual(str(Document.parse('{"k":1,"j":2,"k":3}')), '{"k":1,"j":2}')
         self.assertEqual(str(Document.parse('{"k":1,"j":2,"k":3}', last=True)), '{"k":3,"j":2}')
+
+    def test_one_after_another(self):
+        buffers = Buffers()
+        for text in ["[1,[2,3]]", "[4]", '{"k":5}']:
+            self.assertEqual(str(Document.parse_with_buffers(text, buffers)), text)
+        with self.assertRaises(JsonError):
+            Document.parse_with_buffers("[", buffers)
+        self.assertEqual(str(Document.parse_with_buffers("[6]", buffers)), "[6]")
 
     def test_sessions(self):
         doc = Document.parse('{"a":[1]}')

@@ -17,6 +17,16 @@ pub enum Keep {
     Last,
 }
 
+/// What readings share, one after another: for how many nodes of a text the next one makes room at
+/// once, which is as many as the largest text had so far.
+pub struct Buffers(raw::Buffers);
+
+impl Default for Buffers {
+    fn default() -> Buffers {
+        Buffers(raw::Buffers::new())
+    }
+}
+
 /// A document that owns its texts. It may go to another thread, and is used by one at a time.
 pub struct Document(raw::Doc);
 
@@ -63,6 +73,24 @@ impl Document {
     pub fn parse_in_place(bytes: &mut [u8], keep: Keep) -> Result<Document> {
         let mut document = Document::empty();
         check(document.0.read(bytes, keep == Keep::Last))?;
+        Ok(document)
+    }
+
+    /// Reads one text of many, with room at once for what the largest before had. The bytes are
+    /// written over.
+    ///
+    /// ```
+    /// # use paizkorde::{Buffers, Document};
+    /// let mut buffers = Buffers::default();
+    /// for line in ["[1]", "[1,2]"] {
+    ///     let document = Document::parse_with_buffers(&mut line.to_owned().into_bytes(), &mut buffers)?;
+    ///     assert_eq!(document.to_string(), line);
+    /// }
+    /// # Ok::<(), paizkorde::Error>(())
+    /// ```
+    pub fn parse_with_buffers(bytes: &mut [u8], buffers: &mut Buffers) -> Result<Document> {
+        let mut document = Document::empty();
+        check(document.0.read_with_buffers(bytes, &mut buffers.0))?;
         Ok(document)
     }
 

@@ -74,7 +74,7 @@ mod text;
 mod value;
 
 pub use convert::IntoDocument;
-pub use document::{Document, Keep, Refused};
+pub use document::{Buffers, Document, Keep, Refused};
 pub use error::{Error, PatchFault, Result};
 pub use input::{peek, session, Form, Peeked};
 pub use text::Text;

@@ -99,6 +99,15 @@ unsafe fn text_at<'t>(at: *const u8, len: usize) -> &'t str {
     unsafe { std::str::from_utf8_unchecked(std::slice::from_raw_parts(at, len)) }
 }
 
+/// For how many nodes of a text the next reading makes room at once.
+pub struct Buffers(sys::Buffers);
+
+impl Buffers {
+    pub const fn new() -> Buffers {
+        Buffers(sys::Buffers { nodes: 0 })
+    }
+}
+
 /// A handle of a document, or of none.
 ///
 /// The library writes to the handle also where it reads, so it stands in a cell: a `Doc` is not
@@ -128,6 +137,12 @@ impl Doc {
     pub fn read(&mut self, bytes: &mut [u8], last: bool) -> Code {
         // SAFETY: the handle and the bytes are lent to the call alone.
         unsafe { sys::sj_read(self.raw(), bytes.as_mut_ptr(), bytes.len(), last) }
+    }
+
+    pub fn read_with_buffers(&mut self, bytes: &mut [u8], buffers: &mut Buffers) -> Code {
+        let (at, len) = (bytes.as_mut_ptr(), bytes.len());
+        // SAFETY: the handle, the bytes and the buffers are lent to the call alone.
+        unsafe { sys::sj_read_with_buffers(self.raw(), at, len, &mut buffers.0) }
     }
 
     pub fn set_null(&mut self) -> Code {

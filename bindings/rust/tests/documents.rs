@@ -1,6 +1,6 @@
 //! Documents from outside: what RFC 8259 and 6901 say of these texts.
 
-use paizkorde::{peek, session, Document, Error, Form, Keep, Kind, PatchFault};
+use paizkorde::{peek, session, Buffers, Document, Error, Form, Keep, Kind, PatchFault};
 
 fn document(text: &str) -> Document {
     Document::parse(text).unwrap()
@@ -123,6 +123,23 @@ fn keeps_first_or_last() {
     assert_eq!(document(text).to_string(), r#"{"k":1,"j":2}"#);
     let last = Document::parse_in_place(&mut text.as_bytes().to_vec(), Keep::Last).unwrap();
     assert_eq!(last.to_string(), r#"{"k":3,"j":2}"#);
+}
+
+#[test]
+fn reads_one_after_another() {
+    let mut buffers = Buffers::default();
+    for (text, wanted) in [
+        (r#"[1,[2,3],{"k":4,"k":5}]"#, Ok(r#"[1,[2,3],{"k":4}]"#)),
+        ("[1,", Err(Error::Syntax)),
+        ("[6]", Ok("[6]")),
+    ] {
+        let mut bytes = text.as_bytes().to_vec();
+        let document = Document::parse_with_buffers(&mut bytes, &mut buffers);
+        assert_eq!(
+            document.map(|document| document.to_string()),
+            wanted.map(str::to_owned)
+        );
+    }
 }
 
 #[test]

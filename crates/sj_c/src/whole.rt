@@ -3,6 +3,7 @@
 ghost use Rattle.std.specs.Prelude.{◌≡◌, ◌≢◌, ◌↔◌, IsUtf8, Some, None, string_bytes};
 ghost use Rattle.sj_text_core.specs.Tree.{Tree, IsWithin};
 ghost use Rattle.sj_text_core.specs.Grammar.{Spells, IsReadable};
+ghost use Rattle.sj_text_core.specs.Keep.{keep};
 ghost use Rattle.sj_text_core.specs.Repeats.{keep_by};
 ghost use Rattle.sj_document.specs.Document.{tree};
 ghost use Rattle.sj_c.specs.Meant.{meant, choice};
@@ -11,7 +12,7 @@ use crate::doc::Doc;
 use crate::held::Held;
 use crate::status::{EMPTY, INVALID_UTF8, OK, OUT_OF_MEMORY, choice_of, code_of_kind};
 use sj_document::OwnedValue;
-use sj_owned::to_value_repeats;
+use sj_owned::{Buffers, to_value_repeats, to_value_with_buffers};
 use std::alloc::Global;
 
 /// Puts the document into the handle, and lets go what it had.
@@ -43,6 +44,28 @@ pub extern "C" fn sj_read(alloc: Global, doc: &mut Doc, bytes: &mut [u8], last: 
     match to_value_repeats(alloc, bytes, choice_of(last)) {
         Ok(value) => hold(alloc, doc, value),
         Err(kind) => code_of_kind(kind),
+    }
+}
+
+/// Reads as `sj_read` does where the first member of each key counts, with room at once for as many
+/// nodes as the largest text had that was read with the buffers. These can be used again whatever is
+/// answered.
+#[unsafe(no_mangle)]
+pub extern "C" fn sj_read_with_buffers(
+    alloc: Global,
+    doc: &mut Doc,
+    bytes: &mut [u8],
+    buffers: &mut Buffers,
+) -> u32
+    ensures means { result ≡ OK → (t : Tree) × Spells bytes.old t × IsWithin t × (meant doc.new.kept.holds ≡ Some (keep t)) }
+    ensures only { result ≡ OK → (u : Tree) → Spells bytes.old u → meant doc.new.kept.holds ≡ Some (keep u) }
+    ensures utf8 { (result ≡ INVALID_UTF8) ↔ ¬ (IsUtf8 bytes.old) }
+    ensures err { result ≢ OK → result ≢ INVALID_UTF8 → result ≢ OUT_OF_MEMORY → ¬ (IsReadable bytes.old) }
+    ensures kept { result ≢ OK → doc.new.kept.holds ≡ doc.old.kept.holds }
+{
+    match to_value_with_buffers(alloc, bytes, buffers) {
+        Ok(value) => hold(alloc, doc, value),
+        Err(why) => code_of_kind(why),
     }
 }
 

@@ -15,6 +15,11 @@ pub struct Text {
 }
 
 #[repr(C)]
+pub struct Buffers {
+    pub nodes: usize,
+}
+
+#[repr(C)]
 #[derive(Clone, Copy)]
 pub struct Found {
     pub kind: u32,
@@ -39,6 +44,12 @@ pub struct Member {
 
 extern "C" {
     pub fn sj_read(doc: *mut Doc, bytes: *mut u8, len: usize, last: bool) -> u32;
+    pub fn sj_read_with_buffers(
+        doc: *mut Doc,
+        bytes: *mut u8,
+        len: usize,
+        buffers: *mut Buffers,
+    ) -> u32;
     pub fn sj_free(doc: *mut Doc);
     pub fn sj_clone(doc: *mut Doc, copy: *mut Doc) -> u32;
     pub fn sj_same(one: *mut Doc, other: *mut Doc, same: *mut bool) -> u32;
