@@ -18,6 +18,7 @@ programs:
 	cd crates/refusals_commands && rt run -- run_fault > /dev/null
 	cd crates/sjroute && rt run -- --help > /dev/null
 	cd crates/sjpatch && rt run -- --help > /dev/null
+	cd crates/sjconf && rt run -- --help > /dev/null
 	cd crates/patch_lines && rt run -- owned < stdin > /dev/null
 	cd crates/deep && rt run -- copies owned 10 > /dev/null
 
@@ -53,6 +54,8 @@ check-program:
 	tools/console.py docs/SJROUTE.md crates/sjroute/out/sjroute
 	tools/sjpatch.sh crates/sjpatch/out/sjpatch
 	tools/console.py docs/SJPATCH.md crates/sjpatch/out/sjpatch
+	tools/sjconf.sh crates/sjconf/out/sjconf
+	tools/console.py docs/SJCONF.md crates/sjconf/out/sjconf
 	tools/patches.py crates/patch_lines/out/patch_lines
 
 # Edits that make documents 50,000 levels deep, and calls on documents of 1,000,000 levels, on a small stack.

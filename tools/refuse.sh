@@ -1,5 +1,5 @@
-# How calls are run with requests for memory refused: for tools/refusals.sh, tools/sjroute.sh and tools/sjpatch.sh, which set
-# program, or have a pick of their own, and stand in a folder with refuse.so.
+# How calls are run with requests for memory refused: for tools/refusals.sh, tools/sjroute.sh, tools/sjpatch.sh and tools/sjconf.sh, which
+# set program, or have a pick of their own, and stand in a folder with refuse.so.
 # shellcheck shell=bash
 passed=0
 failed=0

@@ -1,0 +1,98 @@
+//! Which file or setting gave the value at a place.
+
+ghost use Rattle.std.specs.Prelude.{◌≤◌, length};
+
+use crate::input::Layer;
+use crate::place::{Said, said_of};
+use crate::setting::Setting;
+use sj_owned::Value;
+use sj_owned::prelude::*;
+use sj_pointer::position;
+use std::alloc::{AllocError, Global};
+
+/// Where a value comes from.
+#[derive(Clone, Copy, Debug, PartialEq, Eq)]
+pub enum Origin {
+    /// No file and no setting has said anything of it.
+    Unknown,
+    /// The file of that index, behind so many of its bytes.
+    File(usize, usize),
+    /// The setting of that index.
+    Setting(usize),
+}
+
+/// Where the value at the place that the tokens lead to comes from: the last that gave it, of the
+/// files in turn and then of the settings.
+pub fn origin_of(
+    alloc: Global,
+    layers: &[Layer<'_>],
+    settings: &[Setting<'_>],
+    tokens: &[String],
+) -> Result<Origin, AllocError> {
+    let mut origin = origin_in_files(alloc, layers, tokens)?;
+    for (index, setting) in settings.iter().enumerate() {
+        origin = origin_behind(origin, index, setting, tokens);
+    }
+    Ok(origin)
+}
+
+/// The last of the files that gave the value.
+fn origin_in_files(
+    alloc: Global,
+    layers: &[Layer<'_>],
+    tokens: &[String],
+) -> Result<Origin, AllocError> {
+    let mut origin = Origin::Unknown;
+    for (index, layer) in layers.iter().enumerate() {
+        match said_of(alloc, &layer.text, tokens)? {
+            Said::Value(at) => origin = Origin::File(index, at),
+            // The first file is merged over nothing, so its nulls stay.
+            Said::Null(at) if index == 0 => origin = Origin::File(index, at),
+            Said::Null(_) | Said::Else => origin = Origin::Unknown,
+            Said::Nothing => {}
+        }
+    }
+    Ok(origin)
+}
+
+/// Where the value comes from behind one more setting. One that goes further makes the objects on its
+/// way that nothing gave before.
+fn origin_behind(
+    origin: Origin,
+    index: usize,
+    setting: &Setting<'_>,
+    tokens: &[String],
+) -> Origin {
+    let keys = setting.place.tokens();
+    if tokens.starts_with(keys) {
+        let rest = &tokens[keys.len()..];
+        if reached(&setting.value, rest) == rest.len() {
+            Origin::Setting(index)
+        } else {
+            Origin::Unknown
+        }
+    } else if keys.starts_with(tokens) && origin == Origin::Unknown {
+        Origin::Setting(index)
+    } else {
+        origin
+    }
+}
+
+/// How many of the tokens lead to something, one inside another, in the value.
+pub fn reached(value: &Value, tokens: &[String]) -> usize
+    ensures { result ≤ length tokens.now }
+{
+    let mut at = value;
+    for (index, token) in tokens.iter().enumerate() {
+        let found = if at.is_array() {
+            position(token.as_str()).and_then(|index| at.get_idx(index))
+        } else {
+            at.get(token.as_str())
+        };
+        match found {
+            Some(part) => at = part,
+            None => return index,
+        }
+    }
+    tokens.len()
+}

@@ -1,0 +1,142 @@
+//! What of a shape is not met, a line each.
+
+use crate::demand::{Demand, is_key_of};
+use crate::expected::{expected_text, found_text};
+use crate::fault::{Fault, file_name};
+use crate::input::Layer;
+use crate::line::{column, line};
+use crate::origin::{Origin, origin_of, reached};
+use crate::setting::Setting;
+use sj_owned::Value;
+use sj_owned::prelude::*;
+use sj_path::owned::find;
+use sj_pointer::Pointer;
+use std::alloc::{AllocError, Global};
+
+/// What was merged and set, and what it made.
+#[derive(Clone, Copy)]
+pub struct Made<'m, 'w> {
+    pub layers: &'m [Layer<'w>],
+    pub settings: &'m [Setting<'w>],
+    pub whole: &'m Value,
+}
+
+/// The place, as it is told.
+pub fn pointed(alloc: Global, place: &Pointer) -> Result<String, AllocError> {
+    if place.tokens().is_empty() {
+        String::from_str(alloc, "at the top")
+    } else {
+        format!(in alloc; "at {place}")
+    }
+}
+
+/// Where in a file's text so many bytes lead, as it is told.
+pub fn located(alloc: Global, layer: &Layer<'_>, at: usize) -> Result<String, AllocError> {
+    let begin = &layer.text[..at.min(layer.text.len())];
+    let (line, column) = (line(begin), column(begin));
+    format!(in alloc; "{}: line {line}, column {column}", file_name(layer.path))
+}
+
+/// Where the value comes from that the tokens lead to, as it is told.
+fn source(alloc: Global, made: Made<'_, '_>, tokens: &[String]) -> Result<String, AllocError> {
+    match origin_of(alloc, made.layers, made.settings, tokens)? {
+        Origin::File(index, at) => match made.layers.get(index) {
+            Some(layer) => located(alloc, layer, at),
+            None => String::from_str(alloc, "the files"),
+        },
+        Origin::Setting(index) => match made.settings.get(index) {
+            Some(setting) => format!(in alloc; "--set {}", setting.word),
+            None => String::from_str(alloc, "the settings"),
+        },
+        Origin::Unknown => String::from_str(alloc, "the files"),
+    }
+}
+
+/// Puts a line behind the others.
+fn push_line(
+    alloc: Global,
+    lines: &mut String,
+    source: &str,
+    place: &Pointer,
+    expected: &str,
+    found: &str,
+) -> Result<(), AllocError> {
+    if !lines.is_empty() {
+        lines.push_str("\nsjconf: ")?;
+    }
+    let place = pointed(alloc, place)?;
+    lines.push_str(&format!(in alloc; "{source}: {place}: expected {expected}, found {found}")?)
+}
+
+/// What keys are asked for, in words.
+fn keys_text(alloc: Global, keys: &[String]) -> Result<String, AllocError> {
+    let mut text = String::from_str(alloc, "no key")?;
+    let mut gap = " but";
+    for key in keys {
+        text.push_str(&format!(in alloc; "{gap} {key:?}")?)?;
+        gap = ",";
+    }
+    Ok(text)
+}
+
+/// Puts a line for each key of the object at the place that is none of those.
+fn push_other_keys(
+    alloc: Global,
+    lines: &mut String,
+    made: Made<'_, '_>,
+    demand: &Demand,
+    value: &Value,
+) -> Result<(), Fault> {
+    let (Some(keys), Some(members)) = (&demand.keys, value.as_object()) else {
+        return Ok(());
+    };
+    let expected = keys_text(alloc, keys)?;
+    for (key, value) in members.iter() {
+        if !is_key_of(key.as_str(), keys) {
+            let mut place = demand.place.clone()?;
+            place.push(key.clone()?)?;
+            let source = source(alloc, made, place.tokens())?;
+            let found = found_text(alloc, value)?;
+            push_line(alloc, lines, &source, &place, &expected, &found)?;
+        }
+    }
+    Ok(())
+}
+
+/// Puts the lines of a demand that is not met. What is missing is told where the last stands that leads
+/// to it.
+fn push_unmet(
+    alloc: Global,
+    lines: &mut String,
+    made: Made<'_, '_>,
+    demand: &Demand,
+) -> Result<(), Fault> {
+    let expected = expected_text(alloc, demand)?;
+    let tokens = demand.place.tokens();
+    let Some(value) = find(made.whole, &demand.place) else {
+        let source = source(alloc, made, &tokens[..reached(made.whole, tokens)])?;
+        return Ok(push_line(alloc, lines, &source, &demand.place, &expected, "nothing")?);
+    };
+    if !demand.is_wanted(value) {
+        let source = source(alloc, made, tokens)?;
+        let found = found_text(alloc, value)?;
+        push_line(alloc, lines, &source, &demand.place, &expected, &found)?;
+    }
+    push_other_keys(alloc, lines, made, demand, value)
+}
+
+/// A line for each demand that is not met, with a line feed between each two.
+pub fn report(
+    alloc: Global,
+    made: Made<'_, '_>,
+    demands: &[Demand],
+    verdicts: &[bool],
+) -> Result<String, Fault> {
+    let mut lines = String::new(alloc);
+    for (demand, is_met) in demands.iter().zip(verdicts) {
+        if !*is_met {
+            push_unmet(alloc, &mut lines, made, demand)?;
+        }
+    }
+    Ok(lines)
+}

@@ -1,0 +1,147 @@
+//! What the program does.
+
+use crate::demand::Demand;
+use crate::fault::Fault;
+use crate::input::{Layer, document, read_layer};
+use crate::key::place_of;
+use crate::layers::merge_all;
+use crate::output::{print_of, raw_of};
+use crate::report::{Made, report};
+use crate::setting::{Setting, set_all, setting_of};
+use crate::shapes::demands_of;
+use crate::verdicts::verdicts;
+use crate::words::Task;
+use sj_owned::Value;
+use sj_path::owned::find;
+use sj_pointer::{Pointer, PointerError};
+use std::alloc::Global;
+use std::io::{self, Write};
+use std::rt::Files;
+
+/// Merges, sets, checks and prints, as the words ask. After a fault nothing is printed, but where that
+/// fails itself.
+pub fn work(
+    rt: &(impl Files + Input + Print + AllocGlobal),
+    task: &Task<'_>,
+) -> Result<(), Fault> {
+    if task.reads_input_twice() {
+        return Err(Fault::InputTwice);
+    }
+    let alloc = rt.alloc();
+    let place = place_of_get(alloc, task.get)?;
+    let settings = settings_of(alloc, &task.settings)?;
+    let layers = read_all(rt, &task.files)?;
+    let demands = read_shape(rt, task.shape)?;
+    let whole = made_of(alloc, &layers, &settings)?;
+    let made = Made {
+        layers: &layers,
+        settings: &settings,
+        whole: &whole,
+    };
+    check(alloc, made, &demands)?;
+    print(rt, task, &whole, &place)
+}
+
+/// Where the value stands that is asked for; the whole where none is.
+fn place_of_get(alloc: Global, word: Option<&str>) -> Result<Pointer, Fault> {
+    let word = word.unwrap_or("");
+    match place_of(alloc, word) {
+        Ok(place) => Ok(place),
+        Err(PointerError::OutOfMemory) => Err(Fault::OutOfMemory),
+        Err(PointerError::NoSlash | PointerError::BadTilde) => {
+            Err(Fault::NoPlace(String::from_str(alloc, word)?))
+        }
+    }
+}
+
+/// The settings of the words.
+fn settings_of<'w>(alloc: Global, words: &[&'w str]) -> Result<Vec<Setting<'w>>, Fault> {
+    let mut settings = Vec::new(alloc);
+    for &word in words {
+        match setting_of(alloc, word) {
+            Ok(setting) => settings.push(setting)?,
+            Err(why) => return Err(Fault::setting(alloc, word, why)?),
+        }
+    }
+    Ok(settings)
+}
+
+/// The files of those paths.
+fn read_all<'w>(
+    rt: &(impl Files + Input + AllocGlobal),
+    paths: &[&'w str],
+) -> Result<Vec<Layer<'w>>, Fault> {
+    let mut layers = Vec::new(rt.alloc());
+    for &path in paths {
+        layers.push(read_layer(rt, path)?)?;
+    }
+    Ok(layers)
+}
+
+/// The demands of the shape file, if there is one.
+fn read_shape(
+    rt: &(impl Files + Input + AllocGlobal),
+    path: Option<&str>,
+) -> Result<Vec<Demand>, Fault> {
+    match path {
+        Some(path) => demands_of(rt.alloc(), &read_layer(rt, path)?),
+        None => Ok(Vec::new(rt.alloc())),
+    }
+}
+
+/// The documents of the files.
+fn documents(alloc: Global, layers: &[Layer<'_>]) -> Result<Vec<Value>, Fault> {
+    let mut documents = Vec::new(alloc);
+    for layer in layers {
+        documents.push(document(alloc, layer)?)?;
+    }
+    Ok(documents)
+}
+
+/// The files merged, and what the settings make of that.
+fn made_of(
+    alloc: Global,
+    layers: &[Layer<'_>],
+    settings: &[Setting<'_>],
+) -> Result<Value, Fault> {
+    let mut whole = merge_all(alloc, documents(alloc, layers)?)?;
+    match set_all(alloc, &mut whole, settings) {
+        Ok(()) => Ok(whole),
+        Err((index, why)) => {
+            let word = settings.get(index).map_or("", |setting| setting.word);
+            Err(Fault::setting(alloc, word, why)?)
+        }
+    }
+}
+
+/// Tells what of the shape is not met.
+fn check(alloc: Global, made: Made<'_, '_>, demands: &[Demand]) -> Result<(), Fault> {
+    let verdicts = verdicts(alloc, demands, made.whole)?;
+    if verdicts.contains(&false) {
+        return Err(Fault::Unmet(report(alloc, made, demands, &verdicts)?));
+    }
+    Ok(())
+}
+
+/// Prints the whole, or the value that is asked for.
+fn print(
+    rt: &(impl Print + AllocGlobal),
+    task: &Task<'_>,
+    whole: &Value,
+    place: &Pointer,
+) -> Result<(), Fault> {
+    let alloc = rt.alloc();
+    let Some(value) = find(whole, place) else {
+        let word = String::from_str(alloc, task.get.unwrap_or(""))?;
+        return Err(Fault::Nothing(word));
+    };
+    let text = if task.is_raw {
+        raw_of(alloc, value, task.is_pretty)?
+    } else {
+        print_of(alloc, value, task.is_pretty)?
+    };
+    match io::writer(rt).write_all(text.as_slice()) {
+        Ok(()) => Ok(()),
+        Err(error) => Err(Fault::unwritten(error)),
+    }
+}
