@@ -81,7 +81,7 @@ conf 'one file' 0 '{"port":8080,"log":{"to":"/var/lög"}}\n' '' site.json
 conf 'a pretty print' 0 '{\n  "port": 8080,\n  "log": {\n    "to": "/var/lög"\n  }\n}\n' '' -p site.json
 conf 'a file over another' 0 '{"level":"info","to":"/var/lög"}\n' '' --get /log defaults.json site.json
 conf 'three files' 0 '{"level":"debug","to":"/var/lög"}\n' '' --get log defaults.json site.json user.json
-conf 'the order counts' 0 '{"to":"/var/lög","level":"info"}\n' '' --get log site.json defaults.json
+conf 'the order counts' 0 '{"level":"info"}\n' '' --get log site.json defaults.json
 conf 'the nulls of the base stay' 0 '{"level":"info","to":null}\n' '' --get log defaults.json
 conf 'an array is taken whole' 0 '["c"]\n' '' --get hosts defaults.json user.json
 printf '%s' '{"log":null,"x":{"y":null}}' > in

@@ -73,6 +73,22 @@ abbrev pub is_one_of : List ℕ → List (List ℕ) → Bool
 is_one_of k [] = false
 is_one_of k (l ∷ ls) = bytes_eq l k || is_one_of k ls
 
+-- the token with which tokens go on behind those of p; none where they do not begin so, or end there
+abbrev pub next_of : List (List ℕ) → List (List ℕ) → Option (List ℕ)
+next_of [] [] = None
+next_of [] (k ∷ ks) = Some k
+next_of (l ∷ p) [] = None
+next_of (l ∷ p) (k ∷ ks) = if bytes_eq k l then next_of p ks else None
+
+abbrev pub is_that : List ℕ → Option (List ℕ) → Bool
+is_that k None = false
+is_that k (Some l) = bytes_eq l k
+
+-- one of the places goes on with the key behind p
+abbrev pub is_named : List ℕ → List (List ℕ) → List (List (List ℕ)) → Bool
+is_named k p [] = false
+is_named k p (q ∷ qs) = is_that k (next_of p q) || is_named k p qs
+
 -- each is one of ks
 abbrev pub are_of : List (List ℕ) → List (List ℕ) → Bool
 are_of ks [] = true

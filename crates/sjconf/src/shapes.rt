@@ -1,5 +1,8 @@
 //! The demands that a shape file lists.
 
+ghost use Rattle.std.specs.Prelude.{◌≡◌, ◌||◌, ℕ, List, IfOk, OnOk, bytes_eq, map, option_map, string_bytes};
+ghost use Rattle.sjconf.specs.Demands.{is_named, is_one_of, next_of};
+
 use crate::demand::{Demand, is_key_of};
 use crate::fault::Fault;
 use crate::flaw::Flaw;
@@ -69,25 +72,44 @@ fn keys_below(
     alloc: Global,
     place: &Pointer,
     places: &[Pointer],
-) -> Result<Vec<String>, AllocError> {
+) -> Result<Vec<String>, AllocError>
+    ensures { IfOk result (λ v. (k : List ℕ) → is_one_of k (map string_bytes v.items) ≡ is_named k place.now places.now) }
+{
     let mut keys = Vec::new(alloc);
     for other in places {
-        if let Some(key) = next_token(place, other) {
-            if !is_key_of(key.as_str(), &keys) {
-                keys.push(key.clone()?)?;
-            }
+        if let Some(key) = next_token(place.tokens(), other.tokens()) {
+            push_new(&mut keys, key)?;
         }
     }
     Ok(keys)
 }
 
-/// The token with which the other goes on behind the place; None where it does not begin so.
-fn next_token<'p>(place: &Pointer, other: &'p Pointer) -> Option<&'p String> {
-    if other.begins_with(place) {
-        other.tokens().get(place.tokens().len())
-    } else {
-        None
+/// Puts a copy of the key behind the others, unless it is among them.
+fn push_new(keys: &mut Vec<String>, key: &String) -> Result<(), AllocError>
+    ensures { OnOk result ((k : List ℕ) → is_one_of k (map string_bytes keys.new.items) ≡ (is_one_of k (map string_bytes keys.old.items) || bytes_eq (string_bytes key.now) k)) }
+{
+    if !is_key_of(key.as_str(), keys) {
+        keys.push(key.clone()?)?;
     }
+    Ok(())
+}
+
+/// The token with which the tokens go on behind those of a place; None where they do not begin so.
+fn next_token<'p>(place: &[String], tokens: &'p [String]) -> Option<&'p String>
+    ensures { option_map (λ s. string_bytes s.now) result ≡ next_of (map string_bytes place.now) (map string_bytes tokens.now) }
+{
+    let mut front = place;
+    let mut rest = tokens;
+    while let [first, behind @ ..] = front {
+        match rest {
+            [token, tail @ ..] if token == first => {
+                front = behind;
+                rest = tail;
+            }
+            _ => return None,
+        }
+    }
+    rest.first()
 }
 
 /// The fault of the demand of that key.
