@@ -125,3 +125,8 @@ Judged t [] [] = ⊤
 Judged t [] (b ∷ bs) = ⊥
 Judged t (d ∷ ds) [] = ⊥
 Judged t (d ∷ ds) (b ∷ bs) = (IsTrue b ↔ IsMet d t) × Judged t ds bs
+
+-- it meets each of them
+abbrev pub AllMet : Tree → List Demand → Type 0
+AllMet t [] = ⊤
+AllMet t (d ∷ ds) = IsMet d t × AllMet t ds

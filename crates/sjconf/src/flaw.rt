@@ -26,4 +26,3 @@ pub enum Flaw {
     #[error("no less than \"min_length\"")]
     BelowMinLength,
 }
-

@@ -1,5 +1,9 @@
 //! Files, read whole, as documents.
 
+ghost use Rattle.std.specs.Prelude.{IfOk, string_bytes};
+ghost use Rattle.sj_document.specs.Document.{tree};
+ghost use Rattle.sjconf.specs.Layers.{IsRead};
+
 use crate::fault::Fault;
 use sj_fault::fault_at;
 use sj_owned::{ErrorKind, Value, to_value};
@@ -38,16 +42,13 @@ pub fn read_layer<'w, R: Files + Input + AllocGlobal>(
 }
 
 /// The document of a file; of repeated keys the first counts.
-pub fn document(alloc: Global, layer: &Layer<'_>) -> Result<Value, Fault> {
+pub fn document(alloc: Global, layer: &Layer<'_>) -> Result<Value, Fault>
+    ensures { IfOk result (λ v. IsRead layer.now (tree string_bytes v)) }
+{
     let mut bytes = layer.text.clone()?;
     match to_value(alloc, bytes.as_mut_slice()) {
         Ok(value) => Ok(value),
         Err(ErrorKind::OutOfMemory) => Err(Fault::OutOfMemory),
-        Err(why) => Err(Fault::no_json(
-            alloc,
-            layer.path,
-            fault_at(&layer.text),
-            why,
-        )?),
+        Err(why) => Err(Fault::no_json(alloc, layer.path, fault_at(&layer.text), why)?),
     }
 }

@@ -4,6 +4,7 @@
 //! nothing was printed.
 #![tactic(auto)]
 
+mod check;
 mod demand;
 mod expected;
 mod fault;
@@ -20,6 +21,7 @@ mod setting;
 mod shape;
 mod shapes;
 mod verdicts;
+mod whole;
 mod words;
 mod work;
 

@@ -57,12 +57,7 @@ fn origin_in_files(
 
 /// Where the value comes from behind one more setting. One that goes further makes the objects on its
 /// way that nothing gave before.
-fn origin_behind(
-    origin: Origin,
-    index: usize,
-    setting: &Setting<'_>,
-    tokens: &[String],
-) -> Origin {
+fn origin_behind(origin: Origin, index: usize, setting: &Setting<'_>, tokens: &[String]) -> Origin {
     let keys = setting.place.tokens();
     if tokens.starts_with(keys) {
         let rest = &tokens[keys.len()..];

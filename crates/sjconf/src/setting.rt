@@ -123,11 +123,7 @@ pub fn set_all(
 }
 
 /// Puts the value where it goes. Refused, the document is as it was.
-fn set_one(
-    alloc: Global,
-    document: &mut Value,
-    setting: &Setting<'_>,
-) -> Result<(), SettingFault>
+fn set_one(alloc: Global, document: &mut Value, setting: &Setting<'_>) -> Result<(), SettingFault>
     ensures set { OnOk result (set_made setting.now.place (tree string_bytes setting.now.value) (tree string_bytes document.old) ≡ Some (tree string_bytes document.new)) }
     ensures nowhere { IfErr result (λ e. e ≡ SettingFault.LeadsNowhere → set_made setting.now.place (tree string_bytes setting.now.value) (tree string_bytes document.old) ≡ None) }
     ensures refused { OnErr result (tree string_bytes document.new ≡ tree string_bytes document.old) }

@@ -36,11 +36,7 @@ pub fn demands_of(alloc: Global, layer: &Layer<'_>) -> Result<Vec<Demand>, Fault
 }
 
 /// The places that the keys name.
-fn places_of(
-    alloc: Global,
-    layer: &Layer<'_>,
-    members: &Object,
-) -> Result<Vec<Pointer>, Fault> {
+fn places_of(alloc: Global, layer: &Layer<'_>, members: &Object) -> Result<Vec<Pointer>, Fault> {
     let mut places = Vec::new(alloc);
     for key in members.keys() {
         match place_of(alloc, key.as_str()) {
@@ -68,11 +64,7 @@ fn closed(
 }
 
 /// The tokens behind a place with which one of the places goes on, each once.
-fn keys_below(
-    alloc: Global,
-    place: &Pointer,
-    places: &[Pointer],
-) -> Result<Vec<String>, AllocError>
+fn keys_below(alloc: Global, place: &Pointer, places: &[Pointer]) -> Result<Vec<String>, AllocError>
     ensures { IfOk result (λ v. (k : List ℕ) → is_one_of k (map string_bytes v.items) ≡ is_named k place.now places.now) }
 {
     let mut keys = Vec::new(alloc);
@@ -144,7 +136,5 @@ fn no_shape(
     };
     let source = located(alloc, layer, at)?;
     let place = pointed(alloc, &Pointer::from_tokens(tokens))?;
-    Ok(Fault::NoShape(
-        format!(in alloc; "{source}: {place}: expected {flaw}")?,
-    ))
+    Ok(Fault::NoShape(format!(in alloc; "{source}: {place}: expected {flaw}")?))
 }

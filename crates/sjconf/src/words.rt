@@ -28,7 +28,10 @@ too long, 5 input or output failed, 6 a --set leads nowhere, 7 the shape is not 
 nothing was printed but faults.";
 
 fn option<'a>(alloc: Global, name: &'a str, value: &'a str, help: &'a str) -> Arg<'a> {
-    Arg::new(alloc, name).long(name).value_name(value).help(help)
+    Arg::new(alloc, name)
+        .long(name)
+        .value_name(value)
+        .help(help)
 }
 
 fn flag<'a>(alloc: Global, name: &'a str, short: char, help: &'a str) -> Arg<'a> {
@@ -49,15 +52,30 @@ fn files<'a>(alloc: Global) -> Arg<'a> {
 
 fn command<'a>(alloc: Global) -> Result<Command<'a>, AllocError> {
     Command::new(alloc, "sjconf")
-        .about("Merges configuration files, sets values, checks the whole against a shape, and prints it")
+        .about(
+            "Merges configuration files, sets values, checks the whole against a shape, and prints it",
+        )
         .after_help(STATUSES)
         .arg(files(alloc))?
-        .arg(
-            option(alloc, "set", "KEY=VALUE", "Sets a value behind the files, and makes the objects on the way")
-                .action(ArgAction::Append),
-        )?
-        .arg(option(alloc, "shape", "FILE", "Says what has to stand where, - for standard input"))?
-        .arg(option(alloc, "get", "KEY", "Prints the one value that stands there"))?
+        .arg(option(
+            alloc,
+            "set",
+            "KEY=VALUE",
+            "Sets a value behind the files, and makes the objects on the way",
+        )
+        .action(ArgAction::Append))?
+        .arg(option(
+            alloc,
+            "shape",
+            "FILE",
+            "Says what has to stand where, - for standard input",
+        ))?
+        .arg(option(
+            alloc,
+            "get",
+            "KEY",
+            "Prints the one value that stands there",
+        ))?
         .arg(flag(alloc, "pretty", 'p', "Indents what is printed"))?
         .arg(flag(alloc, "raw", 'r', "Prints a text without its quotes"))
 }

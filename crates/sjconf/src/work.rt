@@ -1,15 +1,15 @@
 //! What the program does.
 
+use crate::check::check;
 use crate::demand::Demand;
 use crate::fault::Fault;
-use crate::input::{Layer, document, read_layer};
+use crate::input::{Layer, read_layer};
 use crate::key::place_of;
-use crate::layers::merge_all;
 use crate::output::{print_of, raw_of};
-use crate::report::{Made, report};
-use crate::setting::{Setting, set_all, setting_of};
+use crate::report::Made;
+use crate::setting::{Setting, setting_of};
 use crate::shapes::demands_of;
-use crate::verdicts::verdicts;
+use crate::whole::made_of;
 use crate::words::Task;
 use sj_owned::Value;
 use sj_path::owned::find;
@@ -20,10 +20,7 @@ use std::rt::Files;
 
 /// Merges, sets, checks and prints, as the words ask. After a fault nothing is printed, but where that
 /// fails itself.
-pub fn work(
-    rt: &(impl Files + Input + Print + AllocGlobal),
-    task: &Task<'_>,
-) -> Result<(), Fault> {
+pub fn work(rt: &(impl Files + Input + Print + AllocGlobal), task: &Task<'_>) -> Result<(), Fault> {
     if task.reads_input_twice() {
         return Err(Fault::InputTwice);
     }
@@ -87,40 +84,6 @@ fn read_shape(
         Some(path) => demands_of(rt.alloc(), &read_layer(rt, path)?),
         None => Ok(Vec::new(rt.alloc())),
     }
-}
-
-/// The documents of the files.
-fn documents(alloc: Global, layers: &[Layer<'_>]) -> Result<Vec<Value>, Fault> {
-    let mut documents = Vec::new(alloc);
-    for layer in layers {
-        documents.push(document(alloc, layer)?)?;
-    }
-    Ok(documents)
-}
-
-/// The files merged, and what the settings make of that.
-fn made_of(
-    alloc: Global,
-    layers: &[Layer<'_>],
-    settings: &[Setting<'_>],
-) -> Result<Value, Fault> {
-    let mut whole = merge_all(alloc, documents(alloc, layers)?)?;
-    match set_all(alloc, &mut whole, settings) {
-        Ok(()) => Ok(whole),
-        Err((index, why)) => {
-            let word = settings.get(index).map_or("", |setting| setting.word);
-            Err(Fault::setting(alloc, word, why)?)
-        }
-    }
-}
-
-/// Tells what of the shape is not met.
-fn check(alloc: Global, made: Made<'_, '_>, demands: &[Demand]) -> Result<(), Fault> {
-    let verdicts = verdicts(alloc, demands, made.whole)?;
-    if verdicts.contains(&false) {
-        return Err(Fault::Unmet(report(alloc, made, demands, &verdicts)?));
-    }
-    Ok(())
 }
 
 /// Prints the whole, or the value that is asked for.

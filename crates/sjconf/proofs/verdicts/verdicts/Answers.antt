@@ -20,7 +20,7 @@ loop-demand-preserved c =
     let ds = c.args.demands.now in
     let d = c.demand-item.result in
     let more : take (i + 1) ds ≡ take i ds ++ d ∷ [] =
-        take_more ds i d (search rules) ∙ ap (λ (x : Demand). take i ds ++ x ∷ []) (sym (search (rules, c.demand-item.is))) in
+    take_more ds i d (search rules) ∙ ap (λ (x : Demand). take i ds ++ x ∷ []) (sym (search (rules, c.demand-item.is))) in
     let pushed : c.push.new.self.items ≡ c.loop-demand.verdicts.items ++ c.is_met.result ∷ [] = search (rules, c.in_ok-push.ensures) in
     subst (λ (xs : List Demand). Judged t xs c.push.new.self.items) (sym more)
     (subst (λ (bs : List Bool). Judged t (take i ds ++ d ∷ []) bs) (sym pushed)

@@ -1,0 +1,42 @@
+//! Files merged, and values set in what they make.
+
+ghost use Rattle.std.specs.Prelude.{IfOk, map, string_bytes};
+ghost use Rattle.sj_document.specs.Document.{tree};
+ghost use Rattle.sjconf.specs.Layers.{AreRead};
+ghost use Rattle.sjconf.specs.Settings.{IsMade};
+
+use crate::fault::Fault;
+use crate::input::{Layer, document};
+use crate::layers::merge_all;
+use crate::setting::{Setting, set_all};
+use sj_owned::Value;
+use std::alloc::Global;
+
+/// The documents of the files.
+fn documents(alloc: Global, layers: &[Layer<'_>]) -> Result<Vec<Value>, Fault>
+    ensures { IfOk result (λ v. AreRead layers.now (map (tree string_bytes) v.items)) }
+{
+    let mut documents = Vec::new(alloc);
+    for layer in layers {
+        documents.push(document(alloc, layer)?)?;
+    }
+    Ok(documents)
+}
+
+/// The files merged in turn, and what the settings make of that.
+pub fn made_of(
+    alloc: Global,
+    layers: &[Layer<'_>],
+    settings: &[Setting<'_>],
+) -> Result<Value, Fault>
+    ensures { IfOk result (λ v. IsMade layers.now settings.now (tree string_bytes v)) }
+{
+    let mut whole = merge_all(alloc, documents(alloc, layers)?)?;
+    match set_all(alloc, &mut whole, settings) {
+        Ok(()) => Ok(whole),
+        Err((index, why)) => {
+            let word = settings.get(index).map_or("", |setting| setting.word);
+            Err(Fault::setting(alloc, word, why)?)
+        }
+    }
+}
