@@ -11,6 +11,7 @@ use Rattle.sj_kinds.specs.declared.kind.Kind.{Kind}
 use Rattle.sj_pointer.specs.Pointed.{pointed}
 use Rattle.sj_document.specs.declared.value.Document.{Document}
 use Rattle.sj_document.specs.Document.{tree}
+use Rattle.sjconf.specs.declared.demand.Limits.{Limits}
 use Rattle.sjconf.specs.declared.demand.Demand.{Demand}
 
 -- of the kind, where one is asked for
@@ -103,9 +104,13 @@ abbrev pub has_only : Option (Vec (String Global) Global) → Tree → Bool
 has_only None t = true
 has_only (Some ks) t = members_are_of (map string_bytes ks.items) (as_members t)
 
+-- within the limits
+abbrev pub Admits : Limits → Tree → Type 0
+Admits l t = IsKind l.kind t × IsAtLeast l.least t × IsAtMost l.most t × IsAsLong l.shortest t × IsAsShort l.longest t
+
 -- the tree itself is what the demand asks for, whatever its keys
 abbrev pub IsWanted : Demand → Tree → Type 0
-IsWanted d t = IsKind d.kind t × IsAtLeast d.least t × IsAtMost d.most t × IsAsLong d.shortest t × IsAsShort d.longest t × (is_choice d.choices t ≡ true)
+IsWanted d t = Admits d.limits t × (is_choice d.choices t ≡ true)
 
 -- and has no other keys
 abbrev pub Fits : Demand → Tree → Type 0

@@ -4,7 +4,7 @@ ghost use Rattle.std.specs.Prelude.{◌≡◌, ◌↔◌, IsTrue, map, string_by
 ghost use Rattle.sj_text_core.specs.Tree.{keys_of};
 ghost use Rattle.sj_object.specs.Members.{entry_members};
 ghost use Rattle.sj_document.specs.Document.{tree};
-ghost use Rattle.sjconf.specs.Demands.{Fits, IsAsLong, IsAsShort, IsAtLeast, IsAtMost, IsKind, IsMet, IsWanted, are_of, characters, has_only, is_choice, is_one_of, is_same_as_one, length_in};
+ghost use Rattle.sjconf.specs.Demands.{Admits, Fits, IsAsLong, IsAsShort, IsAtLeast, IsAtMost, IsKind, IsMet, IsWanted, are_of, characters, has_only, is_choice, is_one_of, is_same_as_one, length_in};
 
 use sj_kinds::Kind;
 use sj_owned::prelude::*;
@@ -12,12 +12,9 @@ use sj_owned::{Object, Value};
 use sj_path::owned::find;
 use sj_pointer::Pointer;
 
-/// What has to stand at a place.
-#[derive(Debug, Drop)]
-pub struct Demand {
-    pub place: Pointer,
-    /// Whether something has to stand there.
-    pub is_required: bool,
+/// Which values may stand at a place, by their kinds and sizes.
+#[derive(Clone, Copy, Debug)]
+pub struct Limits {
     pub kind: Option<Kind>,
     /// The least whole number.
     pub least: Option<i128>,
@@ -25,6 +22,15 @@ pub struct Demand {
     /// The least number of a text's characters or an array's items.
     pub shortest: Option<usize>,
     pub longest: Option<usize>,
+}
+
+/// What has to stand at a place.
+#[derive(Debug, Drop)]
+pub struct Demand {
+    pub place: Pointer,
+    /// Whether something has to stand there.
+    pub is_required: bool,
+    pub limits: Limits,
     /// The values of which it has to be one.
     pub choices: Option<Vec<Value>>,
     /// The keys that an object may have.
@@ -180,17 +186,25 @@ fn has_keys(value: &Value, keys: &Option<Vec<String>>) -> bool
     }
 }
 
-impl Demand {
-    /// Whether the value is what is asked for, whatever its keys.
-    pub fn is_wanted(&self, value: &Value) -> bool
-        ensures { IsTrue result ↔ IsWanted self.now (tree string_bytes value.now) }
+impl Limits {
+    /// Whether the value is within them.
+    fn admit(&self, value: &Value) -> bool
+        ensures { IsTrue result ↔ Admits self.now (tree string_bytes value.now) }
     {
         is_kind(value, self.kind)
             && is_at_least(value, self.least)
             && is_at_most(value, self.most)
             && is_as_long(value, self.shortest)
             && is_as_short(value, self.longest)
-            && is_chosen(value, &self.choices)
+    }
+}
+
+impl Demand {
+    /// Whether the value is what is asked for, whatever its keys.
+    pub fn is_wanted(&self, value: &Value) -> bool
+        ensures { IsTrue result ↔ IsWanted self.now (tree string_bytes value.now) }
+    {
+        self.limits.admit(value) && is_chosen(value, &self.choices)
     }
 
     /// Whether the value is what is asked for, and has no other keys.

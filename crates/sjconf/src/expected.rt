@@ -1,6 +1,6 @@
 //! What is expected of a value, and what was found, in words.
 
-use crate::demand::Demand;
+use crate::demand::{Demand, Limits};
 use sj_kinds::Kind;
 use sj_owned::prelude::*;
 use sj_owned::{Value, WriteError};
@@ -68,7 +68,7 @@ fn push_choices(alloc: Global, text: &mut String, choices: &[Value]) -> Result<(
     Ok(())
 }
 
-impl Demand {
+impl Limits {
     /// The kind that is asked for, or that of what has a range.
     fn wanted_kind(&self) -> Option<Kind> {
         match self.kind {
@@ -81,17 +81,23 @@ impl Demand {
 
 /// What is asked for of the value itself, as `an integer from 1 to 65535`.
 pub fn expected_text(alloc: Global, demand: &Demand) -> Result<String, WriteError> {
-    let mut text = match demand.wanted_kind() {
+    let mut text = limits_text(alloc, &demand.limits)?;
+    if let Some(choices) = &demand.choices {
+        push_choices(alloc, &mut text, choices)?;
+    }
+    Ok(text)
+}
+
+/// Which values the limits admit, in words.
+fn limits_text(alloc: Global, limits: &Limits) -> Result<String, AllocError> {
+    let mut text = match limits.wanted_kind() {
         Some(kind) => format!(in alloc; "{}{}", article(kind), kind_name(kind))?,
         None => String::from_str(alloc, "a value")?,
     };
-    push_range(alloc, &mut text, &demand.least, &demand.most)?;
-    if demand.shortest.is_some() || demand.longest.is_some() {
+    push_range(alloc, &mut text, &limits.least, &limits.most)?;
+    if limits.shortest.is_some() || limits.longest.is_some() {
         text.push_str(" with a length")?;
-        push_range(alloc, &mut text, &demand.shortest, &demand.longest)?;
-    }
-    if let Some(choices) = &demand.choices {
-        push_choices(alloc, &mut text, choices)?;
+        push_range(alloc, &mut text, &limits.shortest, &limits.longest)?;
     }
     Ok(text)
 }

@@ -1,6 +1,6 @@
 //! The demands of a shape file.
 
-use crate::demand::Demand;
+use crate::demand::{Demand, Limits};
 use crate::expected::kind_named;
 use crate::flaw::Flaw;
 use sj_kinds::Kind;
@@ -45,20 +45,16 @@ const MEMBERS: [&str; 8] = [
 /// The demand of what the item says of a place; what it says of other keys is left.
 pub fn demand_of(place: Pointer, item: &Value) -> Result<Demand, Wrong> {
     check_members(item)?;
-    let demand = Demand {
+    let is_required = truth_of(item, "required")?.unwrap_or(false);
+    truth_of(item, "other_keys")?;
+    let limits = limits_of(item)?;
+    Ok(Demand {
         place,
-        is_required: truth_of(item, "required")?.unwrap_or(false),
-        kind: kind_of(item)?,
-        least: number_of(item, "min")?,
-        most: number_of(item, "max")?,
-        shortest: count_of(item, "min_length")?,
-        longest: count_of(item, "max_length")?,
+        is_required,
+        limits,
         choices: choices_of(item)?,
         keys: None,
-    };
-    truth_of(item, "other_keys")?;
-    check_ends(&demand)?;
-    Ok(demand)
+    })
 }
 
 /// Whether the item leaves an object no other keys.
@@ -129,17 +125,24 @@ fn choices_of(item: &Value) -> Result<Option<Vec<Value>>, Wrong> {
     }
 }
 
-/// Whether something lies between the ends.
-fn check_ends(demand: &Demand) -> Result<(), Wrong> {
-    if let (Some(least), Some(most)) = (demand.least, demand.most) {
+/// The limits that the item asks for, between whose ends something lies.
+fn limits_of(item: &Value) -> Result<Limits, Wrong> {
+    let limits = Limits {
+        kind: kind_of(item)?,
+        least: number_of(item, "min")?,
+        most: number_of(item, "max")?,
+        shortest: count_of(item, "min_length")?,
+        longest: count_of(item, "max_length")?,
+    };
+    if let (Some(least), Some(most)) = (limits.least, limits.most) {
         if most < least {
             return Err(Wrong::Member("max", Flaw::BelowMin));
         }
     }
-    if let (Some(shortest), Some(longest)) = (demand.shortest, demand.longest) {
+    if let (Some(shortest), Some(longest)) = (limits.shortest, limits.longest) {
         if longest < shortest {
             return Err(Wrong::Member("max_length", Flaw::BelowMinLength));
         }
     }
-    Ok(())
+    Ok(limits)
 }
