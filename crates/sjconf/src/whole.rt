@@ -31,11 +31,15 @@ pub fn made_of(
 ) -> Result<Value, Fault>
     ensures { IfOk result (λ v. IsMade layers.now settings.now (tree string_bytes v)) }
 {
-    let mut whole = merge_all(alloc, documents(alloc, layers)?)?;
+    let documents = documents(alloc, layers)?;
+    let mut whole = merge_all(alloc, documents)?;
     match set_all(alloc, &mut whole, settings) {
         Ok(()) => Ok(whole),
         Err((index, why)) => {
-            let word = settings.get(index).map_or("", |setting| setting.word);
+            let word = match settings.get(index) {
+                Some(setting) => setting.word,
+                None => "",
+            };
             Err(Fault::setting(alloc, word, why)?)
         }
     }
