@@ -3,7 +3,7 @@
 ghost use Rattle.std.specs.Prelude.{◌≤◌, length};
 
 use crate::input::Layer;
-use crate::place::{Said, said_of};
+use crate::said::{Said, said_of};
 use crate::setting::Setting;
 use sj_owned::Value;
 use sj_owned::prelude::*;

@@ -1,5 +1,5 @@
 use Rattle.std.proofs.Common.{◌≤◌, length}
-use Rattle.sjconf.proofs.place.member.Given as goal
+use Rattle.sjconf.proofs.said.behind_value.Given as goal
 
 abbrev pub invariant-loop-rest : goal.invariant-loop-rest
 invariant-loop-rest l = length l.rest ≤ length l.text
