@@ -193,6 +193,11 @@ conf 'what a null took out' 7 '' 'sjconf: standard input: line 1, column 1: at /
 printf '%s' '{"port":{"required":true,"kind":"integer"}}' > shape.json
 conf 'a null of the base' 7 '' 'sjconf: standard input: line 1, column 9: at /port: expected an integer, found null\n' --shape shape.json -
 : > in
+printf '%s' '["p"]' > list.json
+printf '%s' '{}' > in
+printf '%s' '{"0":{"kind":"string"}}' > shape.json
+conf 'an object in the place of an array' 7 '' 'sjconf: --set 0.x=1: at /0: expected a string, found an object\n' --shape shape.json --set 0.x=1 list.json -
+: > in
 
 # what is no shape
 shape 'no object' '[]' 3 'sjconf: SHAPE: line 1, column 1: at the top: expected an object\n'
@@ -218,7 +223,8 @@ good=no
 [ "$status" = 5 ] && [ "$(cat err)" = 'sjconf: standard output: cannot be written: No space left on device (os error 28)' ] && good=yes
 check $good 'an output that is full'
 
-# random files, merged, beside RFC 7396 in python3; and of one file every value that stands in it, by line and column
+# random files, merged, beside RFC 7396 in python3; of one file every value that stands in it, by line and column; and of several
+# files and settings what gave each value
 python3 - <<'EOF' || exit 1
 import json, random
 random.seed(7396)
@@ -278,6 +284,45 @@ def found(value):
         return 'an object'
     return f'an array of length {len(value)}' if isinstance(value, list) else text(value)
 
+def longer(pointer, key):
+    return pointer + '/' + str(key).replace('~', '~0').replace('/', '~1')
+
+# a node is a value, with nodes for its parts, and what gave it; givers has that by pointer
+
+def given(value, pointer, givers):
+    if isinstance(value, dict):
+        parts = {key: given(part, longer(pointer, key), givers) for key, part in value.items()}
+    elif isinstance(value, list):
+        parts = [given(part, longer(pointer, index), givers) for index, part in enumerate(value)]
+    else:
+        parts = value
+    return parts, givers(pointer)
+
+def merge_given(target, patch, pointer, givers):
+    if not isinstance(patch, dict):
+        return given(patch, pointer, givers)
+    members = dict(target[0]) if target and isinstance(target[0], dict) else {}
+    for key, part in patch.items():
+        if part is None:
+            members.pop(key, None)
+        else:
+            members[key] = merge_given(members.get(key), part, longer(pointer, key), givers)
+    return members, givers(pointer)
+
+def put(node, keys, value, givers):
+    if not keys:
+        return given(value, '', givers)
+    (parts, giver), key = node, keys[0]
+    if isinstance(parts, list):
+        return parts[:key] + [put(parts[key], keys[1:], value, givers)] + parts[key + 1:], giver
+    return {**parts, key: put(parts.get(key, ({}, givers(''))), keys[1:], value, givers)}, giver
+
+def nodes(node, pointer='', way=()):
+    yield pointer, way, node
+    parts = node[0]
+    for key, part in parts.items() if isinstance(parts, dict) else enumerate(parts) if isinstance(parts, list) else ():
+        yield from nodes(part, longer(pointer, key), way + (key,))
+
 merges = open('merges', 'w')
 for number in range(100):
     layers = [value(3) for _ in range(random.randrange(1, 5))]
@@ -298,6 +343,38 @@ for number in range(40):
         for pointer, line, column, part in places:
             place = f'at {pointer}' if pointer else 'at the top'
             told.write(f'sjconf: part{number}: line {line}, column {column}: {place}: expected a value, found {found(part)}\n')
+keys += ['0', '1']
+for number in range(200):
+    words, node = ['--shape', f'demands{number}'], None
+    for index in range(random.randrange(1, 5)):
+        name, out, places = f'file{number}.{index}', [], []
+        layer = value(3) if random.random() < 0.2 else {random.choice(keys): value(3) for _ in range(3)}
+        write(layer, '', out, places)
+        open(name, 'w').write(''.join(out))
+        words.append(name)
+        stands = {place[0]: f'{name}: line {place[1]}, column {place[2]}' for place in places}
+        node = merge_given(node, layer, '', stands.get) if index else given(layer, '', stands.get)
+    for _ in range(random.randrange(4)):
+        pointer, way, (parts, _) = random.choice(list(nodes(node)))
+        if isinstance(parts, dict):
+            for key in random.sample(keys, random.randrange(3)):
+                pointer, way = longer(pointer, key), way + (key,)
+        part = value(2)
+        word = f'--set {pointer}={text(part)}'
+        try:
+            node = put(node, way, part, lambda _: word)
+        except (AttributeError, LookupError, TypeError):
+            continue
+        words += word.split(' ', 1)
+    demands, told = {}, []
+    for pointer, _, (parts, giver) in nodes(node):
+        demands[pointer] = {'one_of': []}
+        demands[pointer + '/none'] = {'required': True}
+        told.append(f'sjconf: {giver}: at {pointer or "the top"}: expected a value, found {found(parts)}\n')
+        told.append(f'sjconf: {giver}: at {pointer}/none: expected a value, found nothing\n')
+    open(f'demands{number}', 'w').write(json.dumps(demands))
+    open(f'words{number}', 'w').write('\0'.join(words) + '\0')
+    open(f'givers{number}', 'w').write(''.join(told))
 EOF
 while read -r number names; do
   good=no
@@ -313,6 +390,14 @@ for number in $(seq 0 39); do
   status=$?
   [ "$status" = 7 ] && [ ! -s out ] && cmp -s err "told$number" && good=yes
   check $good "places $number"
+done
+for number in $(seq 0 199); do
+  good=no
+  mapfile -d '' words < "words$number"
+  "$program" "${words[@]}" > out 2> err
+  status=$?
+  [ "$status" = 7 ] && [ ! -s out ] && cmp -s err "givers$number" && good=yes
+  check $good "origins $number"
 done
 
 # turns NAME WORDS STATUS: each request refused in turn, from the start of the program to its end: nothing was printed

@@ -13,7 +13,7 @@ use std::alloc::{AllocError, Global};
 /// Where a value comes from.
 #[derive(Clone, Copy, Debug, PartialEq, Eq)]
 pub enum Origin {
-    /// No file and no setting has said anything of it.
+    /// Nothing gave it, or what gave it was taken out again.
     Unknown,
     /// The file of that index, behind so many of its bytes.
     File(usize, usize),
@@ -43,14 +43,18 @@ fn origin_in_files(
     tokens: &[String],
 ) -> Result<Origin, AllocError> {
     let mut origin = Origin::Unknown;
+    // How many of the tokens lead to the array that the value stands in, where it stands in one.
+    let mut array: Option<usize> = None;
     for (index, layer) in layers.iter().enumerate() {
-        match said_of(alloc, &layer.text, tokens)? {
-            Said::Value(at) => origin = Origin::File(index, at),
+        (origin, array) = match said_of(alloc, &layer.text, tokens)? {
+            Said::Value(at) => (Origin::File(index, at), None),
+            Said::Item(at, depth) => (Origin::File(index, at), Some(depth)),
             // The first file is merged over nothing, so its nulls stay.
-            Said::Null(at) if index == 0 => origin = Origin::File(index, at),
-            Said::Null(_) | Said::Else => origin = Origin::Unknown,
-            Said::Nothing => {}
-        }
+            Said::Null(at) if index == 0 => (Origin::File(index, at), None),
+            // An array on the way gives way to an object.
+            Said::Nothing(depth) if array.is_none_or(|array| depth < array) => (origin, array),
+            Said::Null(_) | Said::Else | Said::Nothing(_) => (Origin::Unknown, None),
+        };
     }
     Ok(origin)
 }

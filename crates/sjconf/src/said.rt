@@ -13,37 +13,41 @@ use std::alloc::{AllocError, Global};
 pub enum Said {
     /// The value that begins behind so many bytes.
     Value(usize),
-    /// The same, the null of a member: merged over something, it takes that out.
+    /// The value that begins behind so many bytes, in an array to which so many of the tokens lead.
+    Item(usize, usize),
+    /// The null of a member, which begins behind so many bytes: merged over something, it takes that out.
     Null(usize),
     /// Something else stands on the way: merged over something, it takes its place.
     Else,
-    /// Nothing: what it is merged over stays.
-    Nothing,
+    /// The object to which so many of the tokens lead lacks the next: what it is merged over stays, but
+    /// for an array on the way to here.
+    Nothing(usize),
 }
 
 /// What the text says of the place that the tokens lead to.
 pub fn said_of(alloc: Global, text: &[u8], tokens: &[String]) -> Result<Said, AllocError> {
     let mut at = skip_blank(text);
-    let mut is_in_array = false;
-    for token in tokens {
+    let mut array: Option<usize> = None;
+    for (depth, token) in tokens.iter().enumerate() {
         let found = match at {
             [b'{', members @ ..] => member(alloc, members, token.as_str())?,
             [b'[', items @ ..] => {
-                is_in_array = true;
+                array = array.or(Some(depth));
                 position(token.as_str()).and_then(|index| item(items, index))
             }
             _ => return Ok(Said::Else),
         };
         at = match found {
             Some(value) => value,
-            None if is_in_array => return Ok(Said::Else),
-            None => return Ok(Said::Nothing),
+            None if array.is_some() => return Ok(Said::Else),
+            None => return Ok(Said::Nothing(depth)),
         };
     }
     let begin = text.len().saturating_sub(at.len());
-    Ok(match at {
-        [b'n', ..] if !is_in_array && !tokens.is_empty() => Said::Null(begin),
-        _ => Said::Value(begin),
+    Ok(match (array, at) {
+        (Some(array), _) => Said::Item(begin, array),
+        (None, [b'n', ..]) if !tokens.is_empty() => Said::Null(begin),
+        (None, _) => Said::Value(begin),
     })
 }
 

@@ -131,8 +131,8 @@ fn no_shape(
     flaw: Flaw,
 ) -> Result<Fault, AllocError> {
     let at = match said_of(alloc, &layer.text, &tokens)? {
-        Said::Value(at) | Said::Null(at) => at,
-        Said::Else | Said::Nothing => 0,
+        Said::Value(at) | Said::Item(at, _) | Said::Null(at) => at,
+        Said::Else | Said::Nothing(_) => 0,
     };
     let source = located(alloc, layer, at)?;
     let place = pointed(alloc, &Pointer::from_tokens(tokens))?;
