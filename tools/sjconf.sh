@@ -119,6 +119,12 @@ conf 'a fraction' 2 '' 'sjconf: --set k=1.5: expected a whole number from -2^127
 conf 'an exponent' 2 '' 'sjconf: --set k=-1E+5: expected a whole number from -2^127 to 2^128-1, or a text in quotes\n' --set k=-1E+5 site.json
 conf 'a number past the limits' 2 '' 'sjconf: --set k=340282366920938463463374607431768211456: expected a whole number from -2^127 to 2^128-1, or a text in quotes\n' \
   --set k=340282366920938463463374607431768211456 site.json
+for word in 'limits={"ratio":0.5}' 'k=[1.5]' 'k= 1.5' 'k=-1e5  ' 'k= [[340282366920938463463374607431768211456]]' 'k=[{"n":-0.0}] '; do
+  conf "a number that is none: $word" 2 '' "sjconf: --set $word: expected a whole number from -2^127 to 2^128-1, or a text in quotes\n" --set "$word" site.json
+done
+for word in '1.2.3 ' '1.5x' '-' '.5' '[1' '{1.5'; do
+  conf "a text: $word" 0 "$word\\n" '' --raw --get k --set "k=$word" site.json
+done
 conf 'a null is set' 0 '{"port":null,"log":{"to":"/var/lög"}}\n' '' --set port=null site.json
 conf 'an object is set whole' 0 '{"level":"warn"}\n' '' --set 'log={"level":"warn"}' --get /log defaults.json site.json
 conf 'a pointer' 0 '{"to":"/var/lög","a.b":{"x/y":true}}\n' '' --set '/log/a.b/x~1y=true' --get log site.json

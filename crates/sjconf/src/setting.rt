@@ -75,15 +75,26 @@ pub fn setting_of<'w>(alloc: Global, word: &'w str) -> Result<Setting<'w>, Setti
 }
 
 /// The value that the text spells, or else the text. A number that is not whole, or past the limits,
-/// is refused.
+/// is refused, in an array or object too.
 fn value_of(alloc: Global, text: &str) -> Result<Value, SettingFault> {
     let mut bytes = text.as_bytes().to_vec(alloc)?;
     match to_value(alloc, &mut bytes) {
         Ok(value) => Ok(value),
         Err(ErrorKind::OutOfMemory) => Err(SettingFault::OutOfMemory),
-        Err(_) if is_number(text) => Err(SettingFault::NoNumber),
+        Err(ErrorKind::Float | ErrorKind::NumberTooLarge)
+            if is_number(trimmed(text)) || opens(text) => Err(SettingFault::NoNumber),
         Err(_) => Ok(Value::from(String::from_str(alloc, text)?)),
     }
+}
+
+/// The text without the blanks of JSON at its ends.
+fn trimmed(text: &str) -> &str {
+    text.trim_matches([' ', '\t', '\n', '\r'])
+}
+
+/// Whether the text begins as an array or an object does.
+fn opens(text: &str) -> bool {
+    trimmed(text).starts_with(['[', '{'])
 }
 
 /// Whether the text is a number of JSON (RFC 8259, section 6), of any size, with a fraction or not.
