@@ -141,6 +141,8 @@ conf 'no such file' 5 '' 'sjconf: absent.json: cannot be read: No such file or d
 conf 'a broken file' 3 '' 'sjconf: broken.json: line 2, column 10: syntax error\n' site.json broken.json
 printf '[\n "\xff"]' > utf8.json
 conf 'no UTF-8' 3 '' 'sjconf: utf8.json: line 2, column 3: invalid UTF-8\n' utf8.json
+printf '{x\n"\xff"' > both.json
+conf 'of two faults the first' 3 '' 'sjconf: both.json: line 1, column 2: syntax error\n' both.json
 printf '{"n":\n\n  1.5}' > float.json
 conf 'a file with a fraction' 3 '' 'sjconf: float.json: line 3, column 4: number with a fraction or an exponent\n' float.json
 : > empty.json

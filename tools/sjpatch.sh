@@ -118,6 +118,7 @@ expect 'standard input in place' 'apply -i patch.json -' "$old" 2 '' 'sjpatch: s
 
 # texts and files
 expect 'no text' 'apply patch.json -' '{"a":\n1.5}' 3 '' 'sjpatch: standard input: line 2, column 2: number with a fraction or an exponent\n'
+expect 'of two faults the first' 'canon -' '{x\n"\xff"' 3 '' 'sjpatch: standard input: line 1, column 2: syntax error\n'
 expect 'no patch text' 'apply - old.json' '[' 3 '' 'sjpatch: standard input: line 1, column 2: syntax error\n'
 expect 'no patch' 'apply old.json new.json' '' 3 '' 'sjpatch: old.json: a patch is an array\n'
 expect 'no operation' 'apply - old.json' '[{"op":"test","path":"","value":null},{"op":"add","path":"x","value":1}]' 3 '' \

@@ -90,6 +90,7 @@ expect 'help that cannot be written' 5 '' 'sjroute: -: cannot be written\n'
 
 wrong 'rules that are no JSON' '[{"output":"o",\n "key": nul}]' 'line 2, column 12: syntax error'
 wrong 'rules with a fraction' '[{"output":"o","key":"a","value":1.5}]' 'line 1, column 35: number with a fraction or an exponent'
+wrong 'rules with two faults' '[x\n"\xff"]' 'line 1, column 2: syntax error'
 wrong 'rules that end too soon' '[{"output":"o"}' 'line 1, column 16: syntax error'
 wrong 'rules that are no array' '{"output":"o"}' 'expected an array of routes'
 wrong 'a route that is no object' '[{"output":"o"},7]' 'at /1: expected an object'

@@ -58,14 +58,17 @@ impl Fault {
         }
     }
 
-    /// The fault of a file that is no JSON text, at that place.
+    /// The fault of a file that is no JSON text: at the place and for its reason, where one was found.
     pub fn no_json(
         alloc: Global,
         path: &str,
         place: Option<Place>,
         why: ErrorKind,
     ) -> Result<Fault, AllocError> {
-        let (line, column) = place.map_or((1, 1), |place| (place.line, place.column));
+        let (line, column, why) = place.map_or(
+            (1, 1, why),
+            |place| (place.line, place.column, place.why),
+        );
         let name = String::from_str(alloc, file_name(path))?;
         Ok(Fault::NoJson(name, line, column, why))
     }

@@ -40,9 +40,12 @@ impl Fault {
         }
     }
 
-    /// The fault of a file that is no JSON text, at that place.
+    /// The fault of a file that is no JSON text: at the place and for its reason, where one was found.
     pub fn unread(path: String, place: Option<Place>, why: ErrorKind) -> Fault {
-        let (line, column) = place.map_or((1, 1), |place| (place.line, place.column));
+        let (line, column, why) = place.map_or(
+            (1, 1, why),
+            |place| (place.line, place.column, place.why),
+        );
         Fault::Unread(path, line, column, why)
     }
 }
