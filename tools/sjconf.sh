@@ -75,6 +75,7 @@ for words in '' '--get' '--set a=1' '--quick site.json' 'site.json --get' '--get
   [ "$status" = 2 ] && [ ! -s out ] && grep -q '^error: ' err && good=yes
   check $good "words: $words"
 done
+conf 'a word that is not UTF-8' 2 '' 'sjconf: a word is not UTF-8\n' $'\xff' site.json
 
 # files, one over another
 conf 'one file' 0 '{"port":8080,"log":{"to":"/var/lög"}}\n' '' site.json
@@ -230,6 +231,16 @@ status=$?
 good=no
 [ "$status" = 5 ] && [ "$(cat err)" = 'sjconf: standard output: cannot be written: No space left on device (os error 28)' ] && good=yes
 check $good 'an output that is full'
+"$program" --help > /dev/full 2> err
+status=$?
+good=no
+[ "$status" = 5 ] && [ "$(cat err)" = 'sjconf: standard output: cannot be written: No space left on device (os error 28)' ] && good=yes
+check $good 'help that cannot be written'
+"$program" --quick > out 2> /dev/full
+status=$?
+good=no
+[ "$status" = 2 ] && [ ! -s out ] && good=yes
+check $good 'usage that cannot be told'
 
 # random files, merged, beside RFC 7396 in python3; of one file every value that stands in it, by line and column; and of several
 # files and settings what gave each value

@@ -94,6 +94,16 @@ status=$?
 good=no
 [ "$status" = 5 ] && [ "$(cat err)" = 'sjpatch: standard output: cannot be written: No space left on device (os error 28)' ] && good=yes
 check $good 'an output that is full'
+"$program" --help > /dev/full 2> err
+status=$?
+good=no
+[ "$status" = 5 ] && [ "$(cat err)" = 'sjpatch: standard output: cannot be written: No space left on device (os error 28)' ] && good=yes
+check $good 'help that cannot be written'
+"$program" --quick > out 2> /dev/full
+status=$?
+good=no
+[ "$status" = 2 ] && [ ! -s out ] && good=yes
+check $good 'usage that cannot be told'
 
 # words
 for words in --help -h 'apply --help'; do
@@ -112,6 +122,7 @@ for words in '' frob help apply 'apply a' 'apply a b c' 'apply -x a b' 'diff -i 
   [ "$status" = 2 ] && [ ! -s out ] && grep -q '^error: ' err && good=yes
   check $good "words: $words"
 done
+expect 'a word that is not UTF-8' $'\xff' '' 2 '' 'sjpatch: a word is not UTF-8\n'
 expect twice 'same - -' '1' 2 '' 'sjpatch: standard input is one file alone\n'
 expect 'standard input in place' 'canon -i -' "$old" 2 '' 'sjpatch: standard input cannot be replaced\n'
 expect 'standard input in place' 'apply -i patch.json -' "$old" 2 '' 'sjpatch: standard input cannot be replaced\n'

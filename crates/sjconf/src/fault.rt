@@ -10,6 +10,8 @@ use thiserror::Error;
 /// Why nothing was printed, as it is told on standard error.
 #[derive(Debug, Drop, Error)]
 pub enum Fault {
+    #[error("a word is not UTF-8")]
+    NoText,
     #[error("standard input is one file alone")]
     InputTwice,
     /// What `--set` was given is no setting, or leads nowhere.
@@ -50,7 +52,7 @@ impl Fault {
         match self {
             Fault::Nothing(_) => 1,
             Fault::Setting(_, SettingFault::LeadsNowhere) => 6,
-            Fault::InputTwice | Fault::Setting(..) | Fault::NoPlace(_) => 2,
+            Fault::NoText | Fault::InputTwice | Fault::Setting(..) | Fault::NoPlace(_) => 2,
             Fault::NoJson(..) | Fault::NoShape(_) => 3,
             Fault::OutOfMemory | Fault::TooLong => 4,
             Fault::Unread(..) | Fault::Unwritten(_) => 5,

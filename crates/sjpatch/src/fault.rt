@@ -10,6 +10,8 @@ use thiserror::Error;
 /// Why nothing was done, as it is told on standard error.
 #[derive(Debug, Drop, Error)]
 pub enum Fault {
+    #[error("a word is not UTF-8")]
+    NoText,
     #[error("standard input is one file alone")]
     InputTwice,
     #[error("standard input cannot be replaced")]
@@ -43,7 +45,7 @@ impl Fault {
     /// The exit status.
     pub fn status(&self) -> u8 {
         match self {
-            Fault::InputTwice | Fault::InputReplaced => 2,
+            Fault::NoText | Fault::InputTwice | Fault::InputReplaced => 2,
             Fault::NoJson(..) | Fault::NoPatch(..) => 3,
             Fault::OutOfMemory | Fault::TooLong => 4,
             Fault::Unread(..) | Fault::Unwritten(..) => 5,

@@ -39,15 +39,18 @@ fn run(rt: &(impl Files + Input + Print + Eprint + AllocGlobal), task: Task<'_>)
     }
 }
 
-/// Help goes to standard output, and what is wrong with the words to standard error.
-fn tell_usage(rt: &(impl Print + Eprint), error: &Error) -> u8 {
+/// Help goes to standard output, and what is wrong with the words to standard error; the status.
+fn tell_usage(rt: &(impl Print + Eprint + AllocGlobal), error: &Error) -> u8 {
     if error.kind() == ErrorKind::OutOfMemory {
         return tell(rt, &Fault::OutOfMemory);
     }
-    match (error.print(rt), error.exit_code()) {
-        (Err(_), _) => 5,
-        (Ok(()), 0) => 0,
-        (Ok(()), _) => 2,
+    match (error.exit_code(), error.print(rt)) {
+        (0, Ok(())) => 0,
+        (0, Err(why)) => match Fault::unwritten(rt.alloc(), "standard output", why) {
+            Ok(fault) => tell(rt, &fault),
+            Err(_) => tell(rt, &Fault::OutOfMemory),
+        },
+        (_, _) => 2,
     }
 }
 
@@ -57,7 +60,7 @@ fn main(rt: HostRuntime) -> ExitCode {
         Err(error) if error.kind() == io::ErrorKind::OutOfMemory => {
             return ExitCode::from(tell(&rt, &Fault::OutOfMemory));
         }
-        Err(_) => return ExitCode::from(2),
+        Err(_) => return ExitCode::from(tell(&rt, &Fault::NoText)),
     };
     ExitCode::from(match task_of(rt.alloc(), words.as_slice()) {
         Ok(task) => run(&rt, task),
