@@ -1,7 +1,7 @@
 //! Merges configuration files, sets values, checks the whole against a shape, and prints it.
 //!
 //! `sjconf [OPTIONS] FILE..`: docs/SJCONF.md has the words, the shapes and the statuses. After a fault
-//! nothing was printed.
+//! nothing was printed, but where printing itself failed.
 #![tactic(auto)]
 
 mod check;

@@ -1,13 +1,17 @@
-//! Files merged, and values set in what they make.
+//! Files merged, values set in what they make, and the whole checked.
 
 ghost use Rattle.std.specs.Prelude.{IfOk, map, string_bytes};
 ghost use Rattle.sj_document.specs.Document.{tree};
+ghost use Rattle.sjconf.specs.Demands.{AllMet};
 ghost use Rattle.sjconf.specs.Layers.{AreRead};
 ghost use Rattle.sjconf.specs.Settings.{IsMade};
 
+use crate::check::check;
+use crate::demand::Demand;
 use crate::fault::Fault;
 use crate::input::{Layer, document};
 use crate::layers::merge_all;
+use crate::report::Made;
 use crate::setting::{Setting, set_all};
 use sj_owned::Value;
 use std::alloc::Global;
@@ -23,12 +27,28 @@ fn documents(alloc: Global, layers: &[Layer<'_>]) -> Result<Vec<Value>, Fault>
     Ok(documents)
 }
 
-/// The files merged in turn, and what the settings make of that.
-pub fn made_of(
+/// The files merged in turn, and what the settings make of that. Refused where it does not meet each
+/// demand.
+pub fn checked(
     alloc: Global,
     layers: &[Layer<'_>],
     settings: &[Setting<'_>],
+    demands: &[Demand],
 ) -> Result<Value, Fault>
+    ensures { IfOk result (λ v. IsMade layers.now settings.now (tree string_bytes v) × AllMet (tree string_bytes v) demands.now) }
+{
+    let whole = made_of(alloc, layers, settings)?;
+    let made = Made {
+        layers,
+        settings,
+        whole: &whole,
+    };
+    check(alloc, made, demands)?;
+    Ok(whole)
+}
+
+/// The files merged in turn, and what the settings make of that.
+fn made_of(alloc: Global, layers: &[Layer<'_>], settings: &[Setting<'_>]) -> Result<Value, Fault>
     ensures { IfOk result (λ v. IsMade layers.now settings.now (tree string_bytes v)) }
 {
     let documents = documents(alloc, layers)?;

@@ -25,7 +25,7 @@ A KEY is keys with a dot between each two, as log.level, or a JSON pointer, as /
 JSON, or else it is a text.
 Statuses: 0 done, 1 nothing stands at --get, 2 usage, 3 no JSON text or no shape, 4 out of memory or
 too long, 5 input or output failed, 6 a --set leads nowhere, 7 the shape is not met. After 1 to 7
-nothing was printed but faults.";
+nothing was printed but faults; after 5 a part may have been.";
 
 fn option<'a>(alloc: Global, name: &'a str, value: &'a str, help: &'a str) -> Arg<'a> {
     Arg::new(alloc, name)

@@ -1,15 +1,13 @@
 //! What the program does.
 
-use crate::check::check;
 use crate::demand::Demand;
 use crate::fault::Fault;
 use crate::input::{Layer, read_layer};
 use crate::key::place_of;
 use crate::output::{print_of, raw_of};
-use crate::report::Made;
 use crate::setting::{Setting, setting_of};
 use crate::shapes::demands_of;
-use crate::whole::made_of;
+use crate::whole::checked;
 use crate::words::Task;
 use sj_owned::Value;
 use sj_path::owned::find;
@@ -18,8 +16,8 @@ use std::alloc::Global;
 use std::io::{self, Write};
 use std::rt::Files;
 
-/// Merges, sets, checks and prints, as the words ask. After a fault nothing is printed, but where that
-/// fails itself.
+/// Merges, sets, checks and prints, as the words ask. After a fault nothing is printed, but where printing
+/// itself fails.
 pub fn work(rt: &(impl Files + Input + Print + AllocGlobal), task: &Task<'_>) -> Result<(), Fault> {
     if task.reads_input_twice() {
         return Err(Fault::InputTwice);
@@ -29,13 +27,7 @@ pub fn work(rt: &(impl Files + Input + Print + AllocGlobal), task: &Task<'_>) ->
     let settings = settings_of(alloc, &task.settings)?;
     let layers = read_all(rt, &task.files)?;
     let demands = read_shape(rt, task.shape)?;
-    let whole = made_of(alloc, &layers, &settings)?;
-    let made = Made {
-        layers: &layers,
-        settings: &settings,
-        whole: &whole,
-    };
-    check(alloc, made, &demands)?;
+    let whole = checked(alloc, &layers, &settings, &demands)?;
     print(rt, task, &whole, &place)
 }
 
