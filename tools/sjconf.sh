@@ -91,6 +91,11 @@ conf 'standard input twice' 2 '' 'sjconf: standard input is one file alone\n' - 
 conf 'standard input as a shape too' 2 '' 'sjconf: standard input is one file alone\n' - --shape -
 printf '%s' '[3]' > in
 conf 'what is no object takes the place' 0 '[3]\n' '' defaults.json -
+for scalar in null 7 '"x"'; do
+  printf '%s' "$scalar" > in
+  conf "a later file of $scalar" 0 "$scalar\\n" '' defaults.json -
+done
+printf '%s' '[3]' > in
 conf 'an object takes the place of an array' 0 '{"port":8080,"log":{"to":"/var/lög"}}\n' '' - site.json
 printf '%s' '{"log.to":{"kind":"null"}}' > in
 conf 'a shape on standard input' 0 '80\n' '' --shape - defaults.json --get port
@@ -136,9 +141,17 @@ conf 'a scalar on the way' 6 '' 'sjconf: --set port.x=1: no such item, or no obj
 conf 'the whole' 0 '5\n' '' --set =5 site.json
 conf 'no setting' 2 '' 'sjconf: --set port: expected KEY=VALUE\n' --set port site.json
 conf 'a setting of no pointer' 2 '' 'sjconf: --set /a~=1: a pointer has a 0 or a 1 behind each tilde\n' --set '/a~=1' site.json
+conf 'an empty key' 0 '{"":{"b":1}}\n' '' --set a..b=1 --get a site.json
+conf 'a setting with a line feed' 2 '' 'sjconf: --set "a\\nb": expected KEY=VALUE\n' --set $'a\nb' site.json
+conf 'a number with a line feed behind it' 2 '' 'sjconf: --set "k=\\t1.5\\r\\n": expected a whole number from -2^127 to 2^128-1, or a text in quotes\n' --set $'k=\t1.5\r\n' site.json
+conf 'a setting with a line feed that leads nowhere' 6 '' 'sjconf: --set "port.\\n=1": no such item, or no object or array on the way\n' --set $'port.\n=1' site.json
+conf 'a key with a line feed' 1 '' 'sjconf: --get "a\\nb": nothing stands there\n' --get $'a\nb' site.json
+conf 'no pointer with a control character' 2 '' 'sjconf: --get "/\\u001f~": a pointer has a 0 or a 1 behind each tilde\n' --get $'/\x1f~' site.json
 
 # files that are not read
 conf 'no such file' 5 '' 'sjconf: absent.json: cannot be read: No such file or directory (os error 2)\n' absent.json
+conf 'no such file, with a line feed' 5 '' 'sjconf: "no\\nfile": cannot be read: No such file or directory (os error 2)\n' $'no\nfile'
+conf 'a folder' 5 '' 'sjconf: .: cannot be read: Is a directory (os error 21)\n' .
 conf 'a broken file' 3 '' 'sjconf: broken.json: line 2, column 10: syntax error\n' site.json broken.json
 printf '[\n "\xff"]' > utf8.json
 conf 'no UTF-8' 3 '' 'sjconf: utf8.json: line 2, column 3: invalid UTF-8\n' utf8.json
@@ -149,6 +162,14 @@ conf 'a file with a fraction' 3 '' 'sjconf: float.json: line 3, column 4: number
 : > empty.json
 conf 'an empty file' 3 '' 'sjconf: empty.json: line 1, column 1: syntax error\n' empty.json
 conf 'a broken shape' 3 '' 'sjconf: broken.json: line 2, column 10: syntax error\n' --shape broken.json site.json
+printf '{"a":' > in
+conf 'broken standard input' 3 '' 'sjconf: standard input: line 1, column 6: syntax error\n' site.json -
+conf 'a broken shape on standard input' 3 '' 'sjconf: standard input: line 1, column 6: syntax error\n' --shape - site.json
+: > in
+printf '\xef\xbb\xbf{}' > mark.json
+conf 'a byte order mark' 3 '' 'sjconf: mark.json: line 1, column 1: syntax error\n' mark.json
+printf '{\r\n "a": 1,\r\n "b": tru\r\n}' > returns.json
+conf 'lines that end in CR LF' 3 '' 'sjconf: returns.json: line 3, column 10: syntax error\n' returns.json
 conf 'no such shape' 5 '' 'sjconf: absent.json: cannot be read: No such file or directory (os error 2)\n' --shape absent.json site.json
 
 # shapes that are met, and those that are not
@@ -177,6 +198,10 @@ shape 'no length' '{"port":{"min_length":1}}' 7 'sjconf: site.json: line 2, colu
 shape 'none of the choices' '{"log.level":{"kind":"string","one_of":["a\\"b",null,[1]]}}' 7 \
   'sjconf: defaults.json: line 1, column 45: at /log/level: expected a string, one of "a\\"b", null, [1], found "info"\n'
 shape 'a key too many' '{"log":{"other_keys":false},"log.to":{}}' 7 'sjconf: defaults.json: line 1, column 45: at /log/level: expected no key but "to", found "info"\n'
+shape 'keys as JSON' '{"log":{"other_keys":false},"/log/\\u0001":{},"log.to":{}}' 7 \
+  'sjconf: defaults.json: line 1, column 45: at /log/level: expected no key but "\\u0001", "to", found "info"\n'
+shape 'a key too many at the top' '{"":{"other_keys":false},"port":{},"log.level":{}}' 7 \
+  'sjconf: defaults.json: line 1, column 20: at /hosts: expected no key but "port", "log", found an array of length 2\nsjconf: defaults.json: line 1, column 69: at /big: expected no key but "port", "log", found 340282366920938463463374607431768211455\n'
 shape 'no keys at all' '{"log":{"other_keys":false}}' 7 \
   'sjconf: defaults.json: line 1, column 45: at /log/level: expected no key, found "info"\nsjconf: site.json: line 3, column 16: at /log/to: expected no key, found "/var/lög"\n'
 shape 'what is missing' '{"name":{"kind":"string","required":true}}' 7 'sjconf: site.json: line 1, column 1: at /name: expected a string, found nothing\n'
@@ -189,6 +214,8 @@ shape 'what is missing in an array' '{"hosts.2":{"required":true}}' 7 'sjconf: u
 shape 'an item' '{"hosts.0":{"kind":"integer"}}' 7 'sjconf: user.json: line 1, column 57: at /hosts/0: expected an integer, found "c"\n' user.json
 shape 'inside what was set' '{"log.a":{"kind":"null"}}' 7 'sjconf: --set log={"a":[1]}: at /log/a: expected null, found an array of length 1\n' --set log.a=3 --set 'log={"a":[1]}'
 shape 'inside what was set whole before' '{"log.a":{"kind":"null"}}' 7 'sjconf: --set log.a.b=1: at /log/a: expected null, found an object\n' --set 'log={}' --set log.a.b=1
+shape 'a line feed in what was set' '{"port":{"kind":"null"}}' 7 'sjconf: --set "port=a\\nb": at /port: expected null, found "a\\nb"\n' --set $'port=a\nb'
+shape 'a line feed in a pointer' '{"/a\\nb/\\"":{"required":true}}' 7 'sjconf: site.json: line 1, column 1: at "/a\\nb/\\"": expected a value, found nothing\n'
 shape 'all that is not met' '{"port":{"kind":"null"},"hosts":{"max_length":0},"none":{"required":true}}' 7 \
   'sjconf: site.json: line 2, column 10: at /port: expected null, found 8080\nsjconf: defaults.json: line 1, column 20: at /hosts: expected a value with a length of at most 0, found an array of length 2\nsjconf: site.json: line 1, column 1: at /none: expected a value, found nothing\n'
 printf '%s' '{"\u0070ort": "\"}{", "port": 2, "l\u006fg": {"x": [{"y":"]"},{"y": 7}]}}' > escaped.json
@@ -200,8 +227,14 @@ printf '%s' '{"port":null}' > in
 printf '%s' '{"port":{"required":true}}' > shape.json
 conf 'what a null took out' 7 '' 'sjconf: standard input: line 1, column 1: at /port: expected a value, found nothing\n' --shape shape.json site.json -
 printf '%s' '{"port":{"required":true,"kind":"integer"}}' > shape.json
+printf '{\r\n "port": null\r\n}' > in
+conf 'a null of the base, behind CR LF' 7 '' 'sjconf: standard input: line 2, column 10: at /port: expected an integer, found null\n' --shape shape.json -
+printf '%s' '{"port":null}' > in
 conf 'a null of the base' 7 '' 'sjconf: standard input: line 1, column 9: at /port: expected an integer, found null\n' --shape shape.json -
 : > in
+printf '%s' null > in
+printf '%s' '{"":{"kind":"object"}}' > shape.json
+conf 'a null as a later file' 7 '' 'sjconf: standard input: line 1, column 1: at the top: expected an object, found null\n' --shape shape.json site.json -
 printf '%s' '["p"]' > list.json
 printf '%s' '{}' > in
 printf '%s' '{"0":{"kind":"string"}}' > shape.json
@@ -212,8 +245,8 @@ conf 'an object in the place of an array' 7 '' 'sjconf: --set 0.x=1: at /0: expe
 shape 'no object' '[]' 3 'sjconf: SHAPE: line 1, column 1: at the top: expected an object\n'
 shape 'a demand that is no object' '{"port":1}' 3 'sjconf: SHAPE: line 1, column 9: at /port: expected an object\n'
 shape 'a key that is no pointer' '{\n"/a~":{}}' 3 'sjconf: SHAPE: line 2, column 7: at /~1a~0: expected a 0 or a 1 behind each tilde of a pointer\n'
-shape 'another member' '{"port":{"type":1}}' 3 \
-  'sjconf: SHAPE: line 1, column 9: at /port: expected no member but kind, required, min, max, min_length, max_length, one_of and other_keys\n'
+shape 'another member' '{"port":{"min":1,"maximum":2}}' 3 \
+  'sjconf: SHAPE: line 1, column 28: at /port/maximum: expected no member but kind, required, min, max, min_length, max_length, one_of and other_keys\n'
 shape 'no kind' '{"log.to":\n {"kind":"number"}}' 3 'sjconf: SHAPE: line 2, column 10: at /log.to/kind: expected "null", "boolean", "integer", "string", "array" or "object"\n'
 shape 'no truth' '{"port":{"required":1}}' 3 'sjconf: SHAPE: line 1, column 21: at /port/required: expected true or false\n'
 shape 'no truth of other keys' '{"port":{"other_keys":[]}}' 3 'sjconf: SHAPE: line 1, column 23: at /port/other_keys: expected true or false\n'

@@ -2,7 +2,8 @@
 
 use crate::setting::SettingFault;
 use sj_fault::Fault as Place;
-use sj_owned::{ErrorKind, WriteError};
+use sj_owned::prelude::*;
+use sj_owned::{ErrorKind, Value, WriteError};
 use std::alloc::{AllocError, AllocFailed, Global};
 use std::io;
 use thiserror::Error;
@@ -41,9 +42,18 @@ pub enum Fault {
     OutOfMemory,
 }
 
-/// The name of a file in what is told.
-pub fn file_name(path: &str) -> &str {
-    if path == "-" { "standard input" } else { path }
+/// A word or a pointer as it is told, on one line: as a JSON string where it has a control character.
+pub fn told(alloc: Global, word: &str) -> Result<String, WriteError> {
+    let word = String::from_str(alloc, word)?;
+    if word.bytes().any(|byte| byte < b' ') {
+        return Value::from(word).encode(alloc);
+    }
+    Ok(word)
+}
+
+/// The name of a file as it is told.
+pub fn file_name(alloc: Global, path: &str) -> Result<String, WriteError> {
+    told(alloc, if path == "-" { "standard input" } else { path })
 }
 
 impl Fault {
@@ -66,31 +76,27 @@ impl Fault {
         path: &str,
         place: Option<Place>,
         why: ErrorKind,
-    ) -> Result<Fault, AllocError> {
+    ) -> Result<Fault, WriteError> {
         let (line, column, why) = place.map_or(
             (1, 1, why),
             |place| (place.line, place.column, place.why),
         );
-        let name = String::from_str(alloc, file_name(path))?;
-        Ok(Fault::NoJson(name, line, column, why))
+        Ok(Fault::NoJson(file_name(alloc, path)?, line, column, why))
     }
 
     /// The fault of a word that `--set` was given.
-    pub fn setting(alloc: Global, word: &str, why: SettingFault) -> Result<Fault, AllocError> {
+    pub fn setting(alloc: Global, word: &str, why: SettingFault) -> Result<Fault, WriteError> {
         match why {
             SettingFault::OutOfMemory => Ok(Fault::OutOfMemory),
-            _ => Ok(Fault::Setting(String::from_str(alloc, word)?, why)),
+            _ => Ok(Fault::Setting(told(alloc, word)?, why)),
         }
     }
 
     /// The fault of a file that was not read.
-    pub fn unread(alloc: Global, path: &str, why: io::Error) -> Result<Fault, AllocError> {
+    pub fn unread(alloc: Global, path: &str, why: io::Error) -> Result<Fault, WriteError> {
         match why.kind() {
             io::ErrorKind::OutOfMemory => Ok(Fault::OutOfMemory),
-            _ => {
-                let name = String::from_str(alloc, file_name(path))?;
-                Ok(Fault::Unread(name, why))
-            }
+            _ => Ok(Fault::Unread(file_name(alloc, path)?, why)),
         }
     }
 

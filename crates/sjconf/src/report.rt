@@ -2,16 +2,16 @@
 
 use crate::demand::{Demand, is_key_of};
 use crate::expected::{expected_text, found_text};
-use crate::fault::{Fault, file_name};
+use crate::fault::{Fault, file_name, told};
 use crate::input::Layer;
 use crate::line::{column, line};
 use crate::origin::{Origin, origin_of, reached};
 use crate::setting::Setting;
-use sj_owned::Value;
 use sj_owned::prelude::*;
+use sj_owned::{Value, WriteError};
 use sj_path::owned::find;
 use sj_pointer::Pointer;
-use std::alloc::{AllocError, Global};
+use std::alloc::Global;
 
 /// What was merged and set, and what it made.
 #[derive(Clone, Copy)]
@@ -22,33 +22,37 @@ pub struct Made<'m, 'w> {
 }
 
 /// The place, as it is told.
-pub fn pointed(alloc: Global, place: &Pointer) -> Result<String, AllocError> {
+pub fn pointed(alloc: Global, place: &Pointer) -> Result<String, WriteError> {
     if place.tokens().is_empty() {
-        String::from_str(alloc, "at the top")
-    } else {
-        format!(in alloc; "at {place}")
+        return Ok(String::from_str(alloc, "at the top")?);
     }
+    let pointer = told(alloc, &format!(in alloc; "{place}")?)?;
+    Ok(format!(in alloc; "at {pointer}")?)
 }
 
 /// Where in a file's text so many bytes lead, as it is told.
-pub fn located(alloc: Global, layer: &Layer<'_>, at: usize) -> Result<String, AllocError> {
+pub fn located(alloc: Global, layer: &Layer<'_>, at: usize) -> Result<String, WriteError> {
     let begin = &layer.text[..at.min(layer.text.len())];
     let (line, column) = (line(begin), column(begin));
-    format!(in alloc; "{}: line {line}, column {column}", file_name(layer.path))
+    let name = file_name(alloc, layer.path)?;
+    Ok(format!(in alloc; "{name}: line {line}, column {column}")?)
 }
 
 /// Where the value comes from that the tokens lead to, as it is told.
-fn source(alloc: Global, made: Made<'_, '_>, tokens: &[String]) -> Result<String, AllocError> {
+fn source(alloc: Global, made: Made<'_, '_>, tokens: &[String]) -> Result<String, WriteError> {
     match origin_of(alloc, made.layers, made.settings, tokens)? {
         Origin::File(index, at) => match made.layers.get(index) {
             Some(layer) => located(alloc, layer, at),
-            None => String::from_str(alloc, "the files"),
+            None => Ok(String::from_str(alloc, "the files")?),
         },
         Origin::Setting(index) => match made.settings.get(index) {
-            Some(setting) => format!(in alloc; "--set {}", setting.word),
-            None => String::from_str(alloc, "the settings"),
+            Some(setting) => {
+                let word = told(alloc, setting.word)?;
+                Ok(format!(in alloc; "--set {word}")?)
+            }
+            None => Ok(String::from_str(alloc, "the settings")?),
         },
-        Origin::Unknown => String::from_str(alloc, "the files"),
+        Origin::Unknown => Ok(String::from_str(alloc, "the files")?),
     }
 }
 
@@ -60,20 +64,22 @@ fn push_line(
     place: &Pointer,
     expected: &str,
     found: &str,
-) -> Result<(), AllocError> {
+) -> Result<(), WriteError> {
     if !lines.is_empty() {
         lines.push_str("\nsjconf: ")?;
     }
     let place = pointed(alloc, place)?;
-    lines.push_str(&format!(in alloc; "{source}: {place}: expected {expected}, found {found}")?)
+    lines.push_str(&format!(in alloc; "{source}: {place}: expected {expected}, found {found}")?)?;
+    Ok(())
 }
 
-/// What keys are asked for, in words.
-fn keys_text(alloc: Global, keys: &[String]) -> Result<String, AllocError> {
+/// What keys are asked for, in words and as JSON.
+fn keys_text(alloc: Global, keys: &[String]) -> Result<String, WriteError> {
     let mut text = String::from_str(alloc, "no key")?;
     let mut gap = " but";
     for key in keys {
-        text.push_str(&format!(in alloc; "{gap} {key:?}")?)?;
+        let key = Value::from(key.clone()?).encode(alloc)?;
+        text.push_str(&format!(in alloc; "{gap} {key}")?)?;
         gap = ",";
     }
     Ok(text)

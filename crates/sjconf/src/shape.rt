@@ -11,9 +11,11 @@ use std::alloc::{AllocError, AllocFailed};
 
 /// Why a document is no shape: what stands at a member of a demand, or at the demand itself where none
 /// is named, is not what it has to be.
-#[derive(Clone, Copy, Debug, PartialEq, Eq)]
+#[derive(Debug, Drop)]
 pub enum Wrong {
     Demand(Flaw),
+    /// A member of that name, which no demand has.
+    Unknown(String),
     Member(&'static str, Flaw),
     OutOfMemory,
 }
@@ -69,7 +71,7 @@ fn check_members(item: &Value) -> Result<(), Wrong> {
     };
     for name in members.keys() {
         if !MEMBERS.contains(&name.as_str()) {
-            return Err(Wrong::Demand(Flaw::Unknown));
+            return Err(Wrong::Unknown(name.clone()?));
         }
     }
     Ok(())

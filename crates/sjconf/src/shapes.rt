@@ -11,8 +11,8 @@ use crate::key::place_of;
 use crate::report::{located, pointed};
 use crate::said::{Said, said_of};
 use crate::shape::{Wrong, demand_of, is_closed};
-use sj_owned::Object;
 use sj_owned::prelude::*;
+use sj_owned::{Object, WriteError};
 use sj_pointer::{Pointer, PointerError};
 use std::alloc::{AllocError, Global};
 
@@ -110,17 +110,22 @@ fn wrong_at(
     layer: &Layer<'_>,
     key: &String,
     wrong: Wrong,
-) -> Result<Fault, AllocError> {
+) -> Result<Fault, WriteError> {
     let mut tokens = Vec::new(alloc);
     tokens.push(key.clone()?)?;
-    match wrong {
-        Wrong::OutOfMemory => Ok(Fault::OutOfMemory),
-        Wrong::Demand(flaw) => no_shape(alloc, layer, tokens, flaw),
+    let flaw = match wrong {
+        Wrong::OutOfMemory => return Ok(Fault::OutOfMemory),
+        Wrong::Demand(flaw) => flaw,
+        Wrong::Unknown(name) => {
+            tokens.push(name)?;
+            Flaw::Unknown
+        }
         Wrong::Member(name, flaw) => {
             tokens.push(String::from_str(alloc, name)?)?;
-            no_shape(alloc, layer, tokens, flaw)
+            flaw
         }
-    }
+    };
+    no_shape(alloc, layer, tokens, flaw)
 }
 
 /// The fault of what stands at those tokens of a shape file.
@@ -129,7 +134,7 @@ fn no_shape(
     layer: &Layer<'_>,
     tokens: Vec<String>,
     flaw: Flaw,
-) -> Result<Fault, AllocError> {
+) -> Result<Fault, WriteError> {
     let at = match said_of(alloc, &layer.text, &tokens)? {
         Said::Value(at) | Said::Item(at, _) | Said::Null(at) => at,
         Said::Else | Said::Nothing(_) => 0,

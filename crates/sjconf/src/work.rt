@@ -1,7 +1,7 @@
 //! What the program does.
 
 use crate::demand::Demand;
-use crate::fault::Fault;
+use crate::fault::{Fault, told};
 use crate::input::{Layer, read_layer};
 use crate::key::place_of;
 use crate::output::{print_of, raw_of};
@@ -38,7 +38,7 @@ fn place_of_get(alloc: Global, word: Option<&str>) -> Result<Pointer, Fault> {
         Ok(place) => Ok(place),
         Err(PointerError::OutOfMemory) => Err(Fault::OutOfMemory),
         Err(PointerError::NoSlash | PointerError::BadTilde) => {
-            Err(Fault::NoPlace(String::from_str(alloc, word)?))
+            Err(Fault::NoPlace(told(alloc, word)?))
         }
     }
 }
@@ -87,8 +87,7 @@ fn print(
 ) -> Result<(), Fault> {
     let alloc = rt.alloc();
     let Some(value) = find(whole, place) else {
-        let word = String::from_str(alloc, task.get.unwrap_or(""))?;
-        return Err(Fault::Nothing(word));
+        return Err(Fault::Nothing(told(alloc, task.get.unwrap_or(""))?));
     };
     let text = if task.is_raw {
         raw_of(alloc, value, task.is_pretty)?
