@@ -51,7 +51,7 @@ fn origin_in_files(
             Said::Item(at, depth) => (Origin::File(index, at), Some(depth)),
             // The first file is merged over nothing, so its nulls stay.
             Said::Null(at) if index == 0 => (Origin::File(index, at), None),
-            // An array on the way gives way to an object.
+            // An object takes the place of an array on the way.
             Said::Nothing(depth) if array.is_none_or(|array| depth < array) => (origin, array),
             Said::Null(_) | Said::Else | Said::Nothing(_) => (Origin::Unknown, None),
         };
