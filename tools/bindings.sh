@@ -68,6 +68,15 @@ shared() { gcc -shared -fPIC -o "$1" -Wl,--whole-archive "$library" -Wl,--no-who
 
 python() { (cd "$root/bindings/python" && PAIZKORDE=$1 PYTHONDONTWRITEBYTECODE=1 python3 "${@:2}"); }
 
+# The tests under valgrind, which tells no error whose place is in python itself. Leaks are told by the blocks that they count.
+python_checked() {
+  local interpreter
+  interpreter=$(python3 -c 'import sys; print(sys.executable)')
+  cd "$root/bindings/python" || return
+  PAIZKORDE=$1 PYTHONMALLOC=malloc PYTHONDONTWRITEBYTECODE=1 valgrind --quiet --leak-check=no --error-exitcode=9 \
+    --suppressions=valgrind.supp "$interpreter" -m unittest test_paizkorde
+}
+
 # What needs no library.
 read_sources() {
   run_with python3 'declarations are those of the exports' python3 "$root/tools/signatures.py"
@@ -88,7 +97,7 @@ call_library() {
   if command -v valgrind > /dev/null; then
     checked=(valgrind --quiet --leak-check=full --errors-for-leak-kinds=definite,indirect --error-exitcode=9)
   else
-    leave_out 'valgrind is not there, so the C and Rust tests run without it'
+    leave_out 'valgrind is not there, so all tests run without it'
   fi
   run 'C: built' build -o "$work/test" "$c/test.c" "$c/heap.c" "$library"
   run 'C: each call' "${checked[@]}" "$work/test"
@@ -103,6 +112,9 @@ call_library() {
   run_with python3 'Python: shared object built' shared "$work/libsj_c.so" "$c/heap.c"
   run_with python3 'Python: one that counts blocks built' shared "$work/counted.so" "$root/bindings/python/counted.c"
   run_with python3 'Python: tests' python "$work/counted.so" -m unittest test_paizkorde
+  if command -v valgrind > /dev/null; then
+    run_with python3 'Python: the tests under valgrind' python_checked "$work/counted.so"
+  fi
   run_with python3 'Python: example of the comment' python "$work/libsj_c.so" -m doctest paizkorde.py
   run_with python3 'Python: example' writes python "$work/libsj_c.so" example.py
 }
