@@ -1,5 +1,6 @@
 mod bare;
 mod comparisons;
+mod large;
 mod prints;
 mod reader;
 mod reads;
