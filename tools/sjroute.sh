@@ -187,7 +187,7 @@ echo "$all" > rules.json
 status=$?
 expect 'a broken line behind many pieces' 0 '40000\n' 'line 40002, column 7: syntax error\n40001 lines, 1 not read, 0 met no rule\n40000 to -\n'
 
-# memory: 30 MB of short lines in 24 MB, and a line of 100 MB in 1,200 MB, which does not fit 24 MB
+# memory: 30 MB of short lines in 24 MB, and a line of 100 MB in 400 MB, which does not fit 24 MB
 long() { head -c "$1" /dev/zero | tr "\0" x | sed 's/.*/["&"]/'; echo; }
 limited() { (ulimit -v "$1" && exec "$program" rules.json); }
 yes '{"id":1,"text":"the quick brown fox","list":[1,2,3]}' | head -n 600000 | limited 24000 2> err | md5sum > out
@@ -195,7 +195,7 @@ status=$?
 yes '{"id":1,"text":"the quick brown fox","list":[1,2,3]}' | head -n 600000 | md5sum > want.sum
 expect 'many lines in little memory' 0 "$(cat want.sum)\n" '600000 lines, 0 not read, 0 met no rule\n600000 to -\n'
 { echo 1; long 100000000; echo 2; } > long.in
-limited 1200000 < long.in 2> err | md5sum > out
+limited 400000 < long.in 2> err | md5sum > out
 status=$?
 expect 'a long line' 0 "$(md5sum < long.in)\n" '3 lines, 0 not read, 0 met no rule\n3 to -\n'
 limited 24000 < long.in > out 2> told
