@@ -135,7 +135,9 @@ fn edits() {
     let patch = Document::parse(patch).expect("it is JSON");
     beside(
         "a patch of three operations, in serde_json by hand",
-        || drop(black_box(document.patch(&patch))),
+        || {
+            let _ = black_box(document.patch(&patch));
+        },
         || {
             if let Some(score) = value.pointer_mut("/3/score") {
                 drop(black_box(std::mem::replace(score, json!(7))));
@@ -157,7 +159,9 @@ fn edits() {
     let mut other = value.pointer("/3").cloned().expect("there are three");
     beside(
         "a merge of three members, in serde_json by hand",
-        || drop(black_box(user.merge(&merge))),
+        || {
+            let _ = black_box(user.merge(&merge));
+        },
         || {
             other["name"] = json!("user");
             if let Some(Value::Object(address)) = other.pointer_mut("/address") {
