@@ -2,7 +2,7 @@
 """Compares the calls that tools/refusals.sh runs with the public functions of the sources.
 
 Usage: tools/calls.py RUNS, a file with a line 'REQUESTS<TAB>WORDS' for each run that was made. What
-each public function is run by stands in tools/calls.txt. Tells each function that stands in no line,
+each public function is run by, or which tests call it, stands in tools/calls.txt. Tells each function that stands in no line,
 each line that names none or a run that was not made so, and each run that no line names; the last
 line has the number of functions.
 
@@ -143,6 +143,12 @@ def listed():
     return lines
 
 
+def is_called(name, test):
+    """Whether a file of tests calls what has the name, as far as that is read in its text."""
+    file = CRATES.parent / test
+    return file.is_file() and (name in OPERATORS or re.search(rf"\b{name}\(", file.read_text()))
+
+
 def faults(requests):
     """What is wrong, line by line, how many functions there are, and how many are called inside of other calls alone."""
     names, left_out = libraries()
@@ -156,6 +162,9 @@ def faults(requests):
             hows.setdefault(key, set()).add(how)
             if key not in sources:
                 wrong.append(f"no such public function: {crate} {own} {name}")
+            if how == "tested":
+                wrong += [f"not called in {test}: {crate} {own} {name}" for test in runs if not is_called(name, test)]
+                continue
             if how != "within" and name not in OPERATORS and not re.search(rf"\b{name}\b", program):
                 wrong.append(f"in neither program of refusals: {crate} {own} {name}")
             for run in (run.replace("$", name) for run in runs):

@@ -83,9 +83,7 @@ free 'fault meet' $'call: found\n'
 free 'fault known' $'call: found\n'
 free 'fault patch' $'call: found\n'
 free run_fault $'call: found\n'
-free 'fault told' $'call: not an array, expected u16, found u64\n'
 
-free 'stream lines' $'call: found\n'
 free 'stream warm' $'call: found\n'
 free 'stream warm_placed' $'call: found\n'
 each 'stream cold' $'call: OutOfMemory, again line 3 read\n' $'call: line 1 read, again line 3 read\n'
@@ -131,7 +129,6 @@ for call in replace change; do
 done
 each capacity $'call: AllocError\nagain made\n' $'call: made\nagain made\n'
 free room $'call: filled, 32 members\n'
-free 'map reads' $'call: found, 32 members\n'
 free 'reads map' $'call: found\n'
 free 'reads document' $'call: found\n'
 each copy_key $'call: AllocError\nagain copied\n' $'call: copied\nagain copied\n'
@@ -190,32 +187,32 @@ behind() {
   print+='"n":null}'
 }
 
-for form in owned borrowed; do
-  for call in array array_with_capacity; do
-    document $form $call '' '[] > '
-  done
-  for call in object object_with_capacity; do
-    document $form $call '' '{} > '
-  done
-  document $form clone '' "$example > "
+for call in array array_with_capacity; do
+  document owned $call '' '[] > '
+done
+for call in object object_with_capacity; do
+  document owned $call '' '{} > '
+done
+document owned clone '' "$example > "
+for call in insert try_insert; do
+  document owned $call 'value as before, ' '{"some":["key","value",2],"n":null} > '
+done
+for members in 0 32 64; do
+  behind $members
   for call in insert try_insert; do
-    document $form $call 'value as before, ' '{"some":["key","value",2],"n":null} > '
+    document owned "$call $members" 'value as before, ' "$print > "
   done
-  for members in 0 32 64; do
-    behind $members
-    for call in insert try_insert; do
-      document $form "$call $members" 'value as before, ' "$print > "
-    done
-  done
-  for call in set try_set; do
-    free "document $form $call" $'call: done {"some":null} > \n'
-  done
-  document $form push 'value as before, ' '{"some":["key","value",2,null]} > '
-  document $form insert_idx 'value as before, ' '{"some":[null,"key","value",2]} > '
-  prints $form encode "$example > "
-  prints $form encode_pp "$pretty > "
-  prints $form write "$example > $example"
-  prints $form write_pp "$example > $pretty"
+done
+for call in set try_set; do
+  free "document owned $call" $'call: done {"some":null} > \n'
+done
+document owned push 'value as before, ' '{"some":["key","value",2,null]} > '
+document owned insert_idx 'value as before, ' '{"some":[null,"key","value",2]} > '
+prints owned encode "$example > "
+prints owned encode_pp "$pretty > "
+prints owned write "$example > $example"
+prints owned write_pp "$example > $pretty"
+for form in owned borrowed; do
   free "document $form reads" $'call: found\n'
   free "room_in $form" $'call: filled\n'
 done
@@ -236,20 +233,18 @@ merges() {
   each "merge $1" "call: refused, $2merged $print"$'\n' "call: merged $print"$'\n'
 }
 
-for form in owned borrowed; do
-  print='{"some":["key","value",2],"k01":{"a":1},"n":[{}],"o":"p"}'
-  merges "$form merge" 'target as before, '
-  merges "$form into_merged" ''
-  merges "$form merge_diff" 'both as before, '
-  for members in 0 32 64; do
-    merged $members
-    merges "$form merge $members" 'target as before, '
-    merges "$form into_merged $members" ''
-    merges "$form merge_diff $members" 'both as before, '
-  done
+print='{"some":["key","value",2],"k01":{"a":1},"n":[{}],"o":"p"}'
+merges "owned merge" 'target as before, '
+merges "owned into_merged" ''
+merges "owned merge_diff" 'both as before, '
+for members in 0 32 64; do
+  merged $members
+  merges "owned merge $members" 'target as before, '
+  merges "owned into_merged $members" ''
+  merges "owned merge_diff $members" 'both as before, '
 done
 
-for form in owned borrowed tape lent; do
+for form in owned tape lent; do
   each "within $form" $'call: refused, then within\n' $'call: within\n'
 done
 
@@ -267,9 +262,7 @@ done
 makes 'make object' '{"b":null,"a":null}'
 makes 'make map' '{"a":null,"b":null}'
 makes 'make from_pairs' '{"b":null,"a":null}'
-for form in owned borrowed; do
-  makes "literal $form" '{"list":["a",null],"n":true}'
-done
+makes 'literal owned' '{"list":["a",null],"n":true}'
 for call in clone_static into_static owned_from_borrowed borrowed_from_owned; do
   makes "convert $call" '{"q\"k":"a/bA"}'
 done
@@ -379,9 +372,8 @@ for parts in items members; do
   passes_over "tape $parts" $'call: OutOfMemory\nagain found\n' $'call: found\nagain found\n'
 done
 free 'tape new' $'call: made, and refused\n'
-free 'tape reads' $'call: found\n'
 
-for form in static tape owned borrowed lazy lent known same same_std same_lazy; do
+for form in static owned borrowed lazy lent known same same_std same_lazy; do
   free "kinds $form" $'call: found\n'
 done
 free changes $'call: found\n'
@@ -389,7 +381,7 @@ for form in tape lazy lent document replaced; do
   free "parts $form" $'call: found\n'
 done
 free 'display static' $'call: -7\n'
-for form in tape owned borrowed lent; do
+for form in tape owned lent; do
   free "display $form" $'call: {"q\\"k":"a/bA"}\n'
 done
 free 'display map' $'call: {"k00": 0}\n'
@@ -405,7 +397,6 @@ each 'pointer_parts clone' $'call: AllocError again <a/b> <0> \n' $'call: <a/b> 
 each 'pointer_parts join' "call: AllocError again $tokens"$'\n' "call: ${tokens}again $tokens"$'\n'
 each 'pointer_parts parent' $'call: AllocError again <a/b> \n' $'call: <a/b> again <a/b> \n'
 each 'pointer_parts push' $'call: AllocError, pointer as before, pushed\n' $'call: pushed\n'
-free 'pointer_parts free' $'call: looked at\n'
 each 'pointer_edit insert' $'call: refused, document as before, inserted\n' $'call: done, inserted\n'
 each 'pointer_edit push' $'call: refused, document as before, pushed\n' $'call: done, pushed\n'
 each 'pointer_edit set' $'call: refused, document as before, set\n' $'call: done, set\n'
@@ -419,19 +410,15 @@ patched='{"a":[[3],{"b":2},"text"],"d":{"b":{"e":4}}}'
 unpatched='{"a":[1,{"b":2}],"c":"text"}'
 difference='[{"op":"replace","path":"/a/1/b","value":3},{"op":"add","path":"/a/2","value":4},'
 difference+='{"op":"remove","path":"/c"},{"op":"add","path":"/d","value":"text"}]'
-for form in owned borrowed; do
-  each "patch $form operations_of" $'call: refused, patch as before, listed\n' $'call: listed\n'
-  each "patch $form patch" "call: OutOfMemory, document as before, patched, $patched"$'\n' \
-    "call: patched, $patched"$'\n'
-  each "patch $form undo" "call: OutOfMemory, document as before, nothing there, $unpatched"$'\n' \
-    "call: nothing there, $unpatched"$'\n'
-  each "patch $form diff" "call: refused, made, $difference"$'\n' "call: made, $difference"$'\n'
-  each "patch $form document_of" $'call: refused, made, as read\n' $'call: made, as read\n'
-done
+each "patch owned operations_of" $'call: refused, patch as before, listed\n' $'call: listed\n'
+each "patch owned patch" "call: OutOfMemory, document as before, patched, $patched"$'\n' \
+  "call: patched, $patched"$'\n'
+each "patch owned undo" "call: OutOfMemory, document as before, nothing there, $unpatched"$'\n' \
+  "call: nothing there, $unpatched"$'\n'
+each "patch owned diff" "call: refused, made, $difference"$'\n' "call: made, $difference"$'\n'
+each "patch owned document_of" $'call: refused, made, as read\n' $'call: made, as read\n'
 
-for form in owned borrowed; do
-  free "pointer_in $form" $'call: found, {"some":["key",null,2]}\n'
-done
+free 'pointer_in owned' $'call: found, {"some":["key",null,2]}\n'
 
 # points FORM CALL PRINT: where a pointer finds nothing and where it finds an item
 points() {

@@ -7,11 +7,10 @@
 //! documents, `tapes ROUNDS MEGABYTES` those of calls on tapes beside the tape of `json`, and
 //! `lazy ROUNDS MEGABYTES` those of ten reads, and of a write and a print.
 //!
-//! `lookups ROUNDS` has the least times of look-ups by key in objects of several shapes and sizes,
-//! `lookups plain ROUNDS` the same on nodes of a caller's own. `lookups SHAPE MEMBERS KEY_LEN KEY
-//! CHOICE FORM COUNT` makes so many look-ups of one case alone and prints what they find, so that
-//! their instructions can be counted: SHAPE is `scalars`, `mixed`, `pairs`, `records`, `arrays` or
-//! `wide`, KEY `first`, `last` or `absent`, CHOICE `first` or `last`, FORM `packed` or `plain`.
+//! `lookups SHAPE MEMBERS KEY_LEN KEY CHOICE FORM COUNT` makes so many look-ups by key of one case
+//! alone and prints what they find, so that their instructions can be counted: SHAPE is `scalars`,
+//! `mixed`, `pairs`, `records`, `arrays` or `wide`, KEY `first`, `last` or `absent`, CHOICE `first`
+//! or `last`, FORM `packed`, or `plain` for nodes of a caller's own.
 //!
 //! `counted read|print TARGET KIND COUNT` reads a text of that kind or prints what it was read to so
 //! often, with TARGET `tape`, `borrowed` or `owned`; `counted merge kept|taken COUNT` merges a patch

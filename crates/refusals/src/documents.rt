@@ -204,7 +204,6 @@ pub fn run_call(
     let mut bytes = text_of(rt.alloc(), text)?;
     match form {
         "owned" => on_owned(rt, Call::of(call)?, bytes.as_mut_slice()),
-        "borrowed" => on_borrowed(rt, Call::of(call)?, bytes.as_mut_slice()),
         _ => Err(Fault::Usage),
     }
 }
@@ -214,13 +213,6 @@ fn on_owned(rt: &(impl Print + AllocGlobal), call: Call, bytes: &mut [u8]) -> Re
     let first = (String::from_str(alloc, call.key())?, OwnedValue::null());
     let second = (String::from_str(alloc, call.key())?, OwnedValue::null());
     let document = read(deserialize::<OwnedValue, String>(alloc, bytes))?;
-    make(rt, call, document, first, second)
-}
-
-fn on_borrowed(rt: &(impl Print + AllocGlobal), call: Call, bytes: &mut [u8]) -> Result<(), Fault> {
-    let document = read(deserialize::<BorrowedValue<'_>, CowStr<'_>>(rt.alloc(), bytes))?;
-    let first = (CowStr::Borrowed(call.key()), BorrowedValue::null());
-    let second = (CowStr::Borrowed(call.key()), BorrowedValue::null());
     make(rt, call, document, first, second)
 }
 

@@ -4,8 +4,8 @@ use refusals_common::{Fault, say, say_call, say_right};
 use sj_borrowed::known_key;
 use sj_stream::Unread;
 use sj_text_core::{
-    AccessError, BadTape, ErrorKind, ExtendedValueType, JsonError, OperationFault, PatchFault,
-    PatchReadFault, PointerError, Refused, TryTypeError, ValueType, WriteError,
+    AccessError, BadTape, ErrorKind, JsonError, OperationFault, PatchFault, PatchReadFault,
+    PointerError, Refused, TryTypeError, ValueType, WriteError,
 };
 use std::alloc::{AllocError, AllocFailed, Global};
 
@@ -52,7 +52,6 @@ pub fn run_call(rt: &(impl Print + AllocGlobal), call: &str) -> Result<(), Fault
         "meet" => meet(rt),
         "known" => meet_known(rt),
         "patch" => meet_patches(rt),
-        "told" => told(rt),
         _ => Err(Fault::Usage),
     }
 }
@@ -128,22 +127,4 @@ fn meet_patches(rt: &impl Print) -> Result<(), Fault> {
         && JsonError::from(unread) == JsonError::PatchRead(unread)
         && JsonError::from(PatchReadFault::OutOfMemory) == JsonError::OutOfMemory;
     say_right(rt, is_right)
-}
-
-/// Tells a refusal and kinds in words.
-fn told(rt: &(impl Print + AllocGlobal)) -> Result<(), Fault> {
-    let why = Refused {
-        why: AccessError::NotAnArray,
-        value: 1,
-    };
-    let expected = ValueType::Extended(ExtendedValueType::U16);
-    let kind = TryTypeError {
-        expected,
-        got: ValueType::U64,
-    };
-    let mut out = String::with_capacity(rt.alloc(), 200)?;
-    say_call(rt)?;
-    let written = write!(out, "{why}, {kind}\n");
-    written?;
-    say(rt, out.as_str())
 }

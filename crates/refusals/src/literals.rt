@@ -2,7 +2,7 @@
 
 use crate::makes::say_document;
 use refusals_common::{Fault, say_again, say_call};
-use sj_document::{BorrowedValue, OwnedValue};
+use sj_document::OwnedValue;
 use std::alloc::{AllocError, Global};
 
 /// A document of that form, made of a list and pairs.
@@ -18,10 +18,6 @@ fn owned(alloc: Global) -> Result<OwnedValue, AllocError> {
     made!(OwnedValue, alloc)
 }
 
-fn borrowed(alloc: Global) -> Result<BorrowedValue<'static>, AllocError> {
-    made!(BorrowedValue<'static>, alloc)
-}
-
 /// Makes a document of that form twice, the first time between the first two writes.
 pub fn make(rt: &(impl Print + AllocGlobal), form: &str) -> Result<(), Fault> {
     let alloc = rt.alloc();
@@ -30,10 +26,6 @@ pub fn make(rt: &(impl Print + AllocGlobal), form: &str) -> Result<(), Fault> {
         "owned" => {
             say_again(rt, owned(alloc).is_ok())?;
             say_document(rt, &owned(alloc)?)
-        }
-        "borrowed" => {
-            say_again(rt, borrowed(alloc).is_ok())?;
-            say_document(rt, &borrowed(alloc)?)
         }
         _ => Err(Fault::Usage),
     }

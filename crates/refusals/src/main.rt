@@ -5,7 +5,7 @@
 //!     refusals read FORM CALL TEXT | buffers | stream CALL | fault CALL | laws
 //!     refusals insert CALL MEMBERS | present CALL MEMBERS | queue MEMBERS | thin MEMBERS
 //!     refusals member CALL MEMBERS | member_present CALL MEMBERS | capacity | room | room_in FORM
-//!     refusals map reads | reads WHAT | write CALL GENERATOR | tape CALL | changes
+//!     refusals reads WHAT | write CALL GENERATOR | tape CALL | changes
 //!     refusals document FORM CALL [MEMBERS] | merge FORM CALL [MEMBERS] | make SOURCE
 //!     refusals literal FORM | convert CALL
 //!
@@ -65,7 +65,6 @@ fn run_maps(rt: &(impl Print + AllocGlobal), words: &[String]) -> Result<(), Fau
         "capacity" => maps::with_capacity(rt),
         "room" => maps::fill_room(rt),
         "room_in" => rooms::fill(rt, second),
-        "map" => maps::reads(rt),
         "reads" => map_reads::reads(rt, second),
         _ => run_documents(rt, words),
     }

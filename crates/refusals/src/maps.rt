@@ -357,23 +357,3 @@ pub fn fill_room(rt: &(impl Print + AllocGlobal)) -> Result<(), Fault> {
     say(rt, if is_filled { "filled, " } else { "REFUSED, " })?;
     tell_map(rt, &map, &keys, None)
 }
-
-/// Reads a map of 33 members in every way, and takes one out.
-pub fn reads(rt: &(impl Print + AllocGlobal)) -> Result<(), Fault> {
-    let mut map = numbered(rt.alloc(), 33)?;
-    let keys = keys_of(rt.alloc(), 32)?;
-    say_call(rt)?;
-    let found = map.get("k07").copied() == Some(7)
-        && map.get("k33").is_none()
-        && map
-            .get_hashed(ObjectHasher::default().hash_text("k32"), "k32")
-            .copied()
-            == Some(32)
-        && map.contains_key("k31")
-        && map.keys().count() == 33
-        && map.values().count() == 33
-        && map.get_mut("k08").is_some()
-        && map.remove("k32") == Some(32);
-    say(rt, if found { "found, " } else { "NOT FOUND, " })?;
-    tell_map(rt, &map, &keys, buckets_at(33))
-}

@@ -1,12 +1,11 @@
 //! Merges of a patch into a document.
 
 use refusals_common::{Fault, read, say, say_call, say_kept, text_of};
-use sj_document::{BorrowedValue, CopyText, Document, OwnedValue};
+use sj_document::{CopyText, Document, OwnedValue};
 use sj_merge::{into_merged, merge, merge_diff};
 use sj_object::{KeyText, deserialize};
 use sj_text_core::Writable;
 use std::alloc::{AllocError, Global};
-use std::borrow::CowStr;
 
 /// Takes a member out, merges into one that is a number, and puts two new ones.
 const PATCH: &[u8] = b"{\"k00\":null,\"k01\":{\"a\":1,\"b\":null},\"n\":[{}],\"o\":\"p\"}";
@@ -28,7 +27,6 @@ pub fn run_call(
             let list = deserialize::<OwnedValue, String>(alloc, bytes.as_mut_slice());
             make(rt, call, read(list)?)
         }
-        "borrowed" => on_borrowed(rt, call, bytes.as_mut_slice()),
         _ => Err(Fault::Usage),
     }
 }
@@ -45,11 +43,6 @@ fn twice(alloc: Global, text: &str) -> Result<Vec<u8>, Fault> {
     }
     list.push(b']')?;
     Ok(list)
-}
-
-fn on_borrowed(rt: &(impl Print + AllocGlobal), call: &str, bytes: &mut [u8]) -> Result<(), Fault> {
-    let list = deserialize::<BorrowedValue<'_>, CowStr<'_>>(rt.alloc(), bytes);
-    make(rt, call, read(list)?)
 }
 
 /// The last two items.

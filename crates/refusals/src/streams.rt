@@ -1,7 +1,6 @@
 //! Streams of documents, and the memory of a tape that serves the next.
 
 use refusals_common::{Fault, say, say_call, text_of};
-use sj_lines::{Lines, line_count};
 use sj_stream::{Place, Repeats, Stream, Unread, unread_lines};
 use sj_tape::{ErrorKind, Spare, Tape, to_tape_with_spare};
 use sj_text_core::Refused;
@@ -12,7 +11,6 @@ const LINES: &[u8] = b"{\"a\":[1,2]}\n\n[3,{\"b\":4}]\n";
 /// Makes the call of that name.
 pub fn run_call(rt: &(impl Print + AllocGlobal), call: &str) -> Result<(), Fault> {
     match call {
-        "lines" => lines(rt),
         "cold" => cold(rt, false),
         "cold_placed" => cold(rt, true),
         "warm" => warm(rt, false),
@@ -20,29 +18,6 @@ pub fn run_call(rt: &(impl Print + AllocGlobal), call: &str) -> Result<(), Fault
         "unread_lines" => unread(rt),
         "spare" => spare(rt),
         _ => Err(Fault::Usage),
-    }
-}
-
-/// Goes over the lines of an input, which is then put behind itself.
-fn lines(rt: &(impl Print + AllocGlobal)) -> Result<(), Fault> {
-    let mut bytes = LINES.to_vec(rt.alloc())?;
-    say_call(rt)?;
-    let count = line_count(&bytes);
-    let mut lines = Lines::new(bytes.as_mut_slice());
-    let first = next_number(&mut lines);
-    let second = next_number(&mut lines);
-    let is_end = lines.next().is_none();
-    let mut behind = Lines::behind(3, bytes.as_mut_slice());
-    let third = next_number(&mut behind);
-    let is_right = count == 3 && first == 1 && second == 3 && is_end && third == 4;
-    say(rt, if is_right { "found\n" } else { "OTHER LINES\n" })
-}
-
-/// The number of the next line; 0 where there is none.
-fn next_number(lines: &mut Lines<'_>) -> usize {
-    match lines.next() {
-        Some(line) => line.number,
-        None => 0,
     }
 }
 

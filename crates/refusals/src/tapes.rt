@@ -1,15 +1,13 @@
-//! Calls on tapes, none of which asks for memory, and readings of tapes with many items or members.
+//! Tapes of nodes, which ask for no memory, and readings of tapes with many items or members.
 
-use refusals_common::{Fault, read, say, say_call, text_of};
-use sj_tape::{ErrorKind, Node, Tape, Value, to_tape, to_tape_with_spare};
-use sj_text_core::{StaticNode, TypedValue, ValueAsScalar, ValueType};
+use refusals_common::{Fault, say, say_call, text_of};
+use sj_tape::{ErrorKind, Node, Tape, Value, to_tape};
+use sj_text_core::StaticNode;
 
-/// Makes a tape of nodes, or reads one.
+/// Makes a tape of nodes, or reads one of a text.
 pub fn call(rt: &(impl Print + AllocGlobal), call: &str) -> Result<(), Fault> {
     match call {
         "new" => make(rt),
-        "reads" => reads(rt),
-        "spare" => read_into_spare(rt),
         "items" => read_many(rt, "items"),
         "members" => read_many(rt, "members"),
         _ => Err(Fault::Usage),
@@ -35,30 +33,6 @@ fn make(rt: &(impl Print + AllocGlobal)) -> Result<(), Fault> {
             "NOT MADE\n"
         },
     )
-}
-
-/// Reads the tape of the first example in every way.
-fn reads(rt: &(impl Print + AllocGlobal)) -> Result<(), Fault> {
-    let mut bytes = text_of(rt.alloc(), "example")?;
-    let tape = read(to_tape(rt.alloc(), bytes.as_mut_slice()))?;
-    say_call(rt)?;
-    let is_found = is_example(tape.as_value());
-    say(rt, if is_found { "found\n" } else { "NOT FOUND\n" })
-}
-
-/// Reads the first example once more, into the memory of its tape.
-fn read_into_spare(rt: &(impl Print + AllocGlobal)) -> Result<(), Fault> {
-    let alloc = rt.alloc();
-    let mut bytes = text_of(alloc, "example")?;
-    let mut copy = text_of(alloc, "example")?;
-    let tape = read(to_tape(alloc, bytes.as_mut_slice()))?;
-    say_call(rt)?;
-    let spare = tape.into_spare(alloc);
-    let is_found = match to_tape_with_spare(copy.as_mut_slice(), spare) {
-        Ok(tape) => is_example(tape.as_value()),
-        Err(_) => false,
-    };
-    say(rt, if is_found { "found\n" } else { "NOT FOUND\n" })
 }
 
 /// Reads the text of that name twice, each time from a fresh copy, and looks each part up.
@@ -115,49 +89,4 @@ fn found_members(value: Value<'_, '_>) -> usize {
         }
     }
     found
-}
-
-/// Whether it is an object whose one member, `some`, has three items, the texts `key` and `value`
-/// and the number 2.
-fn is_example(value: Value<'_, '_>) -> bool {
-    let Some(some) = value.get("some") else {
-        return false;
-    };
-    let Some(array) = some.as_array() else {
-        return false;
-    };
-    let mut items = array.iter();
-    is_text(items.next(), "key")
-        && is_text(items.next(), "value")
-        && is_two(items.next())
-        && items.next().is_none()
-        && is_two(some.get_idx(2))
-        && is_only_member(value)
-}
-
-fn is_text(item: Option<Value<'_, '_>>, text: &str) -> bool {
-    match item {
-        Some(value) => value.as_str() == Some(text) && value.into_string() == Some(text),
-        None => false,
-    }
-}
-
-fn is_two(item: Option<Value<'_, '_>>) -> bool {
-    match item {
-        Some(value) => value.as_u8() == Some(2) && value.value_type() == ValueType::U64,
-        None => false,
-    }
-}
-
-/// Whether the member `some` is the object's only one.
-fn is_only_member(value: Value<'_, '_>) -> bool {
-    let Some(members) = value.as_object() else {
-        return false;
-    };
-    for key in members.keys() {
-        if key != "some" {
-            return false;
-        }
-    }
-    members.len() == 1 && members.get("none").is_none() && !value.contains_key("none")
 }

@@ -1,7 +1,7 @@
 //! Patches of documents, and the differences of two.
 
 use refusals_common::{Fault, read, say, say_call, say_kept};
-use sj_document::{BorrowedValue, Document, OwnedValue};
+use sj_document::{Document, OwnedValue};
 use sj_object::deserialize;
 use sj_patch::{
     Operation, OperationFault, OwnedText, PatchFault, PatchReadFault, diff, document_of,
@@ -9,7 +9,6 @@ use sj_patch::{
 };
 use sj_text_core::{Refused, Writable};
 use std::alloc::{AllocError, Global};
-use std::borrow::CowStr;
 
 const DOCUMENT: &str = r#"{"a":[1,{"b":2}],"c":"text"}"#;
 
@@ -182,24 +181,12 @@ fn owned(alloc: Global, text: &str) -> Result<OwnedValue, Fault> {
     read(deserialize::<OwnedValue, String>(alloc, bytes.as_mut_slice()))
 }
 
-fn borrowed(alloc: Global, text: &str) -> Result<BorrowedValue<'static>, Fault> {
-    let mut bytes = text.as_bytes().to_vec(alloc)?;
-    let value = read(deserialize::<BorrowedValue<'_>, CowStr<'_>>(alloc, bytes.as_mut_slice()))?;
-    Ok(value.into_static(alloc)?)
-}
-
 /// Makes the call on documents of that form.
 pub fn run_call(rt: &(impl Print + AllocGlobal), form: &str, call: &str) -> Result<(), Fault> {
     let alloc = rt.alloc();
     let given = given_to(call);
     match form {
         "owned" => make(rt, call, owned(alloc, DOCUMENT)?, owned(alloc, given)?),
-        "borrowed" => make(
-            rt,
-            call,
-            borrowed(alloc, DOCUMENT)?,
-            borrowed(alloc, given)?,
-        ),
         _ => Err(Fault::Usage),
     }
 }

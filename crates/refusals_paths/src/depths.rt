@@ -2,12 +2,11 @@
 
 use crate::lazy::of_lent;
 use refusals_common::{Fault, read, say, say_call, text_of};
-use sj_document::{BorrowedValue, Document, OwnedValue, borrowed_from_tape};
+use sj_document::{Document, OwnedValue, borrowed_from_tape};
 use sj_lazy::Value;
 use sj_object::{KeyText, deserialize};
 use sj_tape::to_tape;
 use std::alloc::AllocError;
-use std::borrow::CowStr;
 
 /// Asks between the first two writes whether a document of that form, of two levels, is within two.
 pub fn ask(rt: &(impl Print + AllocGlobal), form: &str) -> Result<(), Fault> {
@@ -16,13 +15,6 @@ pub fn ask(rt: &(impl Print + AllocGlobal), form: &str) -> Result<(), Fault> {
     match form {
         "owned" => {
             let document = read(deserialize::<OwnedValue, String>(alloc, bytes.as_mut_slice()))?;
-            ask_document(rt, &document)
-        }
-        "borrowed" => {
-            let document = read(deserialize::<BorrowedValue<'_>, CowStr<'_>>(
-                alloc,
-                bytes.as_mut_slice(),
-            ))?;
             ask_document(rt, &document)
         }
         "tape" => {

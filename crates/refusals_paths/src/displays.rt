@@ -27,7 +27,6 @@ pub fn write(rt: &(impl Print + AllocGlobal), form: &str) -> Result<(), Fault> {
         "tape" => write_tape(tape.as_value(), &mut out),
         "nodes" => write_nodes(tape.as_value(), &mut out),
         "owned" => write!(out, "{owned}"),
-        "borrowed" => write_borrowed(&borrowed, &mut out),
         "lent" => write_lazy(&of_lent(&borrowed), &mut out),
         "map" => write!(out, "{members:?}"),
         _ => return Err(Fault::Usage),
@@ -58,8 +57,4 @@ fn write_nodes(part: TapeValue<'_, '_>, out: &mut String) -> Result<(), AllocErr
 
 fn write_lazy(value: &Value<'_, '_, '_>, out: &mut String) -> Result<(), AllocError> {
     write!(out, "{value}")
-}
-
-fn write_borrowed(document: &BorrowedValue<'_>, out: &mut String) -> Result<(), AllocError> {
-    write!(out, "{document}")
 }

@@ -3,14 +3,14 @@
 
 use crate::lazy::{of_lent, of_tape};
 use crate::scalars::{is_lazy_seven, is_nothing, is_seven, is_true};
-use crate::typed::{is_document_of_kinds, is_lazy_of_kinds, is_tape_of_kinds};
+use crate::typed::{is_document_of_kinds, is_lazy_of_kinds};
 use refusals_common::{Fault, read, say, say_call, text_of};
 use sj_borrowed::KnownKey;
 use sj_document::{BorrowedValue, Document, OwnedValue, same};
 use sj_lazy::{SameAsLazy, Value};
 use sj_object::{KeyText, deserialize};
 use sj_tape::{Tape, to_tape};
-use sj_text_core::{Repeats, SameAs, SameWith, StaticNode};
+use sj_text_core::{SameAs, SameWith, StaticNode};
 use std::alloc::{AllocError, Global};
 use std::borrow::CowStr;
 use std::collections::HashMap;
@@ -41,7 +41,6 @@ pub fn reads(rt: &(impl Print + AllocGlobal), form: &str) -> Result<(), Fault> {
     say_call(rt)?;
     let is_found = match form {
         "static" => is_static(),
-        "tape" => is_tape_of_kinds(forms.tape.as_value_repeats(Repeats::Last), &forms.text),
         "owned" => is_document_of_kinds(&forms.owned, &forms.text),
         "borrowed" => is_document_of_kinds(&forms.borrowed, &forms.text),
         "lazy" => is_lazy_of_kinds(&of_tape(forms.tape.as_value()), &forms.text),

@@ -41,7 +41,6 @@ pub fn make(rt: &(impl Print + AllocGlobal), call: &str) -> Result<(), Fault> {
     let rest = read_pointer(alloc, "/m~0n")?;
     match call {
         "push" => return push(rt, whole),
-        "free" => return look(rt, whole, &rest),
         _ => {}
     }
     say_call(rt)?;
@@ -70,26 +69,6 @@ fn push(rt: &(impl Print + AllocGlobal), whole: Pointer) -> Result<(), Fault> {
             "pushed\n"
         } else {
             "NOT PUSHED\n"
-        },
-    )
-}
-
-/// Looks at two pointers, and takes one apart.
-fn look(rt: &(impl Print + AllocGlobal), whole: Pointer, rest: &Pointer) -> Result<(), Fault> {
-    let mut whole = whole;
-    let mut out = String::with_capacity(rt.alloc(), 20)?;
-    say_call(rt)?;
-    let is_shown = write!(out, "{whole}").is_ok();
-    let is_seen = whole.last() == Some("0") && !whole.begins_with(rest) && whole != *rest;
-    let is_cut = whole.pop().is_some_and(|last| last.as_str() == "0");
-    let again = Pointer::from_tokens(whole.into_tokens());
-    let is_made = again.last() == Some("a/b");
-    say(
-        rt,
-        if is_shown && out.as_str() == "/a~1b/0" && is_seen && is_cut && is_made {
-            "looked at\n"
-        } else {
-            "NOT SEEN\n"
         },
     )
 }

@@ -6,7 +6,7 @@ use refusals_common::{Fault, read, say, say_call, say_kept, text_of};
 use sj_document::{BorrowedValue, Document, OwnedValue};
 use sj_lazy::Value;
 use sj_object::{KeyText, deserialize};
-use sj_path::{LendPointed, Pointer, PointerError, borrowed, lazy, owned, pointer, position};
+use sj_path::{LendPointed, Pointer, PointerError, lazy, owned, pointer, position};
 use sj_tape::to_tape;
 use sj_text_core::{Refused, ValueAsScalar, Writable};
 use std::alloc::{AllocError, Global};
@@ -57,7 +57,7 @@ pub fn refuse(rt: &(impl Print + AllocGlobal)) -> Result<(), Fault> {
     )
 }
 
-/// Finds and replaces in a document that owns its texts, or lends them.
+/// Finds and replaces in a document of that form, which owns its texts.
 pub fn in_document(rt: &(impl Print + AllocGlobal), form: &str) -> Result<(), Fault> {
     let alloc = rt.alloc();
     let mut bytes = text_of(alloc, "example")?;
@@ -70,19 +70,6 @@ pub fn in_document(rt: &(impl Print + AllocGlobal), form: &str) -> Result<(), Fa
             let is_found = owned::find(&value, &item).is_some_and(|found| found.is_str())
                 && owned::find(&value, &none).is_none()
                 && owned::find_mut(&mut value, &item).is_some()
-                && value.pointed_mut(&none).is_none()
-                && is_replaced(&mut value, &item, &none);
-            tell(rt, is_found, &value)
-        }
-        "borrowed" => {
-            let mut value = read(deserialize::<BorrowedValue<'_>, CowStr<'_>>(
-                alloc,
-                bytes.as_mut_slice(),
-            ))?;
-            say_call(rt)?;
-            let is_found = borrowed::find(&value, &item).is_some_and(|found| found.is_str())
-                && borrowed::find(&value, &none).is_none()
-                && borrowed::find_mut(&mut value, &item).is_some()
                 && value.pointed_mut(&none).is_none()
                 && is_replaced(&mut value, &item, &none);
             tell(rt, is_found, &value)

@@ -67,7 +67,6 @@ use crate::scalars::{are_lazy_scalars, is_lazy_seven, is_nothing, is_seven, is_t
 use sj_document::Document;
 use sj_lazy::Value as LazyValue;
 use sj_object::KeyText;
-use sj_tape::Value as TapeValue;
 
 /// Whether a document has a member of each kind, by every read.
 pub fn is_document_of_kinds<T: KeyText>(value: &Document<T>, text: &String) -> bool {
@@ -94,34 +93,6 @@ fn has_others<T: KeyText>(value: &Document<T>) -> bool {
 }
 
 fn has_parts<T: KeyText>(value: &Document<T>) -> bool {
-    reads_parts!(value)
-}
-
-/// Whether a part of a tape has a member of each kind, by every read.
-pub fn is_tape_of_kinds(value: TapeValue<'_, '_>, text: &String) -> bool {
-    tape_has_signed(value)
-        && tape_has_unsigned(value)
-        && tape_has_others(value)
-        && tape_has_parts(value)
-        && value.get("null").is_some_and(|found| is_nothing(&found))
-        && value.get("bool").is_some_and(|found| is_true(&found))
-        && value.get("int").is_some_and(|found| is_seven(&found))
-        && value.get("str").is_some_and(|found| is_text(&found, text))
-}
-
-fn tape_has_signed(value: TapeValue<'_, '_>) -> bool {
-    reads_signed!(value)
-}
-
-fn tape_has_unsigned(value: TapeValue<'_, '_>) -> bool {
-    reads_unsigned!(value)
-}
-
-fn tape_has_others(value: TapeValue<'_, '_>) -> bool {
-    reads_others!(value)
-}
-
-fn tape_has_parts(value: TapeValue<'_, '_>) -> bool {
     reads_parts!(value)
 }
 
