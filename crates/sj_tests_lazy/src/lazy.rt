@@ -1,9 +1,5 @@
-mod choices;
 mod comparisons;
-mod depths;
-mod first_lines;
 mod forms;
-mod known_keys;
 mod makes;
 mod reads;
 mod scalars;
@@ -26,11 +22,6 @@ fn keys_of(alloc: Global, value: &Value) -> Result<String, Fail> {
 /// Whether it is printed so.
 fn prints(alloc: Global, value: &Value, print: &str) -> Result<bool, Fail> {
     Ok(value.encode(alloc)?.as_str() == print)
-}
-
-/// Whether the member is printed so.
-fn prints_at(alloc: Global, value: &Value, key: &str, print: &str) -> Result<bool, Fail> {
-    prints(alloc, &value.get(key).ok_or("a member")?, print)
 }
 
 /// How many members an object has.

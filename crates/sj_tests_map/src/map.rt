@@ -3,12 +3,10 @@ ghost use Rattle.std.specs.Prelude.{◌≡◌, ◌<◌};
 mod beside;
 mod hashed;
 mod ring;
-mod shifts;
 
 use sj_object::*;
 use sj_text_core::Steps;
 use std::alloc::Global;
-use std::borrow::CowStr;
 use std::marker::Brand;
 use std::sync::ledger::{Blank, Ledger};
 use std::test::Fail;
@@ -122,77 +120,6 @@ fn walks_in_order(rt: HostRuntime) -> Result<(), Fail> {
     let told = (walks(&map), counts, map.values().copied().max());
     assert_eq!(rt; told, (true, [3, 3], Some(2)));
     assert!(rt; takes(map));
-    Ok(())
-}
-
-#[test]
-fn keeps_the_stored_key(rt: HostRuntime) -> Result<(), Fail> {
-    let alloc = rt.alloc();
-    let mut map = HashMap::with_capacity_and_hasher(alloc, 0, ObjectHasher::default())?;
-    map.insert(CowStr::Borrowed("a"), 1)?;
-    let before = map.insert(CowStr::Owned(String::from_str(alloc, "a")?), 2)?;
-    let kept = map.keys().all(|key| matches!(key, CowStr::Borrowed(_)));
-    assert_eq!(rt; (before, kept), (Some(1), true));
-    Ok(())
-}
-
-/// A text of one character. The hashes of 40 such texts in turn differ, also modulo 64.
-fn character(alloc: Global, number: u8) -> Result<String, Fail> {
-    let mut text = String::new(alloc);
-    text.push(char::from(b'0'.wrapping_add(number)))?;
-    Ok(text)
-}
-
-/// The map of 40 such texts, each with its number.
-fn characters(alloc: Global) -> Result<HashMap<String, u64, ObjectHasher>, Fail> {
-    let mut map = HashMap::with_capacity_and_hasher(alloc, 0, ObjectHasher::default())?;
-    for number in 0..40 {
-        map.insert(character(alloc, number)?, u64::from(number))?;
-    }
-    Ok(map)
-}
-
-#[test]
-fn removes_from_the_middle_of_40(rt: HostRuntime) -> Result<(), Fail> {
-    let mut map = characters(rt.alloc())?;
-    assert_eq!(rt; removes(&mut map, "D"), (Some(20), 39, false));
-    for number in 0..40 {
-        let key = character(rt.alloc(), number)?;
-        let wanted = if number == 20 {
-            None
-        } else {
-            Some(u64::from(number))
-        };
-        assert!(rt; map.get(key.as_str()).copied() == wanted, "{key}");
-    }
-    Ok(())
-}
-
-/// Changes two values in place, by a known hash and by the key.
-fn changes_two(map: &mut HashMap<String, u64, Constant>) {
-    if let Some(value) = map.get_hashed_mut(7, "k39") {
-        *value = 390;
-    }
-    if let Some(value) = map.get_mut("k38") {
-        *value = 380;
-    }
-}
-
-#[test]
-fn bears_a_constant_hasher(rt: HostRuntime) -> Result<(), Fail> {
-    let mut map = numbered(rt.alloc(), 40, Constant)?;
-    let last = String::from_str(rt.alloc(), "k40")?;
-    let changed = [map.insert_hashed(7, last, 40)?, map.remove("k00")];
-    changes_two(&mut map);
-    let found = [
-        map.get_hashed(7, "k00").copied(),
-        map.get_hashed(7, "k01").copied(),
-        map.get_hashed(7, "k38").copied(),
-        map.get_hashed(7, "k39").copied(),
-        map.get_hashed(7, "k40").copied(),
-    ];
-    let wanted = [None, Some(1), Some(380), Some(390), Some(40)];
-    assert_eq!(rt; (changed, found), ([None, Some(0)], wanted));
     Ok(())
 }
 

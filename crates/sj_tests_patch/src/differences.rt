@@ -2,8 +2,7 @@
 
 use super::{borrowed, owned};
 use sj_document::Document;
-use sj_patch::{OwnedText, PatchReadFault, diff, document_of, operations_of, patch};
-use sj_text_core::Writable;
+use sj_patch::{OwnedText, diff, patch};
 use std::alloc::Global;
 use std::test::Fail;
 
@@ -44,28 +43,5 @@ fn differences_lead_to_the_other(rt: HostRuntime) -> Result<(), Fail> {
         let wanted = borrowed(alloc, to)?;
         assert!(rt; leads(alloc, borrowed(alloc, from)?, &wanted, count)?);
     }
-    Ok(())
-}
-
-/// Whether the patch document lists the operations again that were read of it.
-fn is_listed<T: OwnedText + Drop>(
-    alloc: Global,
-    given: Document<T>,
-    text: &str,
-) -> Result<bool, Fail> {
-    let operations = operations_of(alloc, given).map_err(PatchReadFault::from)?;
-    let listed = document_of(alloc, operations.as_slice())?;
-    Ok(listed.encode(alloc)?.as_str() == text)
-}
-
-/// An operation of each kind, with what has to be escaped in a pointer.
-const LISTED: &str =
-    r#"[{"op":"add","path":"/a/-","value":[null]},{"op":"remove","path":""},{"op":"replace","path":"/","value":{"b":1}},{"op":"move","path":"/~01","from":"/~1~0/"},{"op":"copy","path":"/c d","from":""},{"op":"test","path":"/e","value":"f"}]"#;
-
-#[test]
-fn operations_are_listed(rt: HostRuntime) -> Result<(), Fail> {
-    let alloc = rt.alloc();
-    assert!(rt; is_listed(alloc, owned(alloc, LISTED)?, LISTED)?);
-    assert!(rt; is_listed(alloc, borrowed(alloc, LISTED)?, LISTED)?);
     Ok(())
 }

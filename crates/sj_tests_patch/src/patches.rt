@@ -76,31 +76,6 @@ const DONE: [(&str, &str, &str); 13] = [
     ),
 ];
 
-/// Documents, patches and results: moves (section 4.4) onto a member, behind the last item, within an
-/// array, and to the whole document.
-const MOVED: [(&str, &str, &str); 4] = [
-    (
-        r#"{"a":{"b":[1]},"c":2,"d":3}"#,
-        r#"[{"op":"move","from":"/a","path":"/c"}]"#,
-        r#"{"c":{"b":[1]},"d":3}"#,
-    ),
-    (
-        r#"{"a":{"b":[1],"c":2},"d":[3]}"#,
-        r#"[{"op":"move","from":"/a/b","path":"/d/-"}]"#,
-        r#"{"a":{"c":2},"d":[3,[1]]}"#,
-    ),
-    (
-        r#"[0,[1],2,3]"#,
-        r#"[{"op":"move","from":"/1","path":"/3"},{"op":"move","from":"/0","path":"/1"}]"#,
-        r#"[2,0,3,[1]]"#,
-    ),
-    (
-        r#"{"a":{"b":[1],"c":2}}"#,
-        r#"[{"op":"move","from":"/a/b","path":""}]"#,
-        r#"[1]"#,
-    ),
-];
-
 /// Documents, patches and what is said of them: of RFC 6902 appendix A.9, A.12 and A.15, and the
 /// rules of sections 4 and 5; values that are refused where they are moved to, and moves of each kind
 /// and removals in one container after another that are undone.
@@ -171,10 +146,6 @@ const FAULTS: [(&str, &str, &str); 13] = [
         "operation 9: nothing stands there",
     ),
 ];
-
-/// Removals from an object of 40 members, and then one that finds nothing.
-const REMOVALS: &str =
-    r#"[{"op":"remove","path":"/k0"},{"op":"remove","path":"/k39"},{"op":"remove","path":"/k17"},{"op":"test","path":"/k18","value":18},{"op":"remove","path":"/k18"},{"op":"remove","path":"/k0"}]"#;
 
 /// Applies a patch document, and says what its refusal says.
 fn applied<T: OwnedText + Drop>(
@@ -251,15 +222,6 @@ fn patches_are_done(rt: HostRuntime) -> Result<(), Fail> {
 }
 
 #[test]
-fn values_are_moved(rt: HostRuntime) -> Result<(), Fail> {
-    let alloc = rt.alloc();
-    for &(document, listed, wanted) in &MOVED {
-        assert!(rt; is_done_in_both(alloc, document, listed, wanted)?);
-    }
-    Ok(())
-}
-
-#[test]
 fn faults_leave_the_document(rt: HostRuntime) -> Result<(), Fail> {
     let alloc = rt.alloc();
     for &(document, listed, said) in &FAULTS {
@@ -273,27 +235,5 @@ fn faults_leave_the_document(rt: HostRuntime) -> Result<(), Fail> {
             )?
         );
     }
-    Ok(())
-}
-
-/// The text of an object of 40 members.
-fn members(alloc: Global) -> Result<String, Fail> {
-    let mut text = String::from_str(alloc, r#"{"k0":0"#)?;
-    for number in 1..40 {
-        text.push_str(format!(in alloc; ",\"k{number}\":{number}")?.as_str())?;
-    }
-    text.push_str("}")?;
-    Ok(text)
-}
-
-#[test]
-fn hashed_members_go_back(rt: HostRuntime) -> Result<(), Fail> {
-    let alloc = rt.alloc();
-    let text = members(alloc)?;
-    let said = "operation 5: nothing stands there";
-    let document = owned(alloc, text.as_str())?;
-    assert!(rt; is_refused(alloc, document, owned(alloc, REMOVALS)?, said)?);
-    let document = borrowed(alloc, text.as_str())?;
-    assert!(rt; is_refused(alloc, document, borrowed(alloc, REMOVALS)?, said)?);
     Ok(())
 }

@@ -1,8 +1,5 @@
-mod edits;
 mod finds;
-mod page;
 mod texts;
-mod writes;
 
 /// A document with keys of each kind that RFC 6901, section 5, has examples of.
 const DOCUMENT: &str =

@@ -1,10 +1,6 @@
 //! Sessions and runs, by their calls. tools/sessions.py runs sessions on many inputs.
 
-mod pointers;
-mod runs;
-
-use sj_owned::to_value;
-use sj_run::{Form, OwnedDoc, SessionFault, Way, answer_owned, session, session_repeats};
+use sj_run::{Form, SessionFault, Way, session, session_repeats};
 use sj_text_core::{ErrorKind, Repeats};
 use std::alloc::Global;
 use std::test::Fail;
@@ -69,26 +65,5 @@ fn sessions_append(rt: HostRuntime) -> Result<(), Fail> {
     }
     let (answer, out) = answered(alloc, (Form::Lazy, Way::ByKnownKey, Repeats::Last), INPUT)?;
     assert!(rt; answer == Err(SessionFault::Usage) && out.as_slice() == b"> ".as_slice());
-    Ok(())
-}
-
-/// Lines that come in two calls are answered on one document.
-#[test]
-fn a_kept_document_answers(rt: HostRuntime) -> Result<(), Fail> {
-    let alloc = rt.alloc();
-    let mut text = b"{\"a\":[1]}".to_vec(alloc)?;
-    let value = to_value(alloc, text.as_mut_slice())?;
-    let way = Way::ByText;
-    let mut document = OwnedDoc { way, value };
-    let mut out = b"> ".to_vec(alloc)?;
-    for lines in [
-        "[\"push\",[\"a\"],2]\n[\"len\",[\"a\"]]\n",
-        "\r\n[\"pop\",[\"a\"]]\nhelp\n[\"encode\",[]]",
-    ] {
-        let mut lines = lines.as_bytes().to_vec(alloc)?;
-        answer_owned(alloc, &mut document, lines.as_mut_slice(), &mut out)?;
-    }
-    let want = "> ok\n2\n2\nbad command\n{\"a\":[1]}\n";
-    assert_eq!(rt; out.as_slice(), want.as_bytes());
     Ok(())
 }

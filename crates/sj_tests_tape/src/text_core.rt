@@ -4,4 +4,3 @@ mod comparisons;
 mod faults;
 mod parts;
 mod reads;
-mod steps;

@@ -2,7 +2,6 @@ use sj_borrowed::to_value;
 use std::test::Fail;
 
 mod documents;
-mod first_lines;
 mod known_keys;
 
 pub use sj_borrowed::Value;

@@ -1,12 +1,7 @@
 //! Tests that are one for both forms: each makes its calls on owned texts, and then on borrowed.
 
-mod changes;
 mod copied;
-mod depths;
 mod edits;
-mod laws;
-mod literals;
-mod merges;
 mod numbers;
 mod parts;
 mod prints;

@@ -3,7 +3,6 @@ use std::alloc::Global;
 use std::test::Fail;
 
 mod documents;
-mod first_lines;
 
 pub use sj_owned::Value;
 

@@ -105,15 +105,6 @@ fn held(alloc: Global, len: usize, repeat: usize) -> Result<Option<Option<usize>
     Ok(holds(&value, keys.as_slice()))
 }
 
-#[test]
-fn reads_a_text_with_a_repeat(rt: HostRuntime) -> Result<(), Fail> {
-    for &(len, repeat) in &REPEATS {
-        let buckets = if len > 32 { Some(64) } else { None };
-        assert!(rt; held(rt.alloc(), len, repeat)? == Some(buckets), "{len}");
-    }
-    Ok(())
-}
-
 /// How many members and nodes a tape's object has, and what `k00` and `k31` are.
 fn looked(whole: Value<'_, '_>) -> Option<(usize, usize, [Option<u8>; 2])> {
     let len = whole.as_object()?.len();

@@ -4,7 +4,7 @@ use super::{keys_of, prints};
 use sj_document::Document;
 use sj_lazy::{Shared, Value};
 use sj_tape::to_tape;
-use sj_text_core::{StaticNode, ValueAsScalar, Writable};
+use sj_text_core::{StaticNode, ValueAsScalar};
 use std::alloc::Global;
 use std::borrow::CowStr;
 use std::test::Fail;
@@ -74,68 +74,6 @@ fn copies_of_a_tape_are_tapes(rt: HostRuntime) -> Result<(), Fail> {
         null == Value::default(),
     ];
     assert_eq!(rt; told, [true; 5]);
-    Ok(())
-}
-
-#[test]
-fn copies_of_a_document_are_documents(rt: HostRuntime) -> Result<(), Fail> {
-    let alloc = rt.alloc();
-    let mut text = *br#"{"a":[1],"a":2}"#;
-    let tape = to_tape(alloc, &mut text)?;
-    let mut owned: Value<'_, '_, '_> = Value::from_tape(tape.as_value());
-    owned.as_mut(alloc)?;
-    let part = owned.get("a").ok_or("a member")?;
-    let told = [
-        is_lent(&part.clone()?),
-        is_owned(&part.into_owned(alloc)?),
-        is_owned(&owned.clone()?),
-    ];
-    assert_eq!(rt; told, [true; 3]);
-    Ok(())
-}
-
-/// Whether the document that it is made to is printed so.
-fn gives(alloc: Global, value: Value<'_, '_, '_>, print: &str) -> Result<bool, Fail> {
-    Ok(value.into_value(alloc)?.encode(alloc)?.as_str() == print)
-}
-
-#[test]
-fn each_form_is_made_to_a_document(rt: HostRuntime) -> Result<(), Fail> {
-    let alloc = rt.alloc();
-    let mut text = *br#"{"a":[1],"a":2}"#;
-    let tape = to_tape(alloc, &mut text)?;
-    let mut owned: Value<'_, '_, '_> = Value::from_tape(tape.as_value());
-    let value = owned.clone()?;
-    owned.as_mut(alloc)?;
-    let told = [
-        gives(alloc, owned, r#"{"a":[1]}"#)?,
-        gives(alloc, value, r#"{"a":[1]}"#)?,
-    ];
-    assert_eq!(rt; told, [true; 2]);
-    Ok(())
-}
-
-/// Whether the item is that text, or is no text where there is none.
-fn is_text(value: &Value, place: usize, text: Option<&str>) -> Result<bool, Fail> {
-    let taken = value.get_idx(place).ok_or("an item")?.into_string()?;
-    Ok(match (&taken, text) {
-        (Some(taken), Some(text)) => taken.as_str() == text,
-        (None, None) => true,
-        _ => false,
-    })
-}
-
-#[test]
-fn texts_are_taken_out_of_each_form(rt: HostRuntime) -> Result<(), Fail> {
-    let alloc = rt.alloc();
-    let mut text = *br#"["a",1]"#;
-    let tape = to_tape(alloc, &mut text)?;
-    let mut value: Value<'_, '_, '_> = Value::from_tape(tape.as_value());
-    for _ in 0..2 {
-        let told = [is_text(&value, 0, Some("a"))?, is_text(&value, 1, None)?];
-        assert_eq!(rt; told, [true; 2]);
-        value.as_mut(alloc)?;
-    }
     Ok(())
 }
 

@@ -4,7 +4,6 @@ use super::{keys_of, members, prints};
 use sj_lazy::{Array, Object, Value};
 use sj_tape::to_tape;
 use sj_text_core::{ExtendedValueType, TryTypeError, ValueAsScalar, ValueType};
-use std::alloc::Global;
 use std::test::Fail;
 
 /// The signed reads of `TYPED`.
@@ -103,45 +102,6 @@ fn reads_leave_a_tape(rt: HostRuntime) -> Result<(), Fail> {
         !value.is_value(),
     ];
     assert_eq!(rt; told, [true; 5]);
-    Ok(())
-}
-
-/// The reads of `{"the_answer": 42}`.
-fn object_reads(value: &Value) -> [bool; 4] {
-    let array = TryTypeError {
-        expected: ValueType::Array,
-        got: ValueType::Object,
-    };
-    [
-        matches!(value.try_get("does_not_exist"), Ok(None)),
-        value.contains_key("the_answer"),
-        value.try_get_idx(0).err() == Some(array),
-        members(value) == Some(1),
-    ]
-}
-
-/// The reads of its answer.
-fn answer_reads(value: &Value) -> Result<[bool; 4], Fail> {
-    let answer = value.try_get("the_answer")?.ok_or("a member")?;
-    Ok([
-        answer.as_u64() == Some(42),
-        !answer.contains_key("the_answer"),
-        answer.try_as_object().is_err(),
-        value.try_as_object()?.len() == 1,
-    ])
-}
-
-#[test]
-fn parts_are_read(rt: HostRuntime) -> Result<(), Fail> {
-    let alloc = rt.alloc();
-    let mut text = *br#"{"the_answer": 42}"#;
-    let tape = to_tape(alloc, &mut text)?;
-    let mut value: Value<'_, '_, '_> = Value::from_tape(tape.as_value());
-    for _ in 0..2 {
-        let told = [object_reads(&value), answer_reads(&value)?];
-        assert_eq!(rt; told, [[true; 4]; 2]);
-        value.as_mut(alloc)?;
-    }
     Ok(())
 }
 

@@ -101,48 +101,6 @@ fn numbers(rt: HostRuntime) {
     }
 }
 
-/// The text of a document that is one string.
-fn text_is(alloc: Global, spelled: &str, wanted: &str) -> Result<bool, AllocError> {
-    reads_as(
-        alloc,
-        spelled,
-        format!(in alloc; "String({wanted:?})")?.as_str(),
-    )
-}
-
-#[test]
-fn texts(rt: HostRuntime) {
-    for &(spelled, wanted) in &[
-        ("\"\\ud83d\\ude00\"", "\u{1f600}"),
-        ("\"a\\/b\\u0041\"", "a/bA"),
-        ("\"q\\\"k\"", "q\"k"),
-        ("\"\\b\\f\\n\\r\\t\\\\\"", "\u{8}\u{c}\n\r\t\\"),
-        ("\"\\u00e9\\u00E9\\u20ac\"", "\u{e9}\u{e9}\u{20ac}"),
-        ("\"\\n\u{65e5}\u{672c}\"", "\n\u{65e5}\u{672c}"),
-        (
-            "\"0123456789abcdef0123456789abcdef0123456789abcdef\\u0041\u{e9}\"",
-            "0123456789abcdef0123456789abcdef0123456789abcdefA\u{e9}",
-        ),
-        (
-            "\"\\n0123456789abcdef0123456789abcdef\\u00e9\\/0123456789abcdefx\\t\"",
-            "\n0123456789abcdef0123456789abcdef\u{e9}/0123456789abcdefx\t",
-        ),
-    ] {
-        assert!(rt;
-            text_is(rt.alloc(), spelled, wanted) == Ok(true),
-            "{spelled}"
-        );
-    }
-}
-
-#[test]
-fn a_long_text(rt: HostRuntime) -> Result<(), AllocError> {
-    let long = repeated(rt.alloc(), "plain text ", 40)?;
-    let spelled = format!(in rt.alloc(); "\"{long}\"")?;
-    assert!(rt; text_is(rt.alloc(), spelled.as_str(), long.as_str())?);
-    Ok(())
-}
-
 /// Whether the answer is this.
 fn answers(alloc: Global, text: &[u8], wanted: &str) -> Result<bool, AllocError> {
     Ok(answer(alloc, text)?.as_str() == wanted)

@@ -2,9 +2,9 @@
 
 ghost use Rattle.std.specs.Prelude.{◌≡◌, ◌<◌};
 
-use super::{has_items, has_members, lists_members, nested_arrays, number_of, tape_of};
+use super::{has_items, has_members, lists_members, number_of, tape_of};
 use sj_tape::{Array, Node, Tape, Value, Writable, to_tape};
-use sj_text_core::{StaticNode, Steps, TypedValue, ValueAsScalar, ValueType};
+use sj_text_core::{StaticNode, Steps, ValueAsScalar};
 use std::alloc::Global;
 use std::marker::Brand;
 use std::sync::ledger::{Blank, Ledger};
@@ -74,23 +74,6 @@ fn preorders_alone_are_accepted(rt: HostRuntime) -> Result<(), Fail> {
     Ok(())
 }
 
-/// The array inside of 1024 others.
-fn innermost<'t, 'i>(value: Value<'t, 'i>) -> Option<Array<'t, 'i>> {
-    let mut inner = value;
-    for _ in 0..1024 {
-        inner = inner.get_idx(0)?;
-    }
-    inner.as_array()
-}
-
-#[test]
-fn arrays_are_nested(rt: HostRuntime) -> Result<(), Fail> {
-    let tape = nested_arrays(rt.alloc())?;
-    let inner = innermost(tape.as_value());
-    assert!(rt; matches!(inner, Some(array) if array.is_empty()));
-    Ok(())
-}
-
 /// Whether look-ups in {"x":{"k":1},"k":2,"x":3} find the first member of each key.
 fn finds_members(whole: Value<'_, '_>) -> Option<[bool; 7]> {
     let inner = whole.get("x")?;
@@ -152,77 +135,6 @@ fn items(rt: HostRuntime) -> Result<(), Fail> {
     ];
     let tape = tape_of(rt.alloc(), &nodes)?;
     assert_eq!(rt; finds_items(tape.as_value()), Some([true; 3]));
-    Ok(())
-}
-
-/// What a scalar is read as.
-type Told = (ValueType, Option<i128>, Option<u128>, Option<u8>);
-
-/// What a value is read as, by the bounds alone.
-fn reads<V: TypedValue + ValueAsScalar>(value: &V) -> Told {
-    (
-        value.value_type(),
-        value.as_i128(),
-        value.as_u128(),
-        value.as_u8(),
-    )
-}
-
-/// Whether the value is null, true, or a text.
-fn kinds(value: Value<'_, '_>) -> [bool; 3] {
-    [
-        value.as_null().is_some(),
-        value.as_bool() == Some(true),
-        value.into_string().is_some(),
-    ]
-}
-
-/// Scalars, and what they are read as.
-const SCALARS: [(StaticNode, Told); 8] = [
-    (StaticNode::Null, (ValueType::Null, None, None, None)),
-    (StaticNode::Bool(true), (ValueType::Bool, None, None, None)),
-    (StaticNode::I64(-1), (ValueType::I64, Some(-1), None, None)),
-    (
-        StaticNode::I64(5),
-        (ValueType::I64, Some(5), Some(5), Some(5)),
-    ),
-    (
-        StaticNode::U64(7),
-        (ValueType::U64, Some(7), Some(7), Some(7)),
-    ),
-    (
-        StaticNode::I128(i128::MIN),
-        (ValueType::I128, Some(i128::MIN), None, None),
-    ),
-    (
-        StaticNode::I128(i128::MAX),
-        (
-            ValueType::I128,
-            Some(i128::MAX),
-            Some(i128::MAX as u128),
-            None,
-        ),
-    ),
-    (
-        StaticNode::U128(u128::MAX),
-        (ValueType::U128, None, Some(u128::MAX), None),
-    ),
-];
-
-/// Whether the tape of a scalar is read so.
-fn is_read(alloc: Global, node: StaticNode, told: Told) -> Result<bool, Fail> {
-    let tape = tape_of(alloc, &[Node::Static(node)])?;
-    let value = tape.as_value();
-    let kind = [told.0 == ValueType::Null, told.0 == ValueType::Bool, false];
-    Ok(reads(&value) == told && kinds(value) == kind)
-}
-
-#[test]
-fn scalars(rt: HostRuntime) -> Result<(), Fail> {
-    for &(node, told) in &SCALARS {
-        assert!(rt; is_read(rt.alloc(), node, told)?, "{node:?}");
-    }
-    assert!(rt; Value::null().as_null().is_some());
     Ok(())
 }
 

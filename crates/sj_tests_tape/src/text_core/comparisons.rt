@@ -33,68 +33,6 @@ fn scalars_are_compared_by_value(rt: HostRuntime) {
     }
 }
 
-/// Whether the value is that of each scalar.
-fn same_as_scalars(node: StaticNode) -> [bool; 4] {
-    [
-        node.same_as(&()),
-        node.same_as(&true),
-        node.same_as(&false),
-        node.same_as(&"null"),
-    ]
-}
-
-/// Whether the value is 5, by each type.
-fn same_as_five(node: StaticNode) -> [bool; 11] {
-    [
-        node.same_as(&5_i8),
-        node.same_as(&5_i16),
-        node.same_as(&5_i32),
-        node.same_as(&5_i64),
-        node.same_as(&5_i128),
-        node.same_as(&5_u8),
-        node.same_as(&5_u16),
-        node.same_as(&5_u32),
-        node.same_as(&5_u64),
-        node.same_as(&5_u128),
-        node.same_as(&5_usize),
-    ]
-}
-
-/// Whether the value is 6, by some types.
-fn same_as_six(node: StaticNode) -> [bool; 6] {
-    [
-        node.same_as(&6_u8),
-        node.same_as(&6_i16),
-        node.same_as(&6_u32),
-        node.same_as(&6_i64),
-        node.same_as(&6_u128),
-        node.same_as(&6_usize),
-    ]
-}
-
-#[test]
-fn scalars_are_compared_with_other_types(rt: HostRuntime) {
-    let told = [
-        same_as_scalars(StaticNode::Null),
-        same_as_scalars(StaticNode::Bool(false)),
-        same_as_scalars(StaticNode::Bool(true)),
-    ];
-    let wanted = [
-        [true, false, false, false],
-        [false, false, true, false],
-        [false, true, false, false],
-    ];
-    assert_eq!(rt; told, wanted);
-}
-
-#[test]
-fn numbers_are_compared_with_other_types(rt: HostRuntime) {
-    for &node in &[StaticNode::I64(5), StaticNode::U128(5)] {
-        assert_eq!(rt; same_as_five(node), [true; 11]);
-        assert_eq!(rt; same_as_six(node), [false; 6]);
-    }
-}
-
 /// Whether null is a text.
 fn null_is_text(alloc: Global) -> Result<bool, AllocError> {
     let text = String::from_str(alloc, "null")?;

@@ -1,7 +1,6 @@
 //! Texts, arrays and objects, which no scalar node is.
 
-use sj_text_core::{Meaning, SameAs, TryTypeError, TypedValue, ValueAsScalar, ValueType};
-use std::alloc::{AllocError, Global};
+use sj_text_core::{Meaning, TypedValue, ValueAsScalar, ValueType};
 
 /// A text, an empty array or an empty object.
 #[derive(Clone, Copy)]
@@ -77,34 +76,4 @@ fn parts_are_told(rt: HostRuntime) {
         [no, no, yes, no, no, no, no],
     ];
     assert_eq!(rt; [kinds(text), kinds(array), kinds(object)], wanted);
-}
-
-#[test]
-fn texts_are_read(rt: HostRuntime) {
-    let part = Part::Text("null");
-    let fault = TryTypeError {
-        expected: ValueType::String,
-        got: ValueType::Object,
-    };
-    let told = [
-        part.as_str() == Some("null"),
-        part.try_as_str() == Ok("null"),
-        Part::Array.as_str().is_none(),
-        Part::Object.try_as_str().err() == Some(fault),
-    ];
-    assert_eq!(rt; told, [true; 4]);
-}
-
-/// Whether the text `null` is another, lent and owned.
-fn same_texts(alloc: Global, other: &str) -> Result<[bool; 2], AllocError> {
-    let part = Part::Text("null");
-    let text = String::from_str(alloc, other)?;
-    Ok([part.same_as(&other), part.same_as(&text)])
-}
-
-#[test]
-fn texts_are_compared(rt: HostRuntime) {
-    for &(other, same) in &[("null", true), ("nul", false), ("nulL", false), ("", false)] {
-        assert!(rt; same_texts(rt.alloc(), other) == Ok([same; 2]), "{other}");
-    }
 }

@@ -69,15 +69,6 @@ fn inserts(rt: HostRuntime) -> Result<(), Fail> {
     Ok(())
 }
 
-/// A key of a string is inserted as one of a text is.
-#[test]
-fn inserts_a_string(rt: HostRuntime) -> Result<(), Fail> {
-    let mut value = roomy(rt.alloc(), 0)?;
-    let cake = KnownKey::from(String::from_str(rt.alloc(), "cake")?);
-    assert!(rt; cake.insert(&mut value, number(3))?.is_none() && is(cake.lookup(&value), 3));
-    Ok(())
-}
-
 /// Whether the value of the key is that one, or else made of 3; and whether the closure was called.
 fn is_called<'k>(
     value: &mut BorrowedValue<'k>,
@@ -125,33 +116,6 @@ fn was<E: Drop>(answer: Result<BorrowedValue<'_>, E>, n: u64) -> bool {
         Ok(before) => before.same_as(&n),
         Err(_) => false,
     }
-}
-
-/// Changes two keys of an object with the member `key` of 1, which get 3 first where absent.
-fn changed_or_inserted(alloc: Global, mut value: BorrowedValue<'_>) -> Result<[bool; 3], Fail> {
-    let first = KnownKey::from("key");
-    let second = KnownKey::from("cake");
-    let present = KnownKey::change_or_insert(&mut value, &first, number(3), put(4));
-    let is_changed = was(present, 1);
-    let absent = KnownKey::change_or_insert(&mut value, &second, number(3), put(5));
-    Ok([
-        is_changed,
-        was(absent, 3),
-        value.encode(alloc)?.as_str() == "{\"key\":4,\"cake\":5}",
-    ])
-}
-
-#[test]
-fn changes_or_inserts(rt: HostRuntime) -> Result<(), Fail> {
-    let alloc = rt.alloc();
-    let mut text = *b"{\"key\":1}";
-    let told = [
-        changed_or_inserted(alloc, read(alloc, &mut text)?)?,
-        changed_or_inserted(alloc, roomy(alloc, 0)?)?,
-        changed_or_inserted(alloc, roomy(alloc, 128)?)?,
-    ];
-    assert_eq!(rt; told, [[true; 3]; 3]);
-    Ok(())
 }
 
 /// Whether a change of the value is refused, with the number and the change handed back.
@@ -302,58 +266,6 @@ fn shows_its_key(rt: HostRuntime) -> Result<(), Fail> {
         is_shown(alloc, KnownKey::from(CowStr::Borrowed("snot")))?,
     ];
     assert_eq!(rt; told, [[true; 5]; 4]);
-    Ok(())
-}
-
-/// A text of six blocks, which hashes to the same number for every `digits`: `BB` for each binary
-/// digit 1, else `Aa`.
-fn colliding(alloc: Global, digits: u64) -> Result<String, Fail> {
-    let mut text = String::new(alloc);
-    for place in [32, 16, 8, 4, 2, 1] {
-        text.push_str(if digits / place % 2 == 1 { "BB" } else { "Aa" })?;
-    }
-    Ok(text)
-}
-
-/// Puts a member into the object; whether its key was absent before.
-fn adds<'k>(value: &mut BorrowedValue<'k>, key: &KnownKey<'k>, n: u64) -> Result<bool, Fail> {
-    if key.lookup(value).is_some() {
-        return Ok(false);
-    }
-    if n % 2 == 0 {
-        let made = KnownKey::lookup_or_insert_mut(value, key, || number(n))?;
-        return Ok(made.same_as(&n));
-    }
-    match value {
-        Document::Object(members) => Ok(key.map_insert(members, number(n))?.is_none()),
-        _ => Ok(false),
-    }
-}
-
-/// Whether the key has the number, by each call that finds it.
-fn finds<'k>(value: &mut BorrowedValue<'k>, key: &KnownKey<'k>, n: u64) -> Result<bool, Fail> {
-    let by_text = is(value.get(key.key().text()), n);
-    let by_key = is(key.lookup(value), n);
-    let to_write = KnownKey::lookup_mut(value, key).is_some_and(|v| v.same_as(&n));
-    let found = KnownKey::lookup_or_insert_mut(value, key, || number(99))?.same_as(&n);
-    let before = key.insert(value, number(n))?;
-    Ok(by_text && by_key && to_write && found && is(before.as_ref(), n))
-}
-
-#[test]
-fn finds_among_buckets(rt: HostRuntime) -> Result<(), Fail> {
-    let alloc = rt.alloc();
-    let mut value = roomy(alloc, 0)?;
-    for i in 0..40_u64 {
-        let key = KnownKey::from(colliding(alloc, i)?);
-        assert!(rt; adds(&mut value, &key, i)?);
-    }
-    for i in 0..40_u64 {
-        let key = KnownKey::from(colliding(alloc, i)?);
-        assert!(rt; finds(&mut value, &key, i)?);
-    }
-    let members = value.as_object().ok_or("no object")?;
-    assert_eq!(rt; (members.len(), members.buckets()), (41, Some(64)));
     Ok(())
 }
 

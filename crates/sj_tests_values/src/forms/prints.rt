@@ -72,48 +72,13 @@ fn scalars(rt: HostRuntime) -> Result<(), Fail> {
     Ok(())
 }
 
-/// Whether the pretty print is that.
-fn is_pretty<K: KeyMade>(alloc: Global, value: Document<K>, print: &str) -> Result<bool, Fail> {
-    Ok(value.encode_pp(alloc)?.as_str() == print)
-}
-
-/// Whether it is written so behind `> `.
-fn is_written<K: KeyMade>(alloc: Global, value: &Document<K>, out: &[u8]) -> Result<bool, Fail> {
-    let mut written = b"> ".to_vec(alloc)?;
-    value.write(&mut written)?;
-    Ok(written.as_slice() == out)
-}
-
 const SPACES: &str = " { \"k\" : null } ";
-
-const LINES: &str = "{\"a\":[1,{}]}";
 
 /// A text with a value of each variant, and what `Debug` shows of its document.
 const VARIANTS: (&str, &str) = (
     r#"{"a":[null,-1,1,"q\"k"]}"#,
     r#"Object({"a": Array([Static(Null), Static(I64(-1)), Static(U64(1)), String("q\"k")])})"#,
 );
-
-const ESCAPES: &str = "{\"q\\\"k\":\"a\\/b\\u0041\"}";
-
-/// Whether the text with escapes is printed, displayed and written without those that it needs not.
-fn escapes<K: KeyMade>(alloc: Global, value: &Document<K>) -> Result<[bool; 2], Fail> {
-    let print = "{\"q\\\"k\":\"a/bA\"}";
-    Ok([
-        shows(alloc, value, print, print)?,
-        is_written(alloc, value, b"> {\"q\\\"k\":\"a/bA\"}")?,
-    ])
-}
-
-#[test]
-fn escapes_are_printed(rt: HostRuntime) -> Result<(), Fail> {
-    let alloc = rt.alloc();
-    let mut bytes = ESCAPES.as_bytes().to_vec(alloc)?;
-    let owned = owned::parsed(alloc, ESCAPES)?;
-    assert_eq!(rt; escapes(alloc, &owned)?, [true; 2]);
-    assert_eq!(rt; escapes(alloc, &borrowed::parsed(&mut bytes)?)?, [true; 2]);
-    Ok(())
-}
 
 #[test]
 fn spaces_are_not_printed(rt: HostRuntime) -> Result<(), Fail> {
@@ -137,18 +102,5 @@ fn variants_are_shown(rt: HostRuntime) -> Result<(), Fail> {
     let borrowed = borrowed::parsed(&mut bytes)?;
     assert_eq!(rt; format!(in alloc; "{owned:?}")?.as_str(), shown);
     assert_eq!(rt; format!(in alloc; "{borrowed:?}")?.as_str(), shown);
-    Ok(())
-}
-
-#[test]
-fn pretty_prints(rt: HostRuntime) -> Result<(), Fail> {
-    let alloc = rt.alloc();
-    let mut bytes = LINES.as_bytes().to_vec(alloc)?;
-    let print = "{\n  \"a\": [\n    1,\n    {}\n  ]\n}";
-    let told = [
-        is_pretty(alloc, owned::parsed(alloc, LINES)?, print)?,
-        is_pretty(alloc, borrowed::parsed(&mut bytes)?, print)?,
-    ];
-    assert_eq!(rt; told, [true; 2]);
     Ok(())
 }
