@@ -1,4 +1,4 @@
-.PHONY: demo test programs docs check-docs check-edits check-use check-program check-depth check-refusals check-broken check-bench check-bindings bindings library call-bindings bench-bindings
+.PHONY: demo test programs docs check-docs check-edits check-use check-program check-depth check-refusals check-broken check-bench check-bindings bindings library call-bindings bench-bindings timings pictures
 
 # Runs README's first program, in about a minute. It proves nothing.
 demo:
@@ -34,6 +34,7 @@ check-docs:
 	tools/clauses.py
 	tools/calling.py --check
 	tools/trusted.py --check README.md
+	tools/bindings_picture.py --check
 
 # Looks whether each edit that has to be refused still applies. Needs python3.
 check-edits:
@@ -98,3 +99,12 @@ call-bindings:
 # Measures the Rust side beside serde_json, where Debian's package of that is there. It asserts nothing.
 bench-bindings:
 	tools/bench_bindings.sh crates/sj_c/out/libsj_c.a
+
+# Measures documents, maps, patches and sessions beside other libraries, and prints tables for docs/TIMINGS.md. Needs `make test`
+# before it, cargo, g++ and the peers that bench/tables names; run it while nothing else runs. It asserts nothing.
+timings:
+	bench/tables .
+
+# Draws the picture of docs/TIMINGS.md of its last table.
+pictures:
+	tools/bindings_picture.py

@@ -13,13 +13,15 @@ from html import escape
 TASKS = ('read', 'print', 'let go')
 BESIDE = 'serde_json'
 COLOURS = {
-    'lazy': ('#08519c', '#3182bd', '#9ecae1'),
+    'tape': ('#08519c', '#3182bd', '#9ecae1'),
     'borrowed': ('#006d2c', '#31a354', '#a1d99b'),
     'owned': ('#54278f', '#756bb1', '#bcbddc'),
     'serde_json': ('#636363', '#969696', '#cccccc'),
+    'simdjson': ('#7a0177', '#c51b8a', '#f768a1'),
+    'RapidJSON': ('#00585c', '#1c9099', '#a6bddb'),
     'json': ('#a63603', '#e6550d', '#fdae6b'),
 }
-WIDTH, LEFT, RIGHT, TOP = 470, 150, 60, 92
+WIDTH, LEFT, RIGHT, TOP = 470, 110, 60, 108
 BAR, GAP, LONGEST = 11, 14, 1.6
 
 
@@ -101,7 +103,7 @@ def picture(page):
             head.append(f'<rect x="{x + task * 12:.1f}" y="42" width="12" height="10" fill="{COLOURS[way][task]}"/>')
         head.append(text(x + 42, 51, way, 11))
         x += 56 + 7 * len(way) + 14
-    head.append(text(x, 51, 'dark to light: read, print, let go. Shorter is faster.', 11, colour='#555555'))
+    head.append(text(LEFT, 72, 'dark to light: read, print, let go. Shorter is faster.', 11, colour='#555555'))
     body = '\n'.join(head + drawn)
     return (f'<svg xmlns="http://www.w3.org/2000/svg" width="{width}" height="{bottom:.0f}" viewBox="0 0 {width} {bottom:.0f}" '
             f'font-family="sans-serif">\n<rect width="100%" height="100%" fill="#ffffff"/>\n{body}\n</svg>\n')
