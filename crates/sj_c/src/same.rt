@@ -1,6 +1,6 @@
 //! Documents compared.
 
-ghost use Rattle.std.specs.Prelude.{◌≡◌, ◌≢◌, ◌⊎◌, ◌↔◌, ◌<◌, IsTrue, IsFalse, IfOk, Some, None, string_bytes};
+ghost use Rattle.std.specs.Prelude.{◌≡◌, ◌≢◌, ◌⊎◌, ◌↔◌, ◌<◌, ◌≤◌, IsTrue, IsFalse, IfOk, Some, None, string_bytes};
 ghost use Rattle.sj_text_core.specs.Tree.{Tree, depth};
 ghost use Rattle.sj_text_core.specs.Same.{Same};
 ghost use Rattle.sj_document.specs.Document.{tree};
@@ -21,7 +21,8 @@ pub fn are_comparable(
     one: &OwnedValue,
     other: &OwnedValue,
 ) -> Result<bool, AllocError>
-    ensures { IfOk result (λ are. IsFalse are → (1024 < depth (tree string_bytes one.now)) × (1024 < depth (tree string_bytes other.now))) }
+    ensures deep { IfOk result (λ are. IsFalse are → (1024 < depth (tree string_bytes one.now)) × (1024 < depth (tree string_bytes other.now))) }
+    ensures within { IfOk result (λ are. IsTrue are → (depth (tree string_bytes one.now) ≤ 1024) ⊎ (depth (tree string_bytes other.now) ≤ 1024)) }
 {
     if one.is_within_depth(COMPARED, alloc)? {
         return Ok(true);
@@ -32,6 +33,7 @@ pub fn are_comparable(
 /// Compares two values; past the depth it is refused.
 fn compare(alloc: Global, one: &OwnedValue, other: &OwnedValue, same: &mut bool) -> u32
     ensures ok { result ≡ OK → (IsTrue same.new ↔ Same (tree string_bytes one.now) (tree string_bytes other.now)) }
+    ensures within { result ≡ OK → (depth (tree string_bytes one.now) ≤ 1024) ⊎ (depth (tree string_bytes other.now) ≤ 1024) }
     ensures deep { result ≡ TOO_DEEP → (1024 < depth (tree string_bytes one.now)) × (1024 < depth (tree string_bytes other.now)) }
     ensures answers { (result ≡ OK) ⊎ (result ≡ TOO_DEEP) ⊎ (result ≡ OUT_OF_MEMORY) }
 {
@@ -50,6 +52,7 @@ fn compare(alloc: Global, one: &OwnedValue, other: &OwnedValue, same: &mut bool)
 #[unsafe(no_mangle)]
 pub extern "C" fn sj_same(alloc: Global, one: &mut Doc, other: &mut Doc, same: &mut bool) -> u32
     ensures ok { result ≡ OK → (t : Tree) × (u : Tree) × (meant one.old.kept.holds ≡ Some t) × (meant other.old.kept.holds ≡ Some u) × (IsTrue same.new ↔ Same t u) }
+    ensures within { result ≡ OK → (t : Tree) × (u : Tree) × (meant one.old.kept.holds ≡ Some t) × (meant other.old.kept.holds ≡ Some u) × ((depth t ≤ 1024) ⊎ (depth u ≤ 1024)) }
     ensures deep { result ≡ TOO_DEEP → (t : Tree) × (u : Tree) × (meant one.old.kept.holds ≡ Some t) × (meant other.old.kept.holds ≡ Some u) × (1024 < depth t) × (1024 < depth u) }
     ensures empty { result ≡ EMPTY → (one.old.kept.holds ≡ None) ⊎ (other.old.kept.holds ≡ None) }
     ensures answers { result ≢ OK → result ≢ TOO_DEEP → result ≢ EMPTY → result ≡ OUT_OF_MEMORY }
