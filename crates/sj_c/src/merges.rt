@@ -1,6 +1,6 @@
 //! Merge patches (RFC 7396) of the documents of handles.
 
-ghost use Rattle.std.specs.Prelude.{◌≡◌, ◌≢◌, ◌⊎◌, ◌<◌, Some, None, string_bytes};
+ghost use Rattle.std.specs.Prelude.{◌≡◌, ◌≢◌, ◌⊎◌, ◌<◌, ◌≤◌, Some, None, string_bytes};
 ghost use Rattle.sj_text_core.specs.Tree.{Tree, depth};
 ghost use Rattle.sj_text_core.specs.Same.{Same};
 ghost use Rattle.sj_document.specs.Document.{tree};
@@ -22,6 +22,7 @@ const MERGED: usize = 256;
 /// Merges a copy of the patch into the document. Refused, the document means what it meant.
 fn merge_into(alloc: Global, document: &mut OwnedValue, patch: &OwnedValue) -> u32
     ensures ok { result ≡ OK → tree string_bytes document.new ≡ merged (Some (tree string_bytes document.old)) (tree string_bytes patch.now) }
+    ensures within { result ≡ OK → depth (tree string_bytes patch.now) ≤ 256 }
     ensures deep { result ≡ TOO_DEEP → 256 < depth (tree string_bytes patch.now) }
     ensures answers { (result ≡ OK) ⊎ (result ≡ TOO_DEEP) ⊎ (result ≡ OUT_OF_MEMORY) }
     ensures refused { result ≢ OK → tree string_bytes document.new ≡ tree string_bytes document.old }
@@ -47,6 +48,7 @@ fn merge_into(alloc: Global, document: &mut OwnedValue, patch: &OwnedValue) -> u
 #[unsafe(no_mangle)]
 pub extern "C" fn sj_merge(alloc: Global, doc: &mut Doc, patch: &mut Doc) -> u32
     ensures ok { result ≡ OK → (t : Tree) × (p : Tree) × (meant doc.old.kept.holds ≡ Some t) × (meant patch.old.kept.holds ≡ Some p) × (meant doc.new.kept.holds ≡ Some (merged (Some t) p)) }
+    ensures within { result ≡ OK → (p : Tree) × (meant patch.old.kept.holds ≡ Some p) × (depth p ≤ 256) }
     ensures deep { result ≡ TOO_DEEP → (p : Tree) × (meant patch.old.kept.holds ≡ Some p) × (256 < depth p) }
     ensures empty { result ≡ EMPTY → (doc.old.kept.holds ≡ None) ⊎ (patch.old.kept.holds ≡ None) }
     ensures answers { result ≢ OK → result ≢ TOO_DEEP → result ≢ EMPTY → result ≡ OUT_OF_MEMORY }
@@ -70,6 +72,7 @@ pub extern "C" fn sj_merge(alloc: Global, doc: &mut Doc, patch: &mut Doc) -> u32
 fn merge_patch_into(alloc: Global, from: &OwnedValue, to: &OwnedValue, patch: &mut Doc) -> u32
     ensures ok { result ≡ OK → (p : Tree) × (meant patch.new.kept.holds ≡ Some p) × (merge_patch (Some (tree string_bytes from.now)) (tree string_bytes to.now) ≡ Some p) × Same (merged (Some (tree string_bytes from.now)) p) (tree string_bytes to.now) }
     ensures none { result ≡ NO_MERGE_PATCH → merge_patch (Some (tree string_bytes from.now)) (tree string_bytes to.now) ≡ None }
+    ensures within { result ≡ OK → depth (tree string_bytes to.now) ≤ 256 }
     ensures deep { result ≡ TOO_DEEP → 256 < depth (tree string_bytes to.now) }
     ensures answers { (result ≡ OK) ⊎ (result ≡ NO_MERGE_PATCH) ⊎ (result ≡ TOO_DEEP) ⊎ (result ≡ OUT_OF_MEMORY) }
     ensures err { result ≢ OK → patch.new.kept.holds ≡ patch.old.kept.holds }
@@ -93,6 +96,7 @@ fn merge_patch_into(alloc: Global, from: &OwnedValue, to: &OwnedValue, patch: &m
 pub extern "C" fn sj_merge_diff(alloc: Global, from: &mut Doc, to: &mut Doc, patch: &mut Doc) -> u32
     ensures ok { result ≡ OK → (t : Tree) × (u : Tree) × (p : Tree) × (meant from.old.kept.holds ≡ Some t) × (meant to.old.kept.holds ≡ Some u) × (meant patch.new.kept.holds ≡ Some p) × (merge_patch (Some t) u ≡ Some p) × Same (merged (Some t) p) u }
     ensures none { result ≡ NO_MERGE_PATCH → (t : Tree) × (u : Tree) × (meant from.old.kept.holds ≡ Some t) × (meant to.old.kept.holds ≡ Some u) × (merge_patch (Some t) u ≡ None) }
+    ensures within { result ≡ OK → (u : Tree) × (meant to.old.kept.holds ≡ Some u) × (depth u ≤ 256) }
     ensures deep { result ≡ TOO_DEEP → (u : Tree) × (meant to.old.kept.holds ≡ Some u) × (256 < depth u) }
     ensures empty { result ≡ EMPTY → (from.old.kept.holds ≡ None) ⊎ (to.old.kept.holds ≡ None) }
     ensures answers { result ≢ OK → result ≢ NO_MERGE_PATCH → result ≢ TOO_DEEP → result ≢ EMPTY → result ≡ OUT_OF_MEMORY }

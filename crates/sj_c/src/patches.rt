@@ -1,6 +1,6 @@
 //! Patches (RFC 6902) of the documents of handles.
 
-ghost use Rattle.std.specs.Prelude.{◌≡◌, ◌≢◌, ◌⊎◌, ◌<◌, map, Ok, Some, None, IfOk, IfErr, string_bytes};
+ghost use Rattle.std.specs.Prelude.{◌≡◌, ◌≢◌, ◌⊎◌, ◌<◌, ◌≤◌, map, Ok, Some, None, IfOk, IfErr, string_bytes};
 ghost use Rattle.sj_text_core.specs.Tree.{Tree, depth};
 ghost use Rattle.sj_document.specs.Document.{tree};
 ghost use Rattle.sj_patch.specs.Meant.{meant as meant_operation};
@@ -103,6 +103,7 @@ pub extern "C" fn sj_patch(alloc: Global, doc: &mut Doc, patch: &mut Doc, at: &m
 /// Puts the patch from one value to another into the handle. Refused, it keeps what it had.
 fn patch_into(alloc: Global, from: &OwnedValue, to: &OwnedValue, patch: &mut Doc) -> u32
     ensures ok { result ≡ OK → (p : Tree) × (meant patch.new.kept.holds ≡ Some p) × Leads p (tree string_bytes from.now) (tree string_bytes to.now) }
+    ensures within { result ≡ OK → (depth (tree string_bytes from.now) ≤ 1024) ⊎ (depth (tree string_bytes to.now) ≤ 1024) }
     ensures deep { result ≡ TOO_DEEP → (1024 < depth (tree string_bytes from.now)) × (1024 < depth (tree string_bytes to.now)) }
     ensures answers { (result ≡ OK) ⊎ (result ≡ TOO_DEEP) ⊎ (result ≡ OUT_OF_MEMORY) }
     ensures err { result ≢ OK → patch.new.kept.holds ≡ patch.old.kept.holds }
@@ -127,6 +128,7 @@ fn patch_into(alloc: Global, from: &OwnedValue, to: &OwnedValue, patch: &mut Doc
 #[unsafe(no_mangle)]
 pub extern "C" fn sj_diff(alloc: Global, from: &mut Doc, to: &mut Doc, patch: &mut Doc) -> u32
     ensures ok { result ≡ OK → (t : Tree) × (u : Tree) × (p : Tree) × (meant from.old.kept.holds ≡ Some t) × (meant to.old.kept.holds ≡ Some u) × (meant patch.new.kept.holds ≡ Some p) × Leads p t u }
+    ensures within { result ≡ OK → (t : Tree) × (u : Tree) × (meant from.old.kept.holds ≡ Some t) × (meant to.old.kept.holds ≡ Some u) × ((depth t ≤ 1024) ⊎ (depth u ≤ 1024)) }
     ensures deep { result ≡ TOO_DEEP → (t : Tree) × (u : Tree) × (meant from.old.kept.holds ≡ Some t) × (meant to.old.kept.holds ≡ Some u) × (1024 < depth t) × (1024 < depth u) }
     ensures empty { result ≡ EMPTY → (from.old.kept.holds ≡ None) ⊎ (to.old.kept.holds ≡ None) }
     ensures answers { result ≢ OK → result ≢ TOO_DEEP → result ≢ EMPTY → result ≡ OUT_OF_MEMORY }
