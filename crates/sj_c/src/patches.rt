@@ -52,6 +52,7 @@ fn patch_value(
     at: &mut usize,
 ) -> u32
     ensures ok { result ≡ OK → Patches (tree string_bytes patch_document.now) (tree string_bytes document.old) (tree string_bytes document.new) }
+    ensures within { result ≡ OK → depth (tree string_bytes patch_document.now) ≤ 1024 }
     ensures fault { result ≢ OK → NotPatched (tree string_bytes patch_document.now) (tree string_bytes document.old) result at.new }
     ensures full { result ≢ EMPTY }
     ensures refused { result ≢ OK → tree string_bytes document.new ≡ tree string_bytes document.old }
@@ -82,6 +83,7 @@ fn patch_value(
 #[unsafe(no_mangle)]
 pub extern "C" fn sj_patch(alloc: Global, doc: &mut Doc, patch: &mut Doc, at: &mut usize) -> u32
     ensures ok { result ≡ OK → (t : Tree) × (p : Tree) × (u : Tree) × (meant doc.old.kept.holds ≡ Some t) × (meant patch.old.kept.holds ≡ Some p) × (meant doc.new.kept.holds ≡ Some u) × Patches p t u }
+    ensures within { result ≡ OK → (p : Tree) × (meant patch.old.kept.holds ≡ Some p) × (depth p ≤ 1024) }
     ensures fault { result ≢ OK → result ≢ EMPTY → (t : Tree) × (p : Tree) × (meant doc.old.kept.holds ≡ Some t) × (meant patch.old.kept.holds ≡ Some p) × NotPatched p t result at.new }
     ensures empty { result ≡ EMPTY → (doc.old.kept.holds ≡ None) ⊎ (patch.old.kept.holds ≡ None) }
     ensures refused { result ≢ OK → meant doc.new.kept.holds ≡ meant doc.old.kept.holds }
