@@ -60,6 +60,9 @@ fn looks(rt: &(impl Print + AllocGlobal)) -> anyhow::Result<()> {
         Ok(document) => println!(rt; "{document}")?,
         Err(fault) => println!(rt; "{fault}")?,
     }
+    if let Some(fault) = where_a_text_is_wrong::confirmed_place(alloc, "{\n  \"a\": tru}")? {
+        println!(rt; "{} {fault}", fault.at)?;
+    }
     Ok(())
 }
 
@@ -120,6 +123,23 @@ fn patches(rt: &(impl Print + AllocGlobal)) -> anyhow::Result<()> {
         Ok(()) => println!(rt; "patched")?,
         Err(fault) => println!(rt; "{fault}, {settings}")?,
     }
+    Ok(())
+}
+
+/// What goes over parts, and puts one document over another.
+fn merges(rt: &(impl Print + AllocGlobal)) -> anyhow::Result<()> {
+    let alloc = rt.alloc();
+    let defaults = read_and_keep::read_settings(alloc, r#"{"port":80,"log":{"level":"info"}}"#)?;
+    let mut settings = defaults.clone()?;
+    let site = r#"{"log":{"to":"/var/log"},"port":null}"#;
+    merge_one_document_over_another::put_over(alloc, &mut settings, site)?;
+    go_over_members_and_items::tell_parts(rt, &settings)?;
+    let back = merge_one_document_over_another::difference(alloc, &settings, &defaults)?;
+    if let Some(back) = back {
+        println!(rt; "{back}")?;
+    }
+    let items = read_and_keep::read_settings(alloc, "[1,[2]]")?;
+    go_over_members_and_items::tell_parts(rt, &items)?;
     Ok(())
 }
 
@@ -270,6 +290,7 @@ fn main(rt: HostRuntime) -> anyhow::Result<()> {
     changes(&rt)?;
     further_changes(&rt)?;
     patches(&rt)?;
+    merges(&rt)?;
     sifts(&rt)?;
     prints(&rt)?;
     signs(&rt)?;

@@ -2,11 +2,10 @@
 
 use crate::fault::Fault;
 use sj_owned::Value;
-use sj_owned::prelude::*;
 use std::alloc::Global;
 
 pub fn add_host(alloc: Global, settings: &mut Value, host: &str) -> Result<(), Fault> {
-    let host = Value::try_make(alloc, host)?;
+    let host = Value::text(alloc, host)?;
     match settings.get_mut("hosts") {
         Some(hosts) => hosts.push(host)?,
         None => return Err(Fault::NoHosts),

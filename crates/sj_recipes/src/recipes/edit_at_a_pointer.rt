@@ -1,6 +1,5 @@
 //! A member of what a pointer finds.
 
-use sj_owned::prelude::*;
 use sj_owned::{JsonError, Value};
 use sj_path::{owned, pointer};
 use std::alloc::Global;
@@ -12,7 +11,7 @@ pub fn set_in_server(
     text: &str,
 ) -> Result<(), JsonError> {
     let key = String::from_str(alloc, key)?;
-    let value = Value::try_make(alloc, text)?;
+    let value = Value::text(alloc, text)?;
     owned::insert(settings, &pointer(alloc, "/server")?, key, value)?;
     Ok(())
 }
