@@ -8,32 +8,40 @@
  * handle go by sj_free or sj_text_free in the end: it holds none then, and may be used again. To
  * let go a handle that holds none does nothing. A handle that was let go is as one of zero bytes.
  *
- * Bytes. Texts are a pointer and a length, with no zero byte behind them. Where the length is 0 the
- * pointer may be NULL. What a call takes as `uint8_t *` it writes over; what it takes as
- * `const uint8_t *` it leaves. Paths, keys and the bytes of sj_of_text are UTF-8, or
- * SJ_BAD_ARGUMENT is answered.
+ * A handle may be moved to another place, where the first is not used again. Whether one holds a
+ * document says sj_find with a path of length 0: SJ_EMPTY where it holds none.
+ *
+ * Bytes. Texts are a pointer and a length in bytes, with no zero byte behind them; zero bytes may
+ * stand within them. Where a length or a room is 0 its pointer may be NULL. No other pointer may:
+ * no handle, also not that of sj_free, no old, no buffers, no out parameter. What a call takes as
+ * `uint8_t *` it writes over; what it takes as `const uint8_t *` it leaves. Paths, keys and the
+ * bytes of sj_of_text are UTF-8, or SJ_BAD_ARGUMENT is answered.
  *
  * Pointers that calls give out (sj_value's text, sj_member's key, sj_text_bytes) lead into what the
- * handle holds. They are good until that handle is next edited, given away, filled or let go; calls
- * that only read leave them good. Read through them, and write not. sj_peek's lead into its bytes.
+ * handle holds. They are good until that handle is next given to an edit, a patch, a merge or
+ * sj_lines, also where that is refused, or is given away, filled or let go; calls that only read
+ * leave them good. Read through them, and write not. sj_peek's lead into its bytes.
  *
- * Two handles given to one call are different ones, and no buffer overlaps a handle or another
- * buffer.
+ * Two handles given to one call are different ones. No buffer and no out parameter overlaps a
+ * handle, what a handle of the call holds, or another of them; a path and a key may be the same
+ * bytes. So copy a key that sj_members gave out before you give it to a call on that document.
  *
  * Statuses. Each call that can be refused answers one. Refused, the handles stand as the call says,
  * and out parameters (sj_value and the like, but for sj_patch's at) are not to be read. Nothing is
  * aborted or thrown.
  *
- * Memory is asked for by rattle_alloc and rattle_realloc, which heap.c takes to malloc and realloc.
- * A refused request is answered SJ_OUT_OF_MEMORY.
+ * Memory is asked for by rattle_alloc and rattle_realloc, and given back by rattle_dealloc, which
+ * heap.c takes to malloc, realloc and free. A refused request is answered SJ_OUT_OF_MEMORY.
  *
- * Threads. There is no state but the handles'. Calls on different handles may run at once. A handle
- * is used by one call at a time, also by calls that only read, and may go to another thread between
- * two calls. Make no call from a signal handler, or in the child of a program with threads.
+ * Threads. There is no state but that of handles and sj_buffers; each is used by one call at a
+ * time, also by calls that only read. Calls on different ones may run at once, and each may go to
+ * another thread between two calls. Make no call from a signal handler, or in the child of a
+ * program with threads.
  *
  * Stack. Have 512 KB. A text is read to SJ_MAX_LEVELS arrays and objects inside one another; edits
- * may nest them deeper. Comparisons and patches are refused as SJ_TOO_DEEP past as many levels,
- * merges past SJ_MAX_MERGE_LEVELS. All other calls take a stack of one size at any depth.
+ * may nest them deeper. SJ_TOO_DEEP is answered by sj_same and sj_diff where both documents have
+ * more, by sj_patch where the patch has, and by sj_merge and sj_merge_diff past
+ * SJ_MAX_MERGE_LEVELS. All other calls take a stack of one size at any depth.
  *
  * What each call answers and leaves is proved for callers that keep these rules. The rules
  * themselves are yours: nothing checks them.
@@ -146,7 +154,8 @@ typedef struct sj_member {
  * the last, in the place of the first. Refused, doc holds what it held. */
 sj_status sj_read(sj_doc *doc, uint8_t *bytes, size_t len, bool last);
 
-/* The same, where the first stays, for one text after another. */
+/* The same, where the first stays, for one text after another. The buffers can be used again
+ * whatever is answered. */
 sj_status sj_read_with_buffers(sj_doc *doc, uint8_t *bytes, size_t len, sj_buffers *buffers);
 
 /* Lets the document go. */
@@ -175,14 +184,16 @@ sj_status sj_of_object(sj_doc *doc);
 /* Prints doc into text: compact, or with two spaces a level. Refused, text holds what it held. */
 sj_status sj_print(sj_doc *doc, sj_text *text, bool is_pretty);
 
-/* Prints doc into text in the canonical form of RFC 8785: equal bytes for documents that are the
- * same. Refused, text holds what it held. */
+/* Prints doc into text in the canonical form of RFC 8785, but that numbers past 2^53 have all their
+ * digits: equal bytes for documents that are the same, and for those alone. Refused, text holds
+ * what it held. */
 sj_status sj_print_canonical(sj_doc *doc, sj_text *text);
 
 /* Where the bytes of the print lie, and how many they are. */
 sj_status sj_text_bytes(sj_text *text, const uint8_t **at, size_t *len);
 
-/* Copies as many bytes of the print as there is room for, and answers how many. */
+/* Copies as many bytes of the print as there is room for, and answers how many; 0 where text holds
+ * none. */
 size_t sj_text_copy(sj_text *text, uint8_t *out, size_t room);
 
 /* Lets the print go. */
@@ -190,7 +201,7 @@ void sj_text_free(sj_text *text);
 
 /* --- reads at a pointer (RFC 6901): "" is the whole document, "/a/0" an item --- */
 
-/* Says what stands there. */
+/* Says what stands there. Where nothing does: SJ_MISSING. */
 sj_status sj_find(sj_doc *doc, const uint8_t *path, size_t path_len, sj_value *value);
 
 /* Prints what stands there into text, or copies it to copy. Refused, those hold what they held. */
@@ -198,17 +209,20 @@ sj_status sj_print_at(sj_doc *doc, const uint8_t *path, size_t path_len, sj_text
                       bool is_pretty);
 sj_status sj_clone_at(sj_doc *doc, const uint8_t *path, size_t path_len, sj_doc *copy);
 
-/* Says which items stand in the array there, from a position on, as many as there is room for;
- * count is how many that were. The time is that of the items said. */
+/* Says which items stand in the array there, from a position on, as many as out has places for,
+ * which room is; count is how many that were, 0 past the end. SJ_NOT_AN_ARRAY where it is none. The
+ * time is that of the items said. */
 sj_status sj_items(sj_doc *doc, const uint8_t *path, size_t path_len, size_t from, sj_value *out,
                    size_t room, size_t *count);
 
-/* Says which members stand in the object there, in order, in the same way. */
+/* Says which members stand in the object there, in order, in the same way. SJ_NOT_AN_OBJECT where
+ * it is none. */
 sj_status sj_members(sj_doc *doc, const uint8_t *path, size_t path_len, size_t from, sj_member *out,
                      size_t room, size_t *count);
 
 /* Says what stands at a pointer in a text, of which no document is built. The bytes are written
- * over, and a text that is found lies in them. Of arrays and objects len is 0. */
+ * over, and a text that is found lies in them. Of arrays and objects len is 0. last: as in sj_read.
+ * Refused as sj_read is, and as SJ_MISSING. */
 sj_status sj_peek(uint8_t *bytes, size_t len, bool last, const uint8_t *path, size_t path_len,
                   sj_value *value);
 
@@ -216,7 +230,8 @@ sj_status sj_peek(uint8_t *bytes, size_t len, bool last, const uint8_t *path, si
 
 /* Done, the value's handle holds none, and old holds what was there, or what it held where nothing
  * was. Refused, all hold what they held: the value stays with you. Where the pointer finds nothing,
- * there is no object and no array either. */
+ * sj_insert and sj_remove answer SJ_NOT_AN_OBJECT, sj_push and sj_pop SJ_NOT_AN_ARRAY, and sj_put
+ * SJ_MISSING. SJ_EMPTY: doc or value holds none. */
 
 /* Sets the value of the key of the object there. A key that is there keeps its place. */
 sj_status sj_insert(sj_doc *doc, const uint8_t *path, size_t path_len, const uint8_t *key,
@@ -263,12 +278,15 @@ sj_status sj_merge_diff(sj_doc *from, sj_doc *to, sj_doc *patch);
 /* --- command lines (docs/SJVAL.md), as ["insert","/a","k",1] --- */
 
 /* Answers the lines in turn on doc, and puts the replies into text, each with a line feed behind
- * it; that of encode_pp has several lines. Refused, text holds what it held, and doc holds a
- * document in which some of the commands may be done. The lines are written over. */
+ * it; that of encode_pp has several lines. A line that is no command has the reply `bad command`,
+ * and empty lines are passed over. Refused, text holds what it held, and doc holds a document in
+ * which some of the commands may be done. The lines are written over. */
 sj_status sj_lines(sj_doc *doc, uint8_t *lines, size_t len, sj_text *text);
 
 /* Reads the document of the input, answers the lines behind its first line --- on it, and puts the
- * replies into text. form is 0 owned, 1 borrowed, 2 lazy. Refused, text holds what it held. */
+ * replies into text. form is 0 owned, 1 borrowed, 2 lazy, and else SJ_USAGE is answered; last: as
+ * in sj_read. A document that is not read is refused as sj_read refuses it. Refused, text holds
+ * what it held. The input is written over. */
 sj_status sj_session(uint8_t *input, size_t len, uint32_t form, bool last, sj_text *text);
 
 #ifdef __cplusplus

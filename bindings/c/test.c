@@ -446,6 +446,6 @@ int main(void) {
     patches_and_merges();
     canonical();
     texts_and_lines();
-    puts("12 parts, all as said");
+    puts("13 parts, all as said");
     return 0;
 }

@@ -8,7 +8,9 @@
 '{"name":"kiosk","ports":[80,443],"debug":true}'
 
 The shared object is libsj_c.so beside this file, or the file that PAIZKORDE names. Each call holds
-the interpreter's lock, so that a document is used by one call at a time.
+the interpreter's lock, but a value's text is copied out behind its call: threads that share a document
+take a lock of their own around each use. So does a Python that runs without that lock. Have 512 KB of
+stack, and make no call in the child of a fork of a program with threads.
 """
 
 from __future__ import annotations
@@ -211,7 +213,9 @@ class Document:
     """A document that owns its texts: `parse` reads one, `of` makes one of Python's values.
 
     It reads as a dict or a list does; its parts are `Value`s. Edits name places by JSON pointers
-    (RFC 6901): "" is the whole document, "/ports/0" an item.
+    (RFC 6901): "" is the whole document, "/ports/0" an item. A refused call raises JsonError, or
+    MemoryError, and leaves the document as it was; only `session` may have done some commands.
+    `Document()` is a null. A value is true as Python's would be, so ask `is None` for what is not there.
     """
 
     def __init__(self) -> None:
@@ -225,7 +229,7 @@ class Document:
 
     @classmethod
     def parse(cls, text: Bytes, last: bool = False) -> "Document":
-        """Reads a text. Of several members with one key the first stays, or the last."""
+        """Reads a text. Of several members with one key the first stays, or, with last, the last, in its place."""
         data = _utf8(text)
         doc = cls()
         _check(_lib.sj_read(doc._at, _room(data), len(data), last))
@@ -241,7 +245,11 @@ class Document:
 
     @classmethod
     def of(cls, value: Any) -> "Document":
-        """A document of None, a bool, an int, a str, a list, a tuple, a dict or a document."""
+        """A document of None, a bool, an int, a str, a list, a tuple, a dict, a document or a Value.
+
+        The keys of a dict are strs. TypeError for anything else, JsonError for an int past 128 bits, UnicodeEncodeError for half of a
+        surrogate pair, RecursionError past some 490 levels.
+        """
         doc = cls()
         if isinstance(value, (Document, Value)):
             return value.copy()
@@ -276,7 +284,7 @@ class Document:
             raise JsonError(20)
 
     def pointer(self, path: str) -> Optional["Value"]:
-        """What stands at a pointer, or None."""
+        """What stands at a pointer, or None; JsonError where the text is no pointer."""
         found, data = _Found(), _utf8(path)
         code = _lib.sj_find(self._at, data, len(data), ctypes.byref(found))
         if code == _MISSING:
@@ -292,6 +300,7 @@ class Document:
         return root
 
     def get(self, key: Union[str, int], default: Any = None) -> Any:
+        """The member of a key, or the item at a place; the default where there is none."""
         return self.root.get(key, default)
 
     def __getitem__(self, key: Union[str, int]) -> "Value":
@@ -307,12 +316,15 @@ class Document:
         return key in self.root
 
     def keys(self) -> List[str]:
+        """The keys of an object, in order."""
         return self.root.keys()
 
     def values(self) -> List["Value"]:
+        """The values of an object, or the items of an array, in order."""
         return self.root.values()
 
     def items(self) -> List[Tuple[str, "Value"]]:
+        """The members of an object, in order."""
         return self.root.items()
 
     def insert(self, path: str, key: str, value: Any) -> Optional["Document"]:
@@ -326,7 +338,7 @@ class Document:
         _old(lambda old: _lib.sj_push(self._at, where, len(where), given._at, old))
 
     def put(self, path: str, value: Any) -> Optional["Document"]:
-        """Puts the value in the place of what stands at the pointer; answers that."""
+        """Puts the value in the place of what stands at the pointer; answers that, and so never None."""
         where, given = _utf8(path), Document.of(value)
         return _old(lambda old: _lib.sj_put(self._at, where, len(where), given._at, old))
 
@@ -336,12 +348,12 @@ class Document:
         return _old(lambda old: _lib.sj_set(self._at, where, len(where), given._at, old))
 
     def remove(self, path: str, key: str) -> Optional["Document"]:
-        """Takes the member of the key out of the object at the pointer; answers its value."""
+        """Takes the member of the key out of the object at the pointer; answers its value, or None."""
         where, name = _utf8(path), _utf8(key)
         return _old(lambda old: _lib.sj_remove(self._at, where, len(where), name, len(name), old))
 
     def pop(self, path: str) -> Optional["Document"]:
-        """Takes the last item of the array at the pointer; answers it."""
+        """Takes the last item of the array at the pointer; answers it, or None."""
         where = _utf8(path)
         return _old(lambda old: _lib.sj_pop(self._at, where, len(where), old))
 
@@ -384,7 +396,8 @@ class Document:
         return _printed(lambda text: _lib.sj_print(self._at, text, pretty))
 
     def canonical(self) -> str:
-        """The text in the canonical form (RFC 8785): equal for documents that are the same."""
+        """The text in the canonical form (RFC 8785), but that numbers past 2^53 have all their digits:
+        equal for documents that are the same, and for those alone."""
         return _printed(lambda text: _lib.sj_print_canonical(self._at, text))
 
     def __str__(self) -> str:
@@ -413,6 +426,7 @@ class Document:
     __hash__ = None  # type: ignore[assignment]
 
     def copy(self) -> "Document":
+        """A copy of the document."""
         copy = Document()
         _check(_lib.sj_clone(self._at, copy._at))
         return copy
@@ -451,7 +465,8 @@ def _old(call: _Call) -> Optional[Document]:
 
 
 class Value:
-    """What stood at a pointer when it was found. After an edit find it again."""
+    """What stood at a pointer. After an edit find it again: `str`, `copy`, `==`, `[]` and `items` then read
+    what stands there now, or raise JsonError; `len` and scalars are of before."""
 
     __slots__ = ("_doc", "path", "_found", "_text")
 
@@ -491,6 +506,7 @@ class Value:
         raise TypeError(f"nothing is found by {key!r} here")
 
     def get(self, key: Union[str, int], default: Any = None) -> Any:
+        """The member of a key, or the item at a place; the default where there is none."""
         try:
             return self[key]
         except (LookupError, TypeError):
@@ -528,9 +544,11 @@ class Value:
         return pairs
 
     def keys(self) -> List[str]:
+        """The keys of an object, in order."""
         return [key for key, _ in self.items()]
 
     def values(self) -> List["Value"]:
+        """The values of an object, or the items of an array, in order."""
         return self._items() if self._found.kind == _ARRAY else [value for _, value in self.items()]
 
     def _at(self, call: Callable[..., Any], *rest: Any) -> Any:

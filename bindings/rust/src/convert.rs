@@ -6,6 +6,7 @@ use crate::value::Value;
 
 /// A value that a document can be made of.
 pub trait IntoDocument {
+    /// A document of the value. Refused for want of memory.
     fn into_document(self) -> Result<Document>;
 }
 

@@ -11,6 +11,7 @@ use std::str::FromStr;
 /// Which member of several with one key stays when a text is read.
 #[derive(Clone, Copy, Debug, Default, PartialEq, Eq, Hash)]
 pub enum Keep {
+    /// The first.
     #[default]
     First,
     /// The last, in the place of the first.
@@ -33,7 +34,9 @@ pub struct Document(raw::Doc);
 /// A value that was not put into a document, and why.
 #[derive(Debug)]
 pub struct Refused {
+    /// Why it was not put there.
     pub error: Error,
+    /// The value as it was given.
     pub value: Document,
 }
 
@@ -64,12 +67,14 @@ impl Document {
         &mut self.0
     }
 
-    /// Reads one text of a copy of the bytes.
+    /// Reads one text, of a copy of the bytes; of several members with one key the first stays. Refused
+    /// as [`Error::InvalidUtf8`], [`Error::Syntax`], [`Error::LoneSurrogate`], [`Error::Float`],
+    /// [`Error::NumberTooLarge`], [`Error::TooDeep`] or [`Error::OutOfMemory`].
     pub fn parse(text: impl AsRef<[u8]>) -> Result<Document> {
         Document::parse_in_place(&mut text.as_ref().to_vec(), Keep::First)
     }
 
-    /// Reads one text. The bytes are written over.
+    /// Reads one text. The bytes are written over, also where it is refused, as [`Document::parse`] is.
     pub fn parse_in_place(bytes: &mut [u8], keep: Keep) -> Result<Document> {
         let mut document = Document::empty();
         check(document.0.read(bytes, keep == Keep::Last))?;
@@ -77,7 +82,8 @@ impl Document {
     }
 
     /// Reads one text of many, with room at once for what the largest before had. The bytes are
-    /// written over.
+    /// written over. Of several members with one key the first stays. The buffers can be used again
+    /// whatever is answered.
     ///
     /// ```
     /// # use paizkorde::{Buffers, Document};
@@ -130,6 +136,7 @@ impl Document {
         self.root().get(key)
     }
 
+    /// What the document is; of a number, what carries it.
     pub fn kind(&self) -> Kind {
         self.root().kind()
     }
@@ -147,8 +154,8 @@ impl Document {
         Document::old(code, old).map_err(|error| Refused { error, value })
     }
 
-    /// Sets the value of the key of the object at the pointer, and answers what was there. A key that
-    /// is there keeps its place; a new one goes last.
+    /// Sets the value of the key of the object at the pointer, and answers what was there, None where
+    /// nothing was. A key that is there keeps its place; a new one goes last.
     pub fn insert(
         &mut self,
         path: &str,
@@ -186,7 +193,8 @@ impl Document {
         Document::given(code, value, old).map(|_| ())
     }
 
-    /// Puts the value in the place of what stands at the pointer, and answers that.
+    /// Puts the value in the place of what stands at the pointer, and answers that, and so never None;
+    /// [`Error::Missing`] where nothing stands there.
     pub fn put(&mut self, path: &str, value: impl IntoDocument) -> Result<Option<Document>> {
         Ok(self.try_put(path, value.into_document()?)?)
     }
@@ -202,8 +210,8 @@ impl Document {
         Document::given(code, value, old)
     }
 
-    /// Sets what the pointer leads to, and answers what stood there; the objects that are missing on the
-    /// way are made. Where a token finds nothing in an array, or meets a scalar, it is refused as
+    /// Sets what the pointer leads to, and answers what stood there, or None; the objects that are
+    /// missing on the way are made. Where a token finds nothing in an array, or meets a scalar, it is refused as
     /// [`Error::NotAnObject`].
     pub fn set(&mut self, path: &str, value: impl IntoDocument) -> Result<Option<Document>> {
         Ok(self.try_set(path, value.into_document()?)?)
@@ -220,21 +228,23 @@ impl Document {
         Document::given(code, value, old)
     }
 
-    /// Takes the member of the key out of the object at the pointer, and answers its value.
+    /// Takes the member of the key out of the object at the pointer, and answers its value; None where
+    /// there is no such key.
     pub fn remove(&mut self, path: &str, key: &str) -> Result<Option<Document>> {
         let mut old = Document::empty();
         let code = self.0.remove(path, key, &mut old.0);
         Document::old(code, old)
     }
 
-    /// Takes the last item of the array at the pointer, and answers it.
+    /// Takes the last item of the array at the pointer, and answers it; None where there is none.
     pub fn pop(&mut self, path: &str) -> Result<Option<Document>> {
         let mut old = Document::empty();
         let code = self.0.pop(path, &mut old.0);
         Document::old(code, old)
     }
 
-    /// Does the operations that a patch lists (RFC 6902), all of them or none.
+    /// Does the operations that a patch lists (RFC 6902), all of them or none. Refused as
+    /// [`Error::TooDeep`] where the patch has more than 1,024 levels.
     ///
     /// ```
     /// # use paizkorde::Document;
@@ -249,7 +259,8 @@ impl Document {
     }
 
     /// The patch by which this document becomes the same as another: an array of operations (RFC
-    /// 6902), without any where they are the same.
+    /// 6902), without any where they are the same. Refused as [`Error::TooDeep`] where both have more
+    /// than 1,024 levels.
     pub fn diff(&self, to: &Document) -> Result<Document> {
         if std::ptr::eq(self, to) {
             return Document::array();
@@ -259,7 +270,9 @@ impl Document {
         Ok(patch)
     }
 
-    /// Merges a patch (RFC 7396): its members go over those of the document, a null takes one out.
+    /// Merges a patch (RFC 7396): its members go over those of the document, a null takes one out. A
+    /// patch that is no object replaces the whole. Refused as [`Error::TooDeep`] where the patch has
+    /// more than 256 levels.
     ///
     /// ```
     /// # use paizkorde::Document;
@@ -273,7 +286,8 @@ impl Document {
     }
 
     /// The merge patch by which this document becomes the same as another; None where none leads there,
-    /// since it has a null in an object where this one has not.
+    /// since it has a null in an object where this one has not. Refused as [`Error::TooDeep`] where `to`
+    /// has more than 256 levels.
     pub fn merge_diff(&self, to: &Document) -> Result<Option<Document>> {
         if std::ptr::eq(self, to) {
             return self.merge_diff(&to.try_clone()?);
@@ -306,7 +320,8 @@ impl Document {
         self.print(true)
     }
 
-    /// The text in the canonical form (RFC 8785): equal for documents that are the same.
+    /// The text in the canonical form (RFC 8785), but that numbers past 2^53 have all their digits: equal
+    /// for documents that are the same, and for those alone.
     pub fn encode_canonical(&self) -> Result<Text> {
         let mut text = raw::Text::empty();
         check(self.0.print_canonical(&mut text))?;
@@ -366,7 +381,8 @@ impl PartialEq for Document {
 
 impl Eq for Document {}
 
-/// Compact, or with two spaces a level where `{:#}` asks for it.
+/// Compact, or with two spaces a level where `{:#}` asks for it. Where memory is refused it is a
+/// `fmt::Error`, at which `to_string` panics.
 impl fmt::Display for Document {
     fn fmt(&self, f: &mut fmt::Formatter<'_>) -> fmt::Result {
         f.write_str(&self.print(f.alternate()).map_err(|_| fmt::Error)?)

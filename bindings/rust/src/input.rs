@@ -11,18 +11,22 @@ use crate::value::Kind;
 pub struct Peeked<'i>(Seen<'i>);
 
 impl<'i> Peeked<'i> {
+    /// What it is; of a number, what carries it.
     pub fn kind(&self) -> Kind {
         Kind::of(self.0.kind)
     }
 
+    /// The truth value, where it is one.
     pub fn as_bool(&self) -> Option<bool> {
         (self.kind() == Kind::Bool).then_some(self.0.is_true)
     }
 
+    /// The number, where it is from -2^63 to 2^63-1.
     pub fn as_i64(&self) -> Option<i64> {
         self.0.signed
     }
 
+    /// The number, where it is from 0 to 2^64-1.
     pub fn as_u64(&self) -> Option<u64> {
         self.0.unsigned
     }
@@ -37,13 +41,15 @@ impl<'i> Peeked<'i> {
         self.0.as_u128()
     }
 
+    /// The text, where it is one, in the bytes that were read.
     pub fn as_str(&self) -> Option<&'i str> {
         (self.kind() == Kind::String).then_some(self.0.text)
     }
 }
 
 /// Says what stands at the pointer in the text, and builds no document; None where nothing does. The
-/// bytes are written over.
+/// bytes are written over. Refused as [`Document::parse`](crate::Document::parse) is, and as
+/// [`Error::BadPointer`](crate::Error::BadPointer).
 pub fn peek<'i>(bytes: &'i mut [u8], path: &str, keep: Keep) -> Result<Option<Peeked<'i>>> {
     let seen = found(raw::peek(bytes, keep == Keep::Last, path))?;
     Ok(seen.map(Peeked))
@@ -61,7 +67,8 @@ pub enum Form {
 }
 
 /// Reads the document of the input, and answers the command lines behind its first line `---` in
-/// turn: the replies, each with a line feed behind it. The input is written over.
+/// turn: the replies, each with a line feed behind it. The input is written over. Refused as
+/// [`Document::parse`](crate::Document::parse) is.
 pub fn session(input: &mut [u8], form: Form, keep: Keep) -> Result<Text> {
     let form = match form {
         Form::Owned => 0,

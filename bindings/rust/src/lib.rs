@@ -34,9 +34,19 @@
 //! # Ok::<(), paizkorde::Error>(())
 //! ```
 //!
+//! A refused edit, patch or merge leaves the document as it was. A value that `insert`, `push`, `put`
+//! or `set` was given is let go then; `try_insert` and its kin hand it back. Where the pointer finds
+//! nothing, `insert` and `remove` answer [`Error::NotAnObject`], `push` and `pop`
+//! [`Error::NotAnArray`], `put` [`Error::Missing`].
+//!
 //! Of several members with one key the first stays, or, by [`Keep::Last`], the last. Numbers with a
-//! fraction or an exponent are refused ([`Error::Float`]), and so is want of memory: nothing aborts
-//! but `clone`, `==`, `to_string`, `items`, `members` and what std's own types ask for.
+//! fraction or an exponent are refused ([`Error::Float`]), and so is want of memory
+//! ([`Error::OutOfMemory`]). `clone`, `==`, `items`, `members`, `to_string`, `format!` and `println!`
+//! panic there; `try_clone`, `same` and `encode` answer. What std's own types ask for aborts, as
+//! always: the copy of the bytes in `parse` and `session`, the path of a `Value`, the lists of `items`
+//! and `members`.
+//!
+//! Have 512 KB of stack, and make no call in the child of a fork of a program with threads.
 //!
 //! A document may go to another thread, and is used by one at a time:
 //!

@@ -5,7 +5,8 @@ use crate::raw;
 use std::fmt;
 use std::ops::Deref;
 
-/// A print: JSON text that the library made, read as a `str` where it lies.
+/// A print, or the replies of a session: UTF-8 that the library made, read as a `str` where it lies. It
+/// may go to other threads and be shared.
 pub struct Text(raw::Print);
 
 impl Text {

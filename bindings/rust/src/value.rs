@@ -36,7 +36,8 @@ impl Kind {
     }
 }
 
-/// A part of a document, which is borrowed meanwhile.
+/// A part of a document, which is borrowed meanwhile. It stays in its thread, as a borrowed document
+/// does: neither `Send` nor `Sync`.
 #[derive(Clone)]
 pub struct Value<'d> {
     document: &'d Document,
@@ -110,30 +111,37 @@ impl<'d> Value<'d> {
         &self.path
     }
 
+    /// What it is; of a number, what carries it.
     pub fn kind(&self) -> Kind {
         Kind::of(self.seen.kind)
     }
 
+    /// Whether it is a null.
     pub fn is_null(&self) -> bool {
         self.kind() == Kind::Null
     }
 
+    /// Whether it is a truth value.
     pub fn is_bool(&self) -> bool {
         self.kind() == Kind::Bool
     }
 
+    /// Whether it is a text.
     pub fn is_string(&self) -> bool {
         self.kind() == Kind::String
     }
 
+    /// Whether it is an array.
     pub fn is_array(&self) -> bool {
         self.kind() == Kind::Array
     }
 
+    /// Whether it is an object.
     pub fn is_object(&self) -> bool {
         self.kind() == Kind::Object
     }
 
+    /// The truth value, where it is one.
     pub fn as_bool(&self) -> Option<bool> {
         (self.kind() == Kind::Bool).then_some(self.seen.is_true)
     }
@@ -163,11 +171,13 @@ impl<'d> Value<'d> {
         (self.kind() == Kind::String).then_some(self.seen.text)
     }
 
-    /// How many items or members there are.
+    /// How many items or members there are; 0 of anything else, also of a text, whose length `as_str`
+    /// has.
     pub fn len(&self) -> usize {
         self.seen.len
     }
 
+    /// Whether it has no item and no member; true also of each text and number.
     pub fn is_empty(&self) -> bool {
         self.len() == 0
     }
@@ -234,7 +244,8 @@ impl<'d> Value<'d> {
     }
 }
 
-/// Compact, or with two spaces a level where `{:#}` asks for it.
+/// Compact, or with two spaces a level where `{:#}` asks for it. Where memory is refused it is a
+/// `fmt::Error`, at which `to_string` panics.
 impl fmt::Display for Value<'_> {
     fn fmt(&self, f: &mut fmt::Formatter<'_>) -> fmt::Result {
         f.write_str(&self.print(f.alternate()).map_err(|_: Error| fmt::Error)?)
