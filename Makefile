@@ -35,6 +35,7 @@ check-docs:
 	tools/calling.py --check
 	tools/trusted.py --check README.md
 	tools/bindings_picture.py --check
+	tools/picture.py docs/TIMINGS.md docs/timings.svg --check
 
 # Looks whether each edit that has to be refused still applies. Needs python3.
 check-edits:
@@ -105,6 +106,7 @@ bench-bindings:
 timings:
 	bench/tables .
 
-# Draws the picture of docs/TIMINGS.md of its last table.
+# Draws the pictures of docs/TIMINGS.md of its tables of documents and of its last one.
 pictures:
 	tools/bindings_picture.py
+	tools/picture.py docs/TIMINGS.md docs/timings.svg
