@@ -5,8 +5,8 @@ Usage: tools/deep.py SJVAL DEEP [LEVELS [MADE]]
 
 SJVAL answers sessions whose commands make LEVELS levels (50,000 else), in each form, by keys and by known keys, with paths as arrays and
 as pointers. DEEP makes MADE levels by edits (1,000,000 else), and answers commands there in each form and way; it prints copies of such
-documents, and what they are turned into. Each run has to end with status 0 and what the model says. The last line is
-'N passed, M failed'.
+documents, and what they are turned into, and asks whether they are within their depth. Each run has to end with status 0 and what the
+model says. The last line is 'N passed, M failed'.
 """
 
 import json

@@ -3,8 +3,8 @@
 
 Usage: tools/members.py PROGRAM, which is sjval. Members leave at the front, elsewhere and at the end, come behind the last and
 are set, in objects on both sides of each size at which the map under a document turns to buckets, forgets what left or grows; by
-keys of many hashes and of one; owned and borrowed, by text and by known key. A dict of Python keeps its members in order as a
-document does. Tells each session that is answered otherwise; the last line is 'N passed, M failed'.
+keys of many hashes and of one; owned, borrowed and lazy, the first two by text and by known key. A dict of Python keeps its
+members in order as a document does. Tells each session that is answered otherwise; the last line is 'N passed, M failed'.
 """
 import json
 import sys
