@@ -77,7 +77,7 @@ def whose(head):
 
 def can_want(signature):
     answer = signature.rpartition("->")[2]
-    return "Result<" in answer and re.search(rf"\b({FAULTS})\b", answer.partition("Result<")[2])
+    return "io::Result<" in answer or "Result<" in answer and re.search(rf"\b({FAULTS})\b", answer.partition("Result<")[2])
 
 
 def functions_of(crate):

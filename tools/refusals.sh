@@ -82,6 +82,7 @@ done
 free 'fault meet' $'call: found\n'
 free 'fault known' $'call: found\n'
 free 'fault patch' $'call: found\n'
+each 'fault place' $'call: AllocError\nagain behind 9 bytes\n' $'call: behind 9 bytes\nagain behind 9 bytes\n'
 free run_fault $'call: found\n'
 
 free 'stream warm' $'call: found\n'
@@ -90,6 +91,7 @@ each 'stream cold' $'call: OutOfMemory, again line 3 read\n' $'call: line 1 read
 each 'stream cold_placed' $'call: OutOfMemory, again line 3 read\n' $'call: line 1 read, again line 3 read\n'
 goes_on 'stream unread_lines' $'call: out of memory\nagain line 1\n' $'call: line 1\nagain line 1\n'
 each 'stream spare' $'call: OutOfMemory\nagain 6 nodes\n' $'call: 6 nodes\nagain 6 nodes\n'
+each 'stream pieces' $'call: OutOfMemory, again a piece\n' $'call: a piece, again no more\n'
 
 for members in 0 32 64; do
   after="$((members + 1)) members"$'\n'

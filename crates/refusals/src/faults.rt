@@ -2,6 +2,7 @@
 
 use refusals_common::{Fault, say, say_call, say_right};
 use sj_borrowed::known_key;
+use sj_fault::checked_fault_at;
 use sj_stream::Unread;
 use sj_text_core::{
     AccessError, BadTape, ErrorKind, JsonError, OperationFault, PatchFault, PatchReadFault,
@@ -52,7 +53,24 @@ pub fn run_call(rt: &(impl Print + AllocGlobal), call: &str) -> Result<(), Fault
         "meet" => meet(rt),
         "known" => meet_known(rt),
         "patch" => meet_patches(rt),
+        "place" => place(rt),
         _ => Err(Fault::Usage),
+    }
+}
+
+/// Looks for the place where a text is refused, twice.
+fn place(rt: &(impl Print + AllocGlobal)) -> Result<(), Fault> {
+    say_call(rt)?;
+    tell_place(rt)?;
+    say(rt, "again ")?;
+    tell_place(rt)
+}
+
+fn tell_place(rt: &(impl Print + AllocGlobal)) -> Result<(), Fault> {
+    match checked_fault_at(rt.alloc(), b"{\"a\": tru}") {
+        Ok(Some(fault)) if fault.at == 9 => say(rt, "behind 9 bytes\n"),
+        Ok(_) => say(rt, "ANOTHER PLACE\n"),
+        Err(AllocError) => say(rt, "AllocError\n"),
     }
 }
 

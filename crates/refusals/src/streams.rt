@@ -1,10 +1,12 @@
-//! Streams of documents, and the memory of a tape that serves the next.
+//! Streams of documents, pieces of an input, and the memory of a tape that serves the next.
 
 use refusals_common::{Fault, say, say_call, text_of};
+use sj_pieces::Pieces;
 use sj_stream::{Place, Repeats, Stream, Unread, unread_lines};
 use sj_tape::{ErrorKind, Spare, Tape, to_tape_with_spare};
 use sj_text_core::Refused;
 use std::alloc::Global;
+use std::io;
 
 const LINES: &[u8] = b"{\"a\":[1,2]}\n\n[3,{\"b\":4}]\n";
 
@@ -17,6 +19,7 @@ pub fn run_call(rt: &(impl Print + AllocGlobal), call: &str) -> Result<(), Fault
         "warm_placed" => warm(rt, true),
         "unread_lines" => unread(rt),
         "spare" => spare(rt),
+        "pieces" => pieces(rt),
         _ => Err(Fault::Usage),
     }
 }
@@ -100,6 +103,29 @@ fn tell_unread(rt: &(impl Print + AllocGlobal), bytes: &mut [u8]) -> Result<(), 
             _ => say(rt, "OTHER LINES\n"),
         },
         Err(_) => say(rt, "out of memory\n"),
+    }
+}
+
+/// Takes the next piece of an input, twice.
+fn pieces(rt: &(impl Print + AllocGlobal)) -> Result<(), Fault> {
+    let mut pieces = Pieces::new(LINES);
+    let mut piece = Vec::new(rt.alloc());
+    say_call(rt)?;
+    tell_piece(rt, pieces.next_piece(&mut piece))?;
+    let count = pieces.lines(&mut piece).count();
+    let is_all = pieces.lines_before() == 0 && (count == 0 || count == 2);
+    say(rt, if is_all { ", again " } else { ", OTHER LINES" })?;
+    tell_piece(rt, pieces.next_piece(&mut piece))?;
+    say(rt, "\n")
+}
+
+/// Tells what is answered where the next piece is asked for.
+fn tell_piece(rt: &impl Print, read: io::Result<bool>) -> Result<(), Fault> {
+    match read {
+        Ok(true) => say(rt, "a piece"),
+        Ok(false) => say(rt, "no more"),
+        Err(fault) if fault.kind() == io::ErrorKind::OutOfMemory => say(rt, "OutOfMemory"),
+        Err(_) => say(rt, "ANOTHER FAULT"),
     }
 }
 
