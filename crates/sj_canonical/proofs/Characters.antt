@@ -7,7 +7,7 @@ use Rattle.std.specs.Ordering.{nat_cmp, ordering_then}
 use Rattle.std.specs.Char.{encode_utf8}
 use Rattle.std.proofs.Math.Utf8.{scalar, scalar_cases}
 use Rattle.sj_canonical.specs.Canonical.{units}
-use Rattle.sj_canonical.specs.Ranks.{rank}
+use Rattle.sj_canonical.specs.inner.Ranks.{rank}
 
 by_cmp : (p q : Bool) (a b c d : ℕ) → nat_lt a b ≡ p → nat_lt c d ≡ q → (a ≡ b → c ≡ d) → (a < b → c < d) → (b < a → d < c) → nat_cmp a b ≡ nat_cmp c d
 by_cmp p q a b c d e f g h i = grind (arith, e, f, g, h, i)

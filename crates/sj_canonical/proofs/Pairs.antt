@@ -10,8 +10,8 @@ use Rattle.sj_canonical.specs.Canonical.{units, is_before}
 use Rattle.std.specs.List.{dedup, dedup_from}
 use Rattle.sj_text_core.specs.declared.repeats.Repeats.{Repeats}
 use Rattle.sj_text_core.specs.declared.repeats.Repeats.TheVariants.{First, Last}
-use Rattle.sj_canonical.specs.Picks.{sorted_in, sorted, thinned, thinned_from, by_choice}
-use Rattle.sj_canonical.specs.Walks.{pair_of}
+use Rattle.sj_canonical.specs.inner.Picks.{sorted_in, sorted, thinned, thinned_from, by_choice}
+use Rattle.sj_canonical.specs.inner.Walks.{pair_of}
 use Rattle.sj_canonical.proofs.Sorted.{inserted, in_order}
 
 map-reverse : {A B : Type 0} (f : A → B) (xs : List A) → map f (reverse xs) ≡ reverse (map f xs)

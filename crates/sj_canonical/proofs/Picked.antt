@@ -16,7 +16,7 @@ use Rattle.sj_canonical.proofs.Ordered.{none_before-less, none_before-sort_in}
 use Rattle.sj_canonical.proofs.Strict.{AllAfter, IsStrict, HasTexts, some_none, find-sort_in, none_parts, found_first, one_strict}
 use Rattle.sj_canonical.proofs.Texts.{order, tied}
 use Rattle.sj_canonical.specs.Canonical.{is_before, sort_in, canonical, canonical_members, canonical_by, NoneBefore}
-use Rattle.sj_canonical.specs.Picks.{sorted_in, sorted, thinned_from, thinned, by_choice, picked, AreTexts}
+use Rattle.sj_canonical.specs.inner.Picks.{sorted_in, sorted, thinned_from, thinned, by_choice, picked, AreTexts}
 
 abbrev Pairs : Type 0
 Pairs = List (List ℕ × Tree)

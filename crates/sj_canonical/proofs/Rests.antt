@@ -12,8 +12,8 @@ use Rattle.sj_text_core.specs.declared.repeats.Repeats.{Repeats}
 use Rattle.sj_text_core.specs.declared.repeats.Repeats.TheVariants.{First, Last}
 use Rattle.sj_canonical.proofs.Picked.{valued, picked-canonical}
 use Rattle.sj_canonical.specs.Canonical.{canonical, canonical_items, canonical_by}
-use Rattle.sj_canonical.specs.Picks.{picked, AreTexts}
-use Rattle.sj_canonical.specs.Walks.{IsBegunBy, Moves, items_rest, members_rest, open_rest, rest}
+use Rattle.sj_canonical.specs.inner.Picks.{picked, AreTexts}
+use Rattle.sj_canonical.specs.inner.Walks.{IsBegunBy, Moves, items_rest, members_rest, open_rest, rest}
 use Rattle.sj_canonical.specs.declared.walk.Open.{Open}
 
 -- no print is empty

@@ -12,7 +12,7 @@ use Rattle.std.specs.FinMap.{nat_cmp-IsAntisymmetric, slice_cmp-IsAntisymmetric}
 use Rattle.std.specs.Ordering.{is_lt, nat_cmp, ordering_reverse}
 use Rattle.std.specs.Str.{chars}
 use Rattle.sj_canonical.specs.Canonical.{units, is_before}
-use Rattle.sj_canonical.specs.Ranks.{rank}
+use Rattle.sj_canonical.specs.inner.Ranks.{rank}
 use Rattle.sj_canonical.proofs.Characters.{units_by, begun_by, by_units, classed}
 
 pub order : IsStrictWeakOrder is_before

@@ -1,5 +1,3 @@
 pub mod Canonical
 pub mod Laws
-pub mod Picks
-pub mod Ranks
-pub mod Walks
+pub mod inner

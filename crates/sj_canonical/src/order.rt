@@ -5,7 +5,7 @@ ghost use Rattle.std.specs.Char.Escape.{encode_utf16};
 ghost use Rattle.std.specs.Cmp.Lexicographic.{slice_cmp};
 ghost use Rattle.std.specs.Ordering.{nat_cmp};
 ghost use Rattle.sj_canonical.specs.Canonical.{units};
-ghost use Rattle.sj_canonical.specs.Ranks.{rank};
+ghost use Rattle.sj_canonical.specs.inner.Ranks.{rank};
 
 use std::cmp::Ordering;
 

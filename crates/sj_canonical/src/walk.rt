@@ -7,8 +7,8 @@ ghost use Rattle.std.specs.Prelude.{◌≡◌, ◌++◌, IfOk, OnOk, map, [], �
 ghost use Rattle.std.specs.Vec.Iter.{into_iter_items};
 ghost use Rattle.sj_text_core.specs.Print.{quoted, compact};
 ghost use Rattle.sj_canonical.specs.Canonical.{canonical_by};
-ghost use Rattle.sj_canonical.specs.Picks.{picked, by_choice, AreTexts};
-ghost use Rattle.sj_canonical.specs.Walks.{IsBegunBy, Moves, comma, items_rest, members_rest, pair_of, open_rest, rest};
+ghost use Rattle.sj_canonical.specs.inner.Picks.{picked, by_choice, AreTexts};
+ghost use Rattle.sj_canonical.specs.inner.Walks.{IsBegunBy, Moves, comma, items_rest, members_rest, pair_of, open_rest, rest};
 
 use crate::order::compare_units;
 use sj_print::{BaseGenerator, Level, Parts};

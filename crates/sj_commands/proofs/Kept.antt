@@ -7,7 +7,7 @@ use Rattle.sj_text_core.specs.Reads.{as_text, as_items}
 use Rattle.sj_text_core.specs.Repeats.{keep_by, keep_last_items}
 use Rattle.sj_text_core.specs.declared.repeats.Repeats.{Repeats}
 use Rattle.sj_text_core.specs.declared.repeats.Repeats.TheVariants.{First, Last}
-use Rattle.sj_commands.specs.Parts.{kept}
+use Rattle.sj_commands.specs.inner.Parts.{kept}
 
 -- a text is kept as it is
 pub kept_text : (c : Repeats) (t : Tree) (k : List ℕ) → Some k ≡ as_text t → keep_by c t ≡ text k

@@ -4,7 +4,7 @@ use Rattle.std.specs.Str.{is_utf8}
 use Rattle.std.proofs.lemmas.Str.{IsUtf8-from_is_utf8, is_utf8-from_IsUtf8}
 use Rattle.sj_text_core.specs.Tree.{Tree}
 use Rattle.sj_text_core.specs.Keep.{keep}
-use Rattle.sj_text_core.specs.Parse.{tree_at}
+use Rattle.sj_text_core.specs.inner.Parse.{tree_at}
 use Rattle.sj_text_core.proofs.Proper.{spells_utf8}
 use Rattle.sj_text_core.proofs.parse.One.{one_tree}
 use Rattle.sj_tape.proofs.Reading.{unreadable, is_read}

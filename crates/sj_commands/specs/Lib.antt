@@ -10,4 +10,4 @@ pub use Rattle.sj_text_core.specs.Paths
 pub use Rattle.sj_pointer.specs.Syntax
 pub use Rattle.sj_pointer.specs.Tokens
 pub use Rattle.sj_pointer.specs.Pointed
-pub mod Parts
+pub mod inner

@@ -7,7 +7,7 @@ use Rattle.std.proofs.lemmas.List.Sums.{sum_by-cons, sum_by-append, sum_by_push,
 use Rattle.std.proofs.Math.Nat.{mul-le-mul}
 use Rattle.sj_object.specs.Entries.{Entry, entries_of}
 use Rattle.sj_object.specs.Edits.{set_value_at, value_at}
-use Rattle.sj_document.specs.Nodes.{nodes, nodes_of, nodes_in, work, level_nodes}
+use Rattle.sj_document.specs.inner.Nodes.{nodes, nodes_of, nodes_in, work, level_nodes}
 use Rattle.sj_document.specs.declared.value.Document.TheOpen.{Document-F}
 use Rattle.sj_document.specs.declared.value.Document.{Document, Array, Object, the_lemmas, ind-Document, fold-roll-Document}
 use Rattle.sj_document.proofs.Trees.{Map}

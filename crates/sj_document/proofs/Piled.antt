@@ -9,9 +9,9 @@ use Rattle.sj_object.specs.Entries.{Entry, entries_of}
 use Rattle.sj_object.specs.Edits as object
 use Rattle.sj_object.proofs.Shown.{entry_members-put}
 use Rattle.sj_object.proofs.Walks.{put_all}
-use Rattle.sj_print.specs.Piles.{weight, items_weight, members_weight}
+use Rattle.sj_print.specs.inner.Piles.{weight, items_weight, members_weight}
 use Rattle.sj_document.specs.Document.{tree}
-use Rattle.sj_document.specs.Piled.{put_rest, with_part, items_tree, members_tree, whole_of, waiting_weight, left, items_left_weight, members_left_weight, GoesOn}
+use Rattle.sj_document.specs.inner.Piled.{put_rest, with_part, items_tree, members_tree, whole_of, waiting_weight, left, items_left_weight, members_left_weight, GoesOn}
 use Rattle.sj_document.specs.declared.value.Document.{Document}
 use Rattle.sj_document.specs.declared.value.piled.Waiting.{Waiting}
 use Rattle.sj_document.specs.declared.value.piled.Waiting.TheVariants as waiting

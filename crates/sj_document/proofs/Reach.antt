@@ -3,7 +3,7 @@ use Rattle.std.proofs.Common.{◌≡◌, ◌↔◌, ◌+◌, ◌<◌, ◌≤◌,
 use Rattle.std.proofs.lemmas.List.{length_push}
 use Rattle.std.proofs.lemmas.List.Sums.{sum_by_push}
 use Rattle.sj_text_core.specs.Tree.{Tree}
-use Rattle.sj_document.specs.Reach.{ahead_depth, ahead_weight, reach, left, Reached}
+use Rattle.sj_document.specs.inner.Reach.{ahead_depth, ahead_weight, reach, left, Reached}
 use Rattle.sj_document.specs.declared.value.within.Ahead.{Ahead}
 
 module _ {I M : Type 0} (items : I → List Tree) (members : M → List (List ℕ × Tree)) where

@@ -3,7 +3,6 @@ pub mod Rows
 pub mod SameWith
 pub mod Makes
 pub mod Items
-pub mod Nodes
 pub use Rattle.sj_text_core.specs.Tree
 pub use Rattle.sj_text_core.specs.Find
 pub use Rattle.sj_text_core.specs.Paths
@@ -21,5 +20,4 @@ pub use Rattle.sj_object.specs.Builder
 pub use Rattle.sj_tape.specs.Value
 pub mod Taken
 pub mod Descents
-pub mod Reach
-pub mod Piled
+pub mod inner

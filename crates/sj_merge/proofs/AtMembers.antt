@@ -8,7 +8,7 @@ use Rattle.sj_text_core.proofs.Writes.{find-put_same, put-twice}
 use Rattle.sj_document.specs.Document.{tree}
 use Rattle.sj_document.specs.declared.value.Document.{Document}
 use Rattle.sj_merge.specs.Merge.{is_null, merged, merged_members}
-use Rattle.sj_merge.specs.Log.{changed, without_last, in_object, finished_one, finished, undone, MergesPair, Changes, MergesValue, ChangesValue}
+use Rattle.sj_merge.specs.inner.Log.{changed, without_last, in_object, finished_one, finished, undone, MergesPair, Changes, MergesValue, ChangesValue}
 use Rattle.sj_merge.specs.declared.in_place.Logged.{Logged, Goes, Added, Swapped, Within}
 use Rattle.sj_merge.proofs.Pairs.{merged_pair-cut, merged_pair-put}
 use Rattle.sj_merge.proofs.Passing.{cut-passes, changed-passes, same-passes, passes_as, changed-found, put-same, last-put}

@@ -6,7 +6,7 @@ use Rattle.sj_object.specs.Entries.{Entry, entries_of}
 use Rattle.sj_object.specs.Members.{entry_members}
 use Rattle.sj_document.specs.Document.{tree}
 use Rattle.sj_document.specs.declared.value.Document.{Document}
-use Rattle.sj_merge.specs.Log.{changed, without_last, in_object, finished_one, undone_one, finished, undone}
+use Rattle.sj_merge.specs.inner.Log.{changed, without_last, in_object, finished_one, undone_one, finished, undone}
 use Rattle.sj_merge.specs.declared.in_place.Logged.{Logged, Goes, Added, Swapped, Within, fold-Logged, the_lemmas}
 use Rattle.sj_merge.specs.declared.in_place.Logged.TheOpen.{Logged-F}
 

@@ -5,7 +5,7 @@ use Rattle.sj_text_core.specs.Tree.{Tree, Members, no_members, member}
 use Rattle.sj_text_core.specs.Find.{find_member}
 use Rattle.sj_text_core.specs.Edits.{put, cut}
 use Rattle.sj_text_core.proofs.Writes.{find-cut_other}
-use Rattle.sj_merge.specs.Log.{changed, without_last, Passes}
+use Rattle.sj_merge.specs.inner.Log.{changed, without_last, Passes}
 
 differ : (k l : List ℕ) → k ≢ l → bytes_eq k l ≡ false
 differ k l n = by_test (bytes_eq k l) refl where

@@ -8,7 +8,7 @@ use Rattle.sj_document.specs.Document.{tree}
 use Rattle.sj_document.specs.declared.value.Document.{Document}
 use Rattle.sj_merge.specs.Merge.{is_null}
 use Rattle.sj_merge.specs.MergeDiff.{removals, merge_patch, patch_members}
-use Rattle.sj_merge.specs.Change.{IsChange}
+use Rattle.sj_merge.specs.inner.Change.{IsChange}
 use Rattle.sj_merge.specs.declared.difference.Change.TheVariants.{Stays, Impossible, Becomes}
 use Rattle.sj_merge.proofs.MergedFinds.{AreApart, apart-single, other_way}
 use Rattle.sj_merge.proofs.Told.{is_same, told-absent, told-apart, removals-apart}

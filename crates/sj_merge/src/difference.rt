@@ -11,7 +11,7 @@ ghost use Rattle.sj_document.specs.Document.{tree};
 ghost use Rattle.sj_document.specs.declared.value.Document.{Document as DocumentOf};
 ghost use Rattle.sj_merge.specs.Merge.{merged};
 ghost use Rattle.sj_merge.specs.MergeDiff.{merge_patch, patch_members, removals};
-ghost use Rattle.sj_merge.specs.Change.{IsChange};
+ghost use Rattle.sj_merge.specs.inner.Change.{IsChange};
 
 use sj_document::{CopyText, Document, Object, same};
 use sj_object::{HashMap, KeyText, MapOf};

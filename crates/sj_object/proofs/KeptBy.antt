@@ -7,7 +7,7 @@ use Rattle.sj_text_core.specs.Edits as members
 use Rattle.sj_text_core.specs.Repeats.{keep_by, keep_last_items, keep_last_values, put_all}
 use Rattle.sj_text_core.specs.declared.repeats.Repeats.{Repeats}
 use Rattle.sj_text_core.specs.declared.repeats.Repeats.TheVariants.{First, Last}
-use Rattle.sj_object.specs.Piles.{pair_texts, kept, kept_by, put_pair, in_turn}
+use Rattle.sj_object.specs.inner.Piles.{pair_texts, kept, kept_by, put_pair, in_turn}
 
 abbrev pub items_by : Repeats → Items → Items
 items_by First is = keep_items is

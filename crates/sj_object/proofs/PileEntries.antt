@@ -10,7 +10,7 @@ use Rattle.sj_text_core.specs.declared.repeats.Repeats.{Repeats}
 use Rattle.sj_text_core.specs.declared.repeats.Repeats.TheVariants.{First, Last}
 use Rattle.sj_object.specs.Entries.{Entry, texts}
 use Rattle.sj_object.specs.Edits as edits
-use Rattle.sj_object.specs.Piles.{pair_texts, kept, kept_by, put_pair, shown}
+use Rattle.sj_object.specs.inner.Piles.{pair_texts, kept, kept_by, put_pair, shown}
 
 -- ---- a member of a map
 

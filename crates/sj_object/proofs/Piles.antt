@@ -6,14 +6,14 @@ use Rattle.sj_text_core.specs.Tree.{Tree, null, boolean, int, text, list, obj, I
 use Rattle.sj_text_core.specs.Nodes.{Mark, nothing, string, array, flat, flat_items, flat_members, trees_of, tree_of, first_tree, IsPreorder, width}
 use Rattle.sj_text_core.specs.Repeats.{keep_by}
 use Rattle.sj_text_core.specs.declared.repeats.Repeats.{Repeats}
-use Rattle.sj_text_core.specs.Flat.{trees_of-flat}
-use Rattle.sj_tape.specs.Fronts.{BeginsTree}
+use Rattle.sj_text_core.specs.inner.Flat.{trees_of-flat}
+use Rattle.sj_tape.specs.inner.Fronts.{BeginsTree}
 use Rattle.sj_tape.proofs.Counts.{begins_first}
 use Rattle.sj_tape.proofs.Preorders.{AllBegin-drop, AllBegin-preorder}
 use Rattle.sj_object.specs.Entries.{Entry}
 use Rattle.sj_object.specs.Members.{entry_members}
 use Rattle.sj_object.proofs.KeptBy.{tree_by, tree_kept, items_kept, pairs_by, members_kept}
-use Rattle.sj_object.specs.Piles.{pile_onto, pile, made_of, left_of, IsThere, first_mark, key_of_mark, behind, CanTake, taken, left, CanTakeItems, taken_pairs, left_pairs, CanTakePairs, kept_by, shown, Needs, grown}
+use Rattle.sj_object.specs.inner.Piles.{pile_onto, pile, made_of, left_of, IsThere, first_mark, key_of_mark, behind, CanTake, taken, left, CanTakeItems, taken_pairs, left_pairs, CanTakePairs, kept_by, shown, Needs, grown}
 
 -- ---- one value more, or less
 

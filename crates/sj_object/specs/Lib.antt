@@ -14,8 +14,8 @@ pub mod Rooms
 pub mod Lends
 pub mod Laws
 pub mod Builder
-pub mod Piles
 pub mod formers
+pub mod inner
 pub use Rattle.sj_text_core.specs.Tree
 pub use Rattle.sj_text_core.specs.Grammar
 pub use Rattle.sj_text_core.specs.Find

@@ -9,7 +9,7 @@ ghost use Rattle.sj_tape.specs.Marks.{mark};
 ghost use Rattle.sj_tape.specs.Stretches.{nodes_in};
 ghost use Rattle.sj_tape.specs.Value.{tree, choice};
 ghost use Rattle.sj_object.specs.Builder.{AreMade};
-ghost use Rattle.sj_object.specs.Piles.{pile, first_mark, made_of, left_of, IsThere, CanTake, CanTakeItems, CanTakePairs, taken, left, taken_pairs, left_pairs, kept, kept_by, put_pair, shown, Needs, grown};
+ghost use Rattle.sj_object.specs.inner.Piles.{pile, first_mark, made_of, left_of, IsThere, CanTake, CanTakeItems, CanTakePairs, taken, left, taken_pairs, left_pairs, kept, kept_by, put_pair, shown, Needs, grown};
 
 use crate::builder::{Builder, Made, MapOf};
 use crate::key::KeyOf;

@@ -12,7 +12,7 @@ use Rattle.sj_object.proofs.Position.{none_where_unseen}
 use Rattle.sj_object.proofs.Shown.{lookup-entry_members}
 use Rattle.sj_object.specs.Members.{entry_members}
 use Rattle.sj_document.specs.Items.{insert_at, remove_at}
-use Rattle.sj_patch.specs.Changed.{insert_member, where_so, is_placed}
+use Rattle.sj_patch.specs.inner.Changed.{insert_member, where_so, is_placed}
 use Rattle.sj_text_core.specs.declared.patch_fault.OperationFault.TheVariants.{Missing}
 
 pub placed : (len n i : ℕ) → len < n → i ≤ len → is_placed len n i ≡ true

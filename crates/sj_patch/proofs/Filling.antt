@@ -6,7 +6,7 @@ use Rattle.sj_document.specs.Document.{tree}
 use Rattle.sj_document.specs.declared.value.Document.{Document}
 use Rattle.sj_patch.specs.declared.operation.Operation.{Operation}
 use Rattle.sj_patch.specs.Patch.{PlainOperation}
-use Rattle.sj_patch.specs.Filled.{filled, filled_all}
+use Rattle.sj_patch.specs.inner.Filled.{filled, filled_all}
 use Rattle.sj_patch.specs.Meant.{meant}
 use Rattle.sj_patch.proofs.Behind.{seen}
 

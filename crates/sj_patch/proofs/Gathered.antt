@@ -23,7 +23,7 @@ use Rattle.sj_object.specs.declared.map.kept_room.Room.{Room}
 use Rattle.sj_object.proofs.Shown.{lookup-entry_members}
 use Rattle.sj_patch.specs.Patch.{removed}
 use Rattle.sj_document.proofs.Arrays.{items_seen}
-use Rattle.sj_patch.specs.Changed.{stepped, filled_below, or_same, is_placed, where_so, insert_member, member_back, item_back, member_step, item_step, items_filled, gaps_filled, gap_filled, IsFirstGap, Takes, reversed_in, reversed_whole, undone_at}
+use Rattle.sj_patch.specs.inner.Changed.{stepped, filled_below, or_same, is_placed, where_so, insert_member, member_back, item_back, member_step, item_step, items_filled, gaps_filled, gap_filled, IsFirstGap, Takes, reversed_in, reversed_whole, undone_at}
 use Rattle.sj_patch.specs.declared.gaps.Gap.{Gap}
 use Rattle.sj_patch.specs.declared.gaps.Gap.TheVariants as gap
 use Rattle.sj_patch.specs.declared.gaps.Gaps.{Gaps}

@@ -10,7 +10,7 @@ use Rattle.sj_patch.specs.Patch.{PlainOperation, add, remove, replace, move, cop
 use Rattle.sj_patch.specs.Laws.{then, HasSingleValue}
 use Rattle.sj_patch.specs.Locality.{under, IsBelow}
 use Rattle.sj_patch.specs.Diff.{Becomes}
-use Rattle.sj_patch.specs.Noted.{Leads}
+use Rattle.sj_patch.specs.inner.Noted.{Leads}
 use Rattle.sj_patch.proofs.Joined.{joined}
 use Rattle.sj_patch.proofs.LocalPatches.{patched-below}
 use Rattle.sj_patch.proofs.SameEdits.{same-set_pointed}

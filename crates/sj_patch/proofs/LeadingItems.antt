@@ -13,7 +13,7 @@ use Rattle.sj_patch.specs.Patch.{PlainOperation, add, remove, or_missing, added_
 use Rattle.sj_patch.specs.Locality.{under}
 use Rattle.sj_patch.proofs.SingleEdits.{single-insert_at, single-remove_at}
 use Rattle.sj_patch.proofs.Renewing.{among}
-use Rattle.sj_patch.specs.Noted.{Leads, array}
+use Rattle.sj_patch.specs.inner.Noted.{Leads, array}
 use Rattle.sj_patch.proofs.Leading.{leads-below, leads-join}
 
 -- an edit behind items

@@ -12,7 +12,7 @@ use Rattle.sj_pointer.specs.Pointed.{pointed, set_pointed}
 use Rattle.sj_patch.specs.Patch.{PlainOperation, add, remove, or_missing, next, patched_from}
 use Rattle.sj_patch.specs.Locality.{under}
 use Rattle.sj_patch.proofs.SingleEdits.{single-put, single-cut}
-use Rattle.sj_patch.specs.Noted.{Leads, Pairs, object, new_first, unmatched}
+use Rattle.sj_patch.specs.inner.Noted.{Leads, Pairs, object, new_first, unmatched}
 use Rattle.sj_patch.proofs.Leading.{leads-below}
 
 -- an edit at the first pair of a text

@@ -9,7 +9,7 @@ use Rattle.sj_text_core.proofs.Comparing.{found, from_pointwise}
 use Rattle.sj_patch.specs.Patch.{PlainOperation, add, remove}
 use Rattle.sj_patch.specs.Locality.{under}
 use Rattle.sj_patch.proofs.SameEdits.{same_found-refl}
-use Rattle.sj_patch.specs.Noted.{Leads, Pairs, object, new_first, unmatched}
+use Rattle.sj_patch.specs.inner.Noted.{Leads, Pairs, object, new_first, unmatched}
 use Rattle.sj_patch.proofs.Leading.{leads-join, leads-as}
 use Rattle.sj_patch.proofs.LeadingMembers.{leads-member, leads-cut, leads-put, found-join, match_first, matched, matched-join, unmatched-join}
 

@@ -3,7 +3,7 @@ use Rattle.std.proofs.Common.{◌≡◌, ℕ, List, [], ◌∷◌, ◌++◌, len
 use Rattle.sj_text_core.specs.Tree.{Tree}
 use Rattle.sj_pointer.specs.Pointed.{pointed}
 use Rattle.sj_patch.specs.Patch.{added, onwards, or_missing, removed, replaced}
-use Rattle.sj_patch.specs.Changed.{carried, or_same, undone, undone_at, undo_one, refilled, reversed_at, taken_at, changed_at, IsNoUndo, Undoes}
+use Rattle.sj_patch.specs.inner.Changed.{carried, or_same, undone, undone_at, undo_one, refilled, reversed_at, taken_at, changed_at, IsNoUndo, Undoes}
 use Rattle.sj_patch.specs.declared.steps.Undo.{Undo}
 use Rattle.sj_patch.specs.declared.change.Change.{Change}
 use Rattle.sj_patch.specs.declared.change.Change.TheVariants.{Put, Take, Swap}

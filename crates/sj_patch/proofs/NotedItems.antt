@@ -10,7 +10,7 @@ use Rattle.sj_text_core.proofs.Equality.{same-refl}
 use Rattle.sj_text_core.proofs.Shapes.{same_items_len}
 use Rattle.sj_patch.specs.Patch.{PlainOperation, add, remove}
 use Rattle.sj_patch.specs.Locality.{under}
-use Rattle.sj_patch.specs.Noted.{Leads, Notes, array, between, removals, additions}
+use Rattle.sj_patch.specs.inner.Noted.{Leads, Notes, array, between, removals, additions}
 use Rattle.sj_patch.proofs.Leading.{leads-same, leads-join, leads-as}
 use Rattle.sj_patch.proofs.LeadingItems.{next-item, leads-removed, leads-inserted, same-array}
 use Rattle.sj_patch.proofs.Noting.{notes-more, notes-further}

@@ -19,7 +19,7 @@ use Rattle.sj_document.specs.Document.{tree}
 use Rattle.sj_document.specs.declared.value.Document.{Document}
 use Rattle.sj_patch.specs.Patch.{PlainOperation, add, remove}
 use Rattle.sj_patch.specs.Locality.{under}
-use Rattle.sj_patch.specs.Noted.{Leads, Notes, Pairs, object, new_first, unmatched, new_members}
+use Rattle.sj_patch.specs.inner.Noted.{Leads, Notes, Pairs, object, new_first, unmatched, new_members}
 use Rattle.sj_patch.proofs.LeadingMembers.{found-at, matched, unmatched-join}
 use Rattle.sj_patch.proofs.LeadingObjects.{leads-matched, leads-gone, leads-new, leads-known, leads-object}
 use Rattle.sj_patch.proofs.Noting.{single-object, notes-nothing, notes-more, notes-further}

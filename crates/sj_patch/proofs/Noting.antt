@@ -13,7 +13,7 @@ use Rattle.sj_document.proofs.Kept.{tree_kept}
 use Rattle.sj_patch.specs.Patch.{PlainOperation, replace}
 use Rattle.sj_patch.specs.Locality.{under}
 use Rattle.sj_patch.specs.Diff.{Becomes}
-use Rattle.sj_patch.specs.Noted.{Leads, Notes, array}
+use Rattle.sj_patch.specs.inner.Noted.{Leads, Notes, array}
 use Rattle.sj_patch.proofs.Leading.{leads-same, leads-whole, under-join, under-nothing, under-whole}
 use Rattle.sj_patch.proofs.SingleEdits.{single-kept}
 

@@ -6,7 +6,7 @@ use Rattle.sj_text_core.proofs.Writes.{tree_at-set, set_at-same, set_at-twice}
 use Rattle.sj_pointer.specs.Pointed.{path_of, pointed, set_pointed}
 use Rattle.sj_text_core.specs.declared.patch_fault.OperationFault.{OperationFault}
 use Rattle.sj_patch.specs.Patch.{onwards, or_missing}
-use Rattle.sj_patch.specs.Changed.{stepped, filled_below, or_same, at_tokens, is_placed}
+use Rattle.sj_patch.specs.inner.Changed.{stepped, filled_below, or_same, at_tokens, is_placed}
 use Rattle.sj_patch.proofs.Within.{at-last}
 
 -- the last step is the first one taken

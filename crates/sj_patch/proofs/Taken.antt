@@ -18,7 +18,7 @@ use Rattle.sj_document.specs.Document.{tree}
 use Rattle.sj_document.specs.declared.value.Document.{Document}
 use Rattle.sj_document.specs.Items.{remove_at}
 use Rattle.sj_document.proofs.Arrays.{items_seen, item_at}
-use Rattle.sj_patch.specs.Changed.{Does, is_placed, item_back}
+use Rattle.sj_patch.specs.inner.Changed.{Does, is_placed, item_back}
 use Rattle.sj_patch.specs.declared.change.Change.TheVariants.{Take}
 use Rattle.sj_patch.specs.declared.reversal.Reversal.TheVariants as reversal
 use Rattle.sj_patch.proofs.Items.{items-remove, items_len-seen}

@@ -1,15 +1,13 @@
 pub use Rattle.sj_merge.specs.Merge
 pub mod Patch
-pub mod Changed
 pub mod Meant
 pub mod Laws
 pub mod Locality
 pub mod Operations
-pub mod Filled
 pub mod Diff
 pub mod DiffLaws
-pub mod Noted
 pub mod Listed
+pub mod inner
 pub use Rattle.sj_text_core.specs.Tree
 pub use Rattle.sj_text_core.specs.Paths
 pub use Rattle.sj_text_core.specs.Places

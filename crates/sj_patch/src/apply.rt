@@ -4,7 +4,7 @@ ghost use Rattle.std.specs.Prelude.{◌≡◌, Ok, OnOk, IfErr};
 ghost use Rattle.sj_document.specs.Document.{tree};
 ghost use Rattle.sj_patch.specs.Patch.{added, replaced, copied, stayed, moved, tested, begins, applied};
 ghost use Rattle.sj_patch.specs.Meant.{meant};
-ghost use Rattle.sj_patch.specs.Changed.{Refuses, undone};
+ghost use Rattle.sj_patch.specs.inner.Changed.{Refuses, undone};
 
 use crate::change::Change;
 use crate::error::Refusal;

@@ -5,7 +5,7 @@ ghost use Rattle.sj_text_core.specs.Tree.{list, obj, items_from};
 ghost use Rattle.sj_object.specs.Members.{entry_members};
 ghost use Rattle.sj_document.specs.Document.{tree};
 ghost use Rattle.sj_patch.specs.Patch.{place_among};
-ghost use Rattle.sj_patch.specs.Changed.{Changes, ChangesOrReturns};
+ghost use Rattle.sj_patch.specs.inner.Changed.{Changes, ChangesOrReturns};
 
 use crate::error::Refusal;
 use crate::reversal::{Reversal, swap, undo};
@@ -29,7 +29,7 @@ pub(crate) enum Change<T: KeyText> {
 }
 
 impl<T: KeyText + Drop> Change<T> {
-    ghost use Rattle.sj_patch.specs.Changed.{Returns};
+    ghost use Rattle.sj_patch.specs.inner.Changed.{Returns};
 
     /// The value that was to be put; a null of another change.
     pub(crate) fn given(self) -> Document<T>

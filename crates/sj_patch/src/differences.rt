@@ -8,7 +8,7 @@ ghost use Rattle.sj_document.specs.Document.{tree};
 ghost use Rattle.sj_patch.specs.Diff.{Becomes};
 ghost use Rattle.sj_patch.specs.Locality.{under};
 ghost use Rattle.sj_patch.specs.Meant.{meant};
-ghost use Rattle.sj_patch.specs.Noted.{token_text, place_of, noted_by, Notes, array, between, removals, additions, unmatched, new_members};
+ghost use Rattle.sj_patch.specs.inner.Noted.{token_text, place_of, noted_by, Notes, array, between, removals, additions, unmatched, new_members};
 ghost use Rattle.sj_patch.specs.Patch.{add, remove};
 
 use crate::ends::{same_from_the_back, same_from_the_front};

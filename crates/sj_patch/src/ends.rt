@@ -3,7 +3,7 @@
 ghost use Rattle.std.specs.Prelude.{◌+◌, ◌-◌, ◌≤◌, length, map, take, drop};
 ghost use Rattle.sj_text_core.specs.Same.{Same};
 ghost use Rattle.sj_document.specs.Document.{tree};
-ghost use Rattle.sj_patch.specs.Noted.{array};
+ghost use Rattle.sj_patch.specs.inner.Noted.{array};
 
 use sj_document::Document;
 use sj_object::KeyText;

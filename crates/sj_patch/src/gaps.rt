@@ -5,7 +5,7 @@ ghost use Rattle.std.specs.Vec.{vec_capacity};
 ghost use Rattle.sj_text_core.specs.Tree.{Tree, list, obj, items_from};
 ghost use Rattle.sj_object.specs.Members.{entry_members};
 ghost use Rattle.sj_document.specs.Document.{tree};
-ghost use Rattle.sj_patch.specs.Changed.{TakesBeside, IsGapOf, HasPlace, gap_filled, gaps_filled, items_filled};
+ghost use Rattle.sj_patch.specs.inner.Changed.{TakesBeside, IsGapOf, HasPlace, gap_filled, gaps_filled, items_filled};
 
 use crate::reversal::has_place;
 use sj_document::{Change as ChangeIn, Document, Object};

@@ -4,7 +4,7 @@ ghost use Rattle.std.specs.Prelude.{◌≡◌, Ok, map, OnOk, OnErr, IfErr};
 ghost use Rattle.sj_document.specs.Document.{tree};
 ghost use Rattle.sj_patch.specs.Patch.{patched};
 ghost use Rattle.sj_patch.specs.Meant.{Faults, meant};
-ghost use Rattle.sj_patch.specs.Changed.{undone};
+ghost use Rattle.sj_patch.specs.inner.Changed.{undone};
 
 use crate::apply::apply;
 use crate::error::Refusal;

@@ -4,7 +4,7 @@ ghost use Rattle.std.specs.Prelude.{◌≡◌, ◌↔◌, [], ◌∷◌, ◌++�
 ghost use Rattle.sj_text_core.specs.Tree.{Tree};
 ghost use Rattle.sj_document.specs.Document.{tree};
 ghost use Rattle.sj_patch.specs.Patch.{removed};
-ghost use Rattle.sj_patch.specs.Changed.{IsFirstGap, Refuses, RemovesBeside, filled_below, gaps_filled, undone, undone_at, undo_one};
+ghost use Rattle.sj_patch.specs.inner.Changed.{IsFirstGap, Refuses, RemovesBeside, filled_below, gaps_filled, undone, undone_at, undo_one};
 
 use crate::change::Change;
 use crate::error::Refusal;

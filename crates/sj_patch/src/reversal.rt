@@ -4,7 +4,7 @@ ghost use Rattle.std.specs.Prelude.{◌≡◌, map, string_bytes};
 ghost use Rattle.sj_text_core.specs.Tree.{null, list, obj, items_from};
 ghost use Rattle.sj_object.specs.Members.{entry_members};
 ghost use Rattle.sj_document.specs.Document.{tree};
-ghost use Rattle.sj_patch.specs.Changed.{Reverts, is_placed};
+ghost use Rattle.sj_patch.specs.inner.Changed.{Reverts, is_placed};
 
 use sj_document::{Document, Object};
 use sj_object::{KeyText, Room};

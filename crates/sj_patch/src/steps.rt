@@ -3,7 +3,7 @@
 ghost use Rattle.std.specs.Prelude.{◌≡◌, [], ◌∷◌, ◌++◌, Ok, map, string_bytes, OnOk, IfErr};
 ghost use Rattle.sj_document.specs.Document.{tree};
 ghost use Rattle.sj_patch.specs.Patch.{added};
-ghost use Rattle.sj_patch.specs.Changed.{ChangesOrReturns, ChangesWhole, IsNoUndo, Refuses, carried, changed_at, filled_below, gaps_filled, undone, undone_at, undo_one};
+ghost use Rattle.sj_patch.specs.inner.Changed.{ChangesOrReturns, ChangesWhole, IsNoUndo, Refuses, carried, changed_at, filled_below, gaps_filled, undone, undone_at, undo_one};
 
 use crate::change::{AtToken, Change, Done, undone};
 use crate::error::Refusal;

@@ -1,7 +1,7 @@
 //! Tokens that lead into a document, and the pointers that they make.
 
 ghost use Rattle.std.specs.Prelude.{◌≡◌, map, string_bytes, IfOk};
-ghost use Rattle.sj_patch.specs.Noted.{token_text};
+ghost use Rattle.sj_patch.specs.inner.Noted.{token_text};
 
 use sj_pointer::Pointer;
 use std::alloc::{AllocError, Global};

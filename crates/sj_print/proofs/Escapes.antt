@@ -7,7 +7,7 @@ use Rattle.std.proofs.Math.Seq.{take-length}
 use Rattle.std.specs.List.{prefix_len}
 use Rattle.sj_text_core.specs.Print.{escaped}
 use Rattle.sj_text_core.proofs.Escapes.{escaped_plain}
-use Rattle.sj_print.specs.Runs.{is_plain, is_stop}
+use Rattle.sj_print.specs.inner.Runs.{is_plain, is_stop}
 
 run_byte : (p : Bool) (x n : ℕ) (xs : List ℕ) → p ≡ is_plain x → flat_map escaped xs ≡ take n xs ++ flat_map escaped (drop n xs)
     → flat_map escaped (x ∷ xs) ≡ take (cond p (1 + n) 0) (x ∷ xs) ++ flat_map escaped (drop (cond p (1 + n) 0) (x ∷ xs))

@@ -4,7 +4,7 @@ use Rattle.sj_text_core.specs.Tree.{Tree, list, obj, Items, no_items, item, Memb
 use Rattle.sj_text_core.specs.Print.{escaped, quoted, compact, compact_items, compact_members, pretty, pretty_items, pretty_members, new_line}
 use Rattle.sj_print.proofs.Utf8.{IsUtf8-line}
 use Rattle.sj_print.specs.Layouts.{laid, laid_items, laid_members, items_end, members_end, deeper, gap, colon}
-use Rattle.sj_print.specs.Piles.{items_mark, members_mark, items_laid, members_laid}
+use Rattle.sj_print.specs.inner.Piles.{items_mark, members_mark, items_laid, members_laid}
 use Rattle.sj_print.specs.Outputs.{Appends, AppendsText, HoldsText, Lays}
 use Rattle.sj_print.specs.declared.layout.Layout.TheVariants.{Compact, Pretty}
 use Rattle.sj_print.proofs.Puts.{appends_text, appends_both}

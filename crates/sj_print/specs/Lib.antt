@@ -2,9 +2,8 @@ pub mod Layouts
 pub mod Levels
 pub mod Outputs
 pub mod Generators
-pub mod Piles
 pub mod Printed
-pub mod Runs
+pub mod inner
 pub use Rattle.sj_text_core.specs.Tree
 pub use Rattle.sj_text_core.specs.Grammar
 pub use Rattle.sj_text_core.specs.Print

@@ -1,6 +1,6 @@
 //! Texts that need no escape.
 
-ghost use Rattle.sj_print.specs.Runs.{IsAllPlain};
+ghost use Rattle.sj_print.specs.inner.Runs.{IsAllPlain};
 
 /// A text that is printed as it stands: without a quote, a backslash or a control byte.
 #[derive(Clone, Copy, Debug)]

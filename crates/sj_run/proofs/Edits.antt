@@ -10,7 +10,7 @@ use Rattle.sj_text_core.proofs.Writes.{set_at-same}
 use Rattle.sj_commands.specs.Commands.{Write}
 use Rattle.sj_run.specs.Replies.{PlainReply, missing}
 use Rattle.sj_run.specs.Answers.{edit, edit_found, changed}
-use Rattle.sj_run.specs.Changed.{Edits, changed_meant}
+use Rattle.sj_run.specs.inner.Changed.{Edits, changed_meant}
 use Rattle.sj_run.specs.declared.change.Changed.{Changed}
 
 below : (s : Step) (p : List Step) (w : Write) (t u : Tree) (o : Option Tree) → tree_at p u ≡ o → step_into s t ≡ Some u

@@ -15,7 +15,7 @@ use Rattle.sj_lazy.specs.declared.value.Lazy.TheVariants.{Tape, Value}
 use Rattle.sj_lazy.specs.declared.value.Shared.TheVariants.{Borrowed, Owned}
 use Rattle.sj_lazy.proofs.Steps.{shared_kept, some_is}
 use Rattle.sj_run.specs.Answers.{edit}
-use Rattle.sj_run.specs.Changed.{changed_meant}
+use Rattle.sj_run.specs.inner.Changed.{changed_meant}
 use Rattle.sj_commands.specs.Commands.{Write, write}
 use Rattle.sj_run.specs.Repeats.{answer_by}
 use Rattle.sj_run.specs.Run.{Leaves}

@@ -6,9 +6,6 @@ pub mod Shown
 pub mod Session
 pub mod Meant
 pub mod Laws
-pub mod Asked
-pub mod Found
-pub mod Changed
 pub mod Answered
 pub use Rattle.sj_text_core.specs.Tree
 pub use Rattle.sj_text_core.specs.Grammar
@@ -20,3 +17,4 @@ pub use Rattle.sj_commands.specs.Lines
 pub use Rattle.sj_commands.specs.CommandLines
 pub use Rattle.sj_commands.specs.Laws as LineLaws
 pub mod Faults
+pub mod inner

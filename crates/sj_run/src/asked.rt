@@ -2,7 +2,7 @@
 
 ghost use Rattle.std.specs.Prelude.{◌≡◌};
 ghost use Rattle.sj_commands.specs.Meant.{command_meant};
-ghost use Rattle.sj_run.specs.Asked.{asked_meant};
+ghost use Rattle.sj_run.specs.inner.Asked.{asked_meant};
 
 use crate::change::Write;
 use sj_commands::{Command, Step, Width};

@@ -3,9 +3,9 @@
 ghost use Rattle.std.specs.Prelude.{◌≡◌, [], map, IfOk, OnOk, OnErr};
 ghost use Rattle.sj_document.specs.Document.{tree};
 ghost use Rattle.sj_commands.specs.Commands as command;
-ghost use Rattle.sj_run.specs.Asked.{write_meant};
+ghost use Rattle.sj_run.specs.inner.Asked.{write_meant};
 ghost use Rattle.sj_run.specs.Answers.{answer, IsLong};
-ghost use Rattle.sj_run.specs.Changed.{changed_meant, Edits};
+ghost use Rattle.sj_run.specs.inner.Changed.{changed_meant, Edits};
 ghost use Rattle.sj_commands.specs.Meant.{step_meant};
 
 mod edit;

@@ -4,9 +4,9 @@ ghost use Rattle.std.specs.Prelude.{◌≡◌, ◌↔◌, ◌+◌, ◌^◌, ◌�
 ghost use Rattle.sj_text_core.specs.Paths.{step_into_by, token_into_by, tree_at_by};
 ghost use Rattle.sj_run.specs.Answers.{is_in, IsLong};
 ghost use Rattle.sj_run.specs.Answered.{Answers, IsBegunBy, PassesOne};
-ghost use Rattle.sj_run.specs.Asked.{read_meant};
+ghost use Rattle.sj_run.specs.inner.Asked.{read_meant};
 ghost use Rattle.sj_commands.specs.Commands as command;
-ghost use Rattle.sj_run.specs.Found.{found_meant};
+ghost use Rattle.sj_run.specs.inner.Found.{found_meant};
 ghost use Rattle.sj_commands.specs.Meant.{step_meant, width_meant};
 ghost use Rattle.sj_run.specs.Meant.{reply_meant};
 ghost use Rattle.sj_run.specs.Repeats.{answer_by, reply_to_by};

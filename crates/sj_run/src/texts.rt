@@ -2,7 +2,7 @@
 
 ghost use Rattle.std.specs.Prelude.{◌≡◌, IfOk, string_bytes};
 ghost use Rattle.std.specs.Cow.{cow_str_bytes};
-ghost use Rattle.sj_run.specs.Asked.{write_meant};
+ghost use Rattle.sj_run.specs.inner.Asked.{write_meant};
 
 use crate::change::Write;
 use sj_document::BorrowedValue;

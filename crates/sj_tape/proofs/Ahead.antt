@@ -7,9 +7,9 @@ use Rattle.std.specs.Option.{option_or, IfSome}
 use Rattle.sj_text_core.specs.Repeats.{visited, find_last_member}
 use Rattle.sj_text_core.specs.Nodes.{Mark, nothing, string, width, AreMembers, members_in}
 use Rattle.sj_text_core.specs.declared.repeats.Repeats.{Repeats}
-use Rattle.sj_tape.specs.Ahead.{MembersAhead, members_from, tree_from, part_from}
-use Rattle.sj_tape.specs.Fronts.{BeginsTree}
-use Rattle.sj_tape.specs.Tags.{member_at}
+use Rattle.sj_tape.specs.inner.Ahead.{MembersAhead, members_from, tree_from, part_from}
+use Rattle.sj_tape.specs.inner.Fronts.{BeginsTree}
+use Rattle.sj_tape.specs.inner.Tags.{member_at}
 use Rattle.sj_tape.proofs.MemberPlaces.{member_from, next_member_place}
 use Rattle.sj_tape.proofs.Splits.{first_member, next_member, BeginsTree-member, tree_at}
 

@@ -3,7 +3,7 @@ use Rattle.std.proofs.Common.{◌≡◌, ℕ, suc, ◌+◌, ◌<◌, Bool, true,
 use Rattle.std.specs.List.{prefix_len}
 use Rattle.std.proofs.lemmas.List.{drop-drop, drop_more}
 use Rattle.std.proofs.lemmas.Bool.Decides.{nat_tests}
-use Rattle.sj_text_core.specs.Parse.{is_space, after_blank}
+use Rattle.sj_text_core.specs.inner.Parse.{is_space, after_blank}
 
 -- twice not
 pub not-not : (b : Bool) → b ≡ not (not b)

@@ -2,7 +2,7 @@
 use Rattle.std.proofs.Common.{◌≡◌, ℕ, true, false, List, [], ◌∷◌, ◌++◌, Some, codes}
 use Rattle.sj_text_core.specs.Tree.{Tree, null, boolean, int, text, list, obj, Items, no_items, item, Members, no_members, member}
 use Rattle.sj_text_core.specs.Grammar.{IsBlank, Spaced, IsNumber}
-use Rattle.sj_text_core.specs.Parse.{text_at}
+use Rattle.sj_text_core.specs.inner.Parse.{text_at}
 
 pub record IsString (b : List ℕ) (s : List ℕ) : Type 0 where
   pub inside : List ℕ

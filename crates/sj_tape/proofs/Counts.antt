@@ -9,7 +9,7 @@ use Rattle.sj_text_core.specs.declared.static_node.StaticNode.TheVariants.{Null}
 use Rattle.sj_tape.specs.declared.node.Node.{Node}
 use Rattle.sj_tape.specs.declared.node.Node.TheVariants.{Static}
 use Rattle.sj_tape.specs.Marks.{mark, marks}
-use Rattle.sj_tape.specs.Fronts.{BeginsTree, AllBegin, IsText, BeginsItems, BeginsMembers}
+use Rattle.sj_tape.specs.inner.Fronts.{BeginsTree, AllBegin, IsText, BeginsItems, BeginsMembers}
 use Rattle.sj_tape.proofs.Splits.{flat-append, length-flat, width-flat}
 
 pub AllBegin-append : (x y : List Mark) → AllBegin (x ++ y) → AllBegin y

@@ -14,7 +14,7 @@ use Rattle.std.proofs.lemmas.List.{length-take-le, get_or-drop, drop-drop, take_
 use Rattle.std.proofs.lemmas.List.Sums.{fold-append, prefix_len_passes, prefix_len-le-length}
 use Rattle.sj_text_core.specs.Tree.{Tree}
 use Rattle.sj_text_core.specs.Grammar.{value_of, number_of}
-use Rattle.sj_text_core.specs.Parse.{is_digit, digits_len, goes_on, numeral_at}
+use Rattle.sj_text_core.specs.inner.Parse.{is_digit, digits_len, goes_on, numeral_at}
 use Rattle.sj_text_core.proofs.parse.Numbers.{step, numeral_is, value_of_more}
 
 digit_is : (c : ℕ) → is_ascii_digit c ≡ is_digit c

@@ -2,7 +2,7 @@
 use Rattle.std.proofs.Common.{◌≡◌, ◌⊎◌, ℕ, zero, suc, Bool, true, false, cond, List, [], ◌∷◌, ◌++◌, Some, None, refl, sym, ap, subst, ◌∙◌, append_assoc, append-nil, inl, inr, ⊎_elim}
 use Rattle.std.proofs.lemmas.Option.{none-some, option_and_then_some, some_pair_parts}
 use Rattle.sj_text_core.specs.Grammar.{IsBlank}
-use Rattle.sj_text_core.specs.Parse.{Read, after_blank, separator_at, separator_or, with_first, parts_at}
+use Rattle.sj_text_core.specs.inner.Parse.{Read, after_blank, separator_at, separator_or, with_first, parts_at}
 use Rattle.sj_text_core.proofs.parse.Steps.{blank_off, separator_is}
 
 -- a spelling was taken off the front

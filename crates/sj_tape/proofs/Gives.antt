@@ -7,9 +7,9 @@ use Rattle.sj_text_core.specs.Nodes.{Mark, flat, string}
 use Rattle.sj_text_core.specs.Scalars.{static_tree}
 use Rattle.sj_text_core.specs.declared.static_node.StaticNode.{StaticNode}
 use Rattle.sj_text_core.specs.declared.error.ErrorKind.{ErrorKind}
-use Rattle.sj_tape.specs.Gives.{EndsUtf8, Gives, GivesText, GivesMember}
+use Rattle.sj_tape.specs.inner.Gives.{EndsUtf8, Gives, GivesText, GivesMember}
 use Rattle.sj_tape.specs.Marks.{static_mark}
-use Rattle.sj_text_core.specs.Parse.{Read, text_at, number_at, value_by, after_blank, parts_at, all_parts_at, list_at, obj_at, member_at, after_key}
+use Rattle.sj_text_core.specs.inner.Parse.{Read, text_at, number_at, value_by, after_blank, parts_at, all_parts_at, list_at, obj_at, member_at, after_key}
 use Rattle.sj_tape.proofs.Scalars.{flat-static, text_is, other_at}
 use Rattle.sj_tape.proofs.Texts.{cut}
 use Rattle.sj_tape.proofs.Values.{all_is}

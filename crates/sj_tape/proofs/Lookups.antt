@@ -5,7 +5,7 @@ use Rattle.sj_text_core.specs.Tree.{Tree, Members, no_members, member, members_l
 use Rattle.sj_text_core.specs.Find.{find_member}
 use Rattle.sj_text_core.specs.Repeats.{find_last_member, visited}
 use Rattle.sj_text_core.specs.declared.repeats.Repeats.{Repeats}
-use Rattle.sj_tape.specs.Lookup.{first_value, last_value, compared}
+use Rattle.sj_tape.specs.inner.Lookup.{first_value, last_value, compared}
 use Rattle.sj_tape.specs.Members.{chosen}
 use Rattle.sj_tape.specs.Value.{tree, choice, part}
 use Rattle.sj_tape.specs.declared.value.Value.{Value}

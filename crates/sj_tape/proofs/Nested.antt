@@ -3,7 +3,7 @@ use Rattle.std.proofs.Common.{◌≡◌, Some, ℕ, zero, suc, ◌+◌, ◌<◌,
 use Rattle.std.proofs.lemmas.List.{get_or-drop, get_or-take, drop-drop}
 use Rattle.sj_text_core.specs.Tree.{items_len, members_len}
 use Rattle.sj_text_core.specs.Nodes.{Mark, nothing, width, members_in, AreMembers, IsPreorder}
-use Rattle.sj_tape.specs.Fronts.{BeginsTree, AllBegin}
+use Rattle.sj_tape.specs.inner.Fronts.{BeginsTree, AllBegin}
 use Rattle.sj_tape.specs.Marks.{array_len, object_len}
 use Rattle.sj_tape.specs.Parts.{AreItemNodes, items_in}
 use Rattle.sj_tape.proofs.Containers.{array_of, object_of}

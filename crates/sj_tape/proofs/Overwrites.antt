@@ -6,9 +6,9 @@ use Rattle.std.specs.List.{prefix_len}
 use Rattle.std.proofs.lemmas.List.{take-take, take-append-drop, length-take-le}
 use Rattle.std.proofs.lemmas.Str.{IsUtf8-take, IsCharBoundary-before_ascii}
 use Rattle.sj_text_core.proofs.Characters.{string_utf8}
-use Rattle.sj_tape.specs.Gives.{EndsUtf8}
-use Rattle.sj_text_core.specs.Parse.{escape_at, with_front, text_at}
-use Rattle.sj_print.specs.Runs.{is_plain}
+use Rattle.sj_tape.specs.inner.Gives.{EndsUtf8}
+use Rattle.sj_text_core.specs.inner.Parse.{escape_at, with_front, text_at}
+use Rattle.sj_print.specs.inner.Runs.{is_plain}
 use Rattle.sj_tape.proofs.Decode.{written, written_size, written_rest, written_text, same_byte, same_rest}
 use Rattle.sj_text_core.proofs.parse.Escapes.{text_ends, with_front_front, escape_sound}
 use Rattle.sj_tape.proofs.Places.{place_quote, place_control, place_escape, place_bad, place_end}

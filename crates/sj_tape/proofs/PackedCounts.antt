@@ -14,7 +14,7 @@ use Rattle.sj_print.specs.Printed.{mark_len, marks_len, Counts}
 use Rattle.sj_print.specs.Layouts.{laid, top}
 use Rattle.sj_print.specs.Outputs.{AppendsText}
 use Rattle.sj_print.specs.declared.output.count.Count.{Count}
-use Rattle.sj_print.specs.Runs.{is_plain}
+use Rattle.sj_print.specs.inner.Runs.{is_plain}
 use Rattle.sj_print.proofs.Ends.{counts, counted}
 use Rattle.sj_print.proofs.Escapes.{escaped_all_plain}
 use Rattle.sj_print.proofs.Printed.{compact_len}

@@ -4,7 +4,7 @@ use Rattle.std.proofs.lemmas.List.{take-map, length-map, get_or_default}
 use Rattle.std.proofs.Math.ListN.{get_or-map}
 use Rattle.sj_text_core.specs.Nodes.{nothing, IsPreorder, width}
 use Rattle.sj_tape.specs.Marks.{packed_mark, packed_marks}
-use Rattle.sj_tape.specs.Fronts.{BeginsTree}
+use Rattle.sj_tape.specs.inner.Fronts.{BeginsTree}
 use Rattle.sj_tape.specs.declared.packed.Packed.{Packed}
 use Rattle.sj_tape.specs.declared.packed.Packed.TheVariants.{Null}
 use Rattle.sj_tape.proofs.Splits.{some_first, first_width}

@@ -2,7 +2,7 @@
 use Rattle.std.proofs.Common.{◌≡◌, ℕ, zero, suc, ◌+◌, ◌-◌, ◌<◌, Bool, true, false, not, List, [], ◌∷◌, ◌++◌, length, option_map, Some, None, refl, sym, ap, ◌∙◌, arith, append_assoc, append-nil, length-append}
 use Rattle.sj_text_core.specs.Tree.{Tree, items_len, members_len}
 use Rattle.sj_text_core.specs.Nodes.{Mark, flat, flat_items, flat_members, string}
-use Rattle.sj_text_core.specs.Parse.{Read, parts_at, separator_at, with_first}
+use Rattle.sj_text_core.specs.inner.Parse.{Read, parts_at, separator_at, with_first}
 use Rattle.sj_text_core.specs.Tree.{items_from, members_from}
 
 abbrev pub with_front : {X : Type 0} → List X → Read (List X) → Read (List X)

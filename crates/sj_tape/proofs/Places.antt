@@ -2,7 +2,7 @@
 use Rattle.std.proofs.Common.{◌≡◌, ℕ, ◌+◌, ◌-◌, ◌<◌, ◌≤◌, List, [], ◌∷◌, length, drop, get_or, option_and_then, Some, None, ap, ◌∙◌, arith, append-nil}
 use Rattle.std.specs.Char.{encode_utf8}
 use Rattle.std.proofs.lemmas.List.{drop_more, drop_all, drop-drop}
-use Rattle.sj_text_core.specs.Parse.{escape_at, with_front, text_at}
+use Rattle.sj_text_core.specs.inner.Parse.{escape_at, with_front, text_at}
 use Rattle.sj_text_core.proofs.parse.Escapes.{text_skip, text_nil, text_quote, text_backslash, text_control, with_escape}
 
 at_byte : (b : List ℕ) (i c : ℕ) → i < length b → get_or b i 0 ≡ c → drop i b ≡ c ∷ drop (i + 1) b

@@ -5,8 +5,8 @@ use Rattle.std.specs.List.{AllByRecursion, prefix_len}
 use Rattle.std.proofs.lemmas.Bool.Decides.{nat_tests}
 use Rattle.std.proofs.lemmas.List.{take-append-drop, drop-drop, get_or-drop}
 use Rattle.std.proofs.lemmas.List.Sums.{prefix_len_stops}
-use Rattle.sj_text_core.specs.Parse.{with_front, text_at}
-use Rattle.sj_print.specs.Runs.{is_plain, IsAllPlain}
+use Rattle.sj_text_core.specs.inner.Parse.{with_front, text_at}
+use Rattle.sj_print.specs.inner.Runs.{is_plain, IsAllPlain}
 use Rattle.sj_text_core.proofs.parse.Escapes.{IsPlain, text_run}
 use Rattle.sj_tape.proofs.Places.{SoFar}
 

@@ -9,7 +9,7 @@ use Rattle.sj_text_core.specs.declared.static_node.StaticNode.TheVariants.{Null,
 use Rattle.sj_tape.specs.declared.node.Node.{Node}
 use Rattle.sj_tape.specs.declared.node.Node.TheVariants.{Static, String, Array, Object}
 use Rattle.sj_tape.specs.Marks.{static_mark, mark, marks}
-use Rattle.sj_tape.specs.Fronts.{BeginsTree, AllBegin, BeginsItems, BeginsMembers}
+use Rattle.sj_tape.specs.inner.Fronts.{BeginsTree, AllBegin, BeginsItems, BeginsMembers}
 use Rattle.sj_tape.proofs.Counts.{items_count, members_count}
 use Rattle.sj_tape.proofs.Splits.{flat-append, first_width, width-flat}
 

@@ -5,13 +5,13 @@ use Rattle.sj_text_core.specs.Grammar.{Spelling, Spells, IsReadable}
 use Rattle.sj_text_core.specs.Nodes.{Mark, flat, tree_of, IsPreorder}
 use Rattle.sj_text_core.specs.Code.{tree_of-flat}
 use Rattle.std.proofs.lemmas.Option.{none-some, same_Some, option_and_then_some}
-use Rattle.sj_text_core.specs.Parse.{tree_at, value_at, after_blank, last}
+use Rattle.sj_text_core.specs.inner.Parse.{tree_at, value_at, after_blank, last}
 use Rattle.sj_text_core.proofs.parse.Steps.{Blank, blank_off}
 use Rattle.sj_tape.proofs.Fronts.{Front}
 use Rattle.sj_tape.proofs.Sound.{Deep, value_sound}
 use Rattle.sj_tape.proofs.Texts.{lift}
 use Rattle.sj_text_core.proofs.parse.One.{complete}
-use Rattle.sj_tape.specs.Gives.{Scans}
+use Rattle.sj_tape.specs.inner.Gives.{Scans}
 
 last_is : (t u : Tree) (b : List ℕ) → last t b ≡ Some u → (t ≡ u) × (b ≡ [])
 last_is t u [] e = (same_Some t u e, refl)

@@ -12,7 +12,7 @@ use Rattle.sj_text_core.specs.declared.static_node.StaticNode.{StaticNode}
 use Rattle.sj_text_core.specs.declared.static_node.StaticNode.TheVariants.{Null, I64, U64, I128, U128}
 use Rattle.sj_text_core.specs.declared.static_node.StaticNode.TheVariants as nodes
 use Rattle.sj_text_core.proofs.parse.Values.{value_by_other}
-use Rattle.sj_text_core.specs.Parse.{Read, value_by, word_at, number_at, text_at}
+use Rattle.sj_text_core.specs.inner.Parse.{Read, value_by, word_at, number_at, text_at}
 
 -- the same at a place
 pub other_at : (f g : List ℕ → Read Tree) (b : List ℕ) (i : ℕ) → i < length b → get_or b i 0 ≢ 34 → get_or b i 0 ≢ 91 → get_or b i 0 ≢ 123 → get_or b i 0 ≢ 110 → get_or b i 0 ≢ 116 → get_or b i 0 ≢ 102

@@ -21,7 +21,7 @@ use lib.Lanes.{chunk, mask_l, number_l, digits_l, zip2, dots, Each1}
 use mir.Val.{zeroes}
 use Rattle.sj_print.proofs.Runs.{run_through, run_stops}
 use Rattle.sj_tape.proofs.Digits.{all_digits, all_take}
-use Rattle.sj_tape.specs.Lanes.{lane_of, is_other}
+use Rattle.sj_tape.specs.inner.Lanes.{lane_of, is_other}
 
 abbrev Each : (ℕ → Type 0) → ℕ → Type 0
 Each P zero = ⊤

@@ -8,7 +8,7 @@ use Rattle.sj_text_core.specs.Tree.{Carrier, i64, u64, i128, u128, Tree, null, b
 use Rattle.sj_text_core.specs.Grammar.{IsBlank, IsDigit, IsNumeral, IsNumber, value_of, number_of}
 use Rattle.sj_tape.proofs.Bytewise.{IsString, Spelling, SpellsItems, MoreItems, SpellsMembers, MoreMembers}
 use Rattle.sj_text_core.proofs.parse.Escapes.{text_ends}
-use Rattle.sj_text_core.specs.Parse.{Read, after_blank, text_at, after_key, member_at, is_digit, digits_len, goes_on, numeral_at, number_at, word_at, parts_at, all_parts_at, list_at, obj_at, value_at, value_by, nothing_at}
+use Rattle.sj_text_core.specs.inner.Parse.{Read, after_blank, text_at, after_key, member_at, is_digit, digits_len, goes_on, numeral_at, number_at, word_at, parts_at, all_parts_at, list_at, obj_at, value_at, value_by, nothing_at}
 use Rattle.sj_text_core.specs.Tree.{items_from, members_from}
 use Rattle.sj_text_core.proofs.parse.Steps.{by_cases, blank_off, digits_are}
 use Rattle.sj_tape.proofs.Fronts.{parts_sound, Front, Sound, Word, More, PartsFront}

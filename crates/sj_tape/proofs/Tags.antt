@@ -2,7 +2,7 @@
 use Rattle.std.proofs.Common.{◌≡◌, ℕ, ◌-◌, ◌/◌, ◌<◌, ◌≤◌, ◌%◌, ◌^◌, Bool, true, false, if◌then◌else◌, nat_lt, List, length, sym, ap, ◌∙◌, arith}
 use Rattle.std.proofs.lemmas.Bool.Decides.{nat_tests}
 use Rattle.sj_text_core.specs.Hash.{hash}
-use Rattle.sj_tape.specs.Tags.{tag, word, half_word, mixed}
+use Rattle.sj_tape.specs.inner.Tags.{tag, word, half_word, mixed}
 
 abbrev tag_by : List ℕ → Bool → Bool → ℕ
 tag_by s few some = if few then hash s % 2 ^ 16 else if some then mixed (half_word 0 s) 0 (half_word (length s - 4) s) else mixed (word 0 s) (word ((length s - 8) / 2) s) (word (length s - 8) s)

@@ -5,7 +5,7 @@ use Rattle.std.specs.Char.Utf16.{surrogate_pair_char}
 use Rattle.std.proofs.lemmas.Bool.Decides.{nat_tests, eqb_tells}
 use Rattle.std.proofs.lemmas.List.{drop-drop, get_or-drop}
 use Rattle.sj_text_core.specs.Grammar.{short_escape}
-use Rattle.sj_text_core.specs.Parse.{unit_at, is_high, is_low, pair_with, pair_at, code_with, code_at, escape_at}
+use Rattle.sj_text_core.specs.inner.Parse.{unit_at, is_high, is_low, pair_with, pair_at, code_with, code_at, escape_at}
 use Rattle.sj_text_core.specs.declared.error.ErrorKind.{ErrorKind}
 use Rattle.sj_text_core.proofs.parse.Escapes.{unit_sound}
 use Rattle.sj_text_core.proofs.parse.Strings.{no_high, no_low}

@@ -6,7 +6,7 @@ use Rattle.std.proofs.lemmas.Bool.Decides.{nat_tests}
 use Rattle.sj_text_core.specs.Tree.{Tree, list, obj}
 use Rattle.sj_text_core.specs.Nodes.{Mark, flat, array, object}
 use Rattle.sj_text_core.proofs.parse.Values.{in_list, in_obj, value_is}
-use Rattle.sj_text_core.specs.Parse.{Read, parts_at, all_parts_at, after_blank, list_at, obj_at, value_at, value_by, nothing_at, tree_at, last}
+use Rattle.sj_text_core.specs.inner.Parse.{Read, parts_at, all_parts_at, after_blank, list_at, obj_at, value_at, value_by, nothing_at, tree_at, last}
 use Rattle.sj_text_core.specs.Tree.{items_from, members_from}
 use Rattle.std.proofs.Common.{Result, Ok, Err, IfErr}
 use Rattle.sj_text_core.specs.declared.error.ErrorKind.{ErrorKind}

@@ -5,7 +5,7 @@ ghost use Rattle.sj_text_core.specs.Nodes.{IsPreorder};
 ghost use Rattle.sj_text_core.specs.Tree.{items_len};
 ghost use Rattle.sj_tape.specs.Marks.{packed_marks};
 ghost use Rattle.sj_tape.specs.Parts.{AreItemNodes, ItemsFrom, items_in};
-ghost use Rattle.sj_tape.specs.Places.{AllPlaced, ArePlaces, IsPlaced};
+ghost use Rattle.sj_tape.specs.inner.Places.{AllPlaced, ArePlaces, IsPlaced};
 
 use crate::kept::{Kept, between, kept_at, pass_run};
 use crate::landmarks::{Begins, FREE_CHANGES, MANY_ITEMS, PER_CHANGE, STEP, index_of};

@@ -4,7 +4,7 @@ ghost use Rattle.std.specs.Prelude.{◌≡◌, ◌+◌, ◌<◌, ◌≤◌, leng
 ghost use Rattle.sj_text_core.specs.Nodes.{AreMembers, IsPreorder, members_in, nothing, width as node_width};
 ghost use Rattle.sj_text_core.specs.Tree.{members_len};
 ghost use Rattle.sj_tape.specs.Marks.{packed_marks};
-ghost use Rattle.sj_tape.specs.Tags.{AllTagged, AreTags, IsTagged, MembersFrom, key_tag};
+ghost use Rattle.sj_tape.specs.inner.Tags.{AllTagged, AreTags, IsTagged, MembersFrom, key_tag};
 
 use crate::kept::{Kept, between, kept_at};
 use crate::landmarks::{Begins, FREE_CHANGES, MANY_MEMBERS, PER_CHANGE, STEP, index_of};

@@ -3,8 +3,8 @@
 ghost use Rattle.std.specs.Prelude.{◌≡◌, ◌+◌, ◌<◌, ◌≤◌, length, IfSome};
 ghost use Rattle.sj_text_core.specs.Nodes.{IsPreorder};
 ghost use Rattle.sj_tape.specs.Marks.{packed_marks};
-ghost use Rattle.sj_tape.specs.Places.{AllPlaced};
-ghost use Rattle.sj_tape.specs.Tags.{AllTagged};
+ghost use Rattle.sj_tape.specs.inner.Places.{AllPlaced};
+ghost use Rattle.sj_tape.specs.inner.Tags.{AllTagged};
 
 use crate::item_places::{ArrayPlaces, array_at};
 use crate::kept::{Kept, kept_at};

@@ -6,8 +6,8 @@ ghost use Rattle.sj_text_core.specs.Nodes.{IsPreorder};
 ghost use Rattle.sj_text_core.specs.Tree.{items_len};
 ghost use Rattle.sj_tape.specs.Marks.{packed_marks};
 ghost use Rattle.sj_tape.specs.Parts.{AreItemNodes, ItemsFrom, items_in};
-ghost use Rattle.sj_tape.specs.Places.{AllPlaced};
-ghost use Rattle.sj_tape.specs.Tags.{AllTagged, IsTagged};
+ghost use Rattle.sj_tape.specs.inner.Places.{AllPlaced};
+ghost use Rattle.sj_tape.specs.inner.Tags.{AllTagged, IsTagged};
 
 use crate::item_places::place_before;
 use crate::key_tags::{KeyTags, tags_of_object};

@@ -32,7 +32,7 @@ impl<'t, 'i> Nodes<'t, 'i> {
     ghost use Rattle.sj_tape.specs.Whole.{list_nodes};
     ghost use Rattle.sj_text_core.specs.Tree.{items_len};
     ghost use Rattle.sj_tape.specs.Parts.{AreItemNodes, ItemsFrom, items_in};
-    ghost use Rattle.sj_tape.specs.Tags.{IsTagged};
+    ghost use Rattle.sj_tape.specs.inner.Tags.{IsTagged};
 
     /// The one node of a null.
     pub(crate) fn null() -> Nodes<'t, 'i>

@@ -33,10 +33,10 @@ impl<'t, 'i> Object<'t, 'i> {
     ghost use Rattle.sj_text_core.specs.Repeats.{find_member_by};
     ghost use Rattle.sj_text_core.specs.Tree.{Tree, no_members, paired};
     ghost use Rattle.sj_tape.specs.Members.{members, members_ahead, keys_ahead, values_ahead, object_choice, parts_ahead, value_parts_ahead, chosen};
-    ghost use Rattle.sj_tape.specs.Ahead.{tree_from};
-    ghost use Rattle.sj_tape.specs.Fronts.{BeginsTree};
+    ghost use Rattle.sj_tape.specs.inner.Ahead.{tree_from};
+    ghost use Rattle.sj_tape.specs.inner.Fronts.{BeginsTree};
     ghost use Rattle.sj_tape.specs.Marks.{packed_marks};
-    ghost use Rattle.sj_tape.specs.Tags.{IsTagged};
+    ghost use Rattle.sj_tape.specs.inner.Tags.{IsTagged};
     ghost use Rattle.sj_tape.specs.Value.{tree, choice, part};
 
     /// The object with so many members, whose nodes are these.

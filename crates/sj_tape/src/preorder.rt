@@ -2,7 +2,7 @@
 
 ghost use Rattle.std.specs.Prelude.{◌≡◌, ◌↔◌, ◌≤◌, ◌∷◌, ℕ, length, IsTrue, IfNone, IfSome};
 ghost use Rattle.sj_text_core.specs.Nodes.{IsPreorder};
-ghost use Rattle.sj_tape.specs.Fronts.{BeginsTree, AllBegin, IsText, BeginsItems, BeginsMembers};
+ghost use Rattle.sj_tape.specs.inner.Fronts.{BeginsTree, AllBegin, IsText, BeginsItems, BeginsMembers};
 ghost use Rattle.sj_tape.specs.Marks.{mark, marks};
 
 use crate::node::Node;

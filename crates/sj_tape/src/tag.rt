@@ -2,7 +2,7 @@
 
 ghost use Rattle.std.specs.Prelude.{◌≡◌, ◌+◌, ◌≤◌, ◌%◌, ◌^◌, length};
 ghost use Rattle.sj_text_core.specs.Hash.{hash};
-ghost use Rattle.sj_tape.specs.Tags.{half_word, has_tag, mixed, tag, word};
+ghost use Rattle.sj_tape.specs.inner.Tags.{half_word, has_tag, mixed, tag, word};
 
 /// 2^64 over the golden ratio.
 const GOLDEN: u64 = 0x9e37_79b9_7f4a_7c15;

@@ -30,8 +30,8 @@ impl<'t, 'i> Value<'t, 'i> {
     ghost use Rattle.std.specs.Prelude.{◌≡◌, ◌++◌, drop, get_or};
     ghost use Rattle.sj_text_core.specs.Nodes.{tree_of, nothing, width as node_width};
     ghost use Rattle.sj_text_core.specs.Tree.{null};
-    ghost use Rattle.sj_tape.specs.Ahead.{tree_from};
-    ghost use Rattle.sj_tape.specs.Fronts.{BeginsTree};
+    ghost use Rattle.sj_tape.specs.inner.Ahead.{tree_from};
+    ghost use Rattle.sj_tape.specs.inner.Fronts.{BeginsTree};
     ghost use Rattle.sj_tape.specs.Value.{tree, choice, part};
 
     /// A null of its own.

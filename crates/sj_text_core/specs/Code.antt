@@ -5,7 +5,7 @@ use Rattle.std.specs.Coded.{Coded, code_by, coded×, coded⊎, coded_ℕ, coded_
 use base.Stored.{coded_unit}
 use Rattle.sj_text_core.specs.Tree.{Carrier, i64, u64, i128, u128, Tree}
 use Rattle.sj_text_core.specs.Nodes.{Mark, nothing, truth, number, string, array, object, flat, tree_of, first_tree}
-use Rattle.sj_text_core.specs.Flat.{trees_of-flat}
+use Rattle.sj_text_core.specs.inner.Flat.{trees_of-flat}
 
 abbrev carrier_number : Carrier → ℕ
 carrier_number i64 = 0

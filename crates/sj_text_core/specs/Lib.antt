@@ -1,6 +1,5 @@
 pub mod Tree
 pub mod Grammar
-pub mod Parse
 pub mod Find
 pub mod Keep
 pub mod Edits
@@ -10,7 +9,6 @@ pub mod Same
 pub mod Print
 pub mod Hash
 pub mod Nodes
-pub mod Flat
 pub mod Code
 pub mod Scalars
 pub mod Reads
@@ -22,3 +20,4 @@ pub mod Repeats
 pub mod Agree
 pub mod Equal
 pub mod Faults
+pub mod inner

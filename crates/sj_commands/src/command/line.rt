@@ -9,7 +9,7 @@ ghost use Rattle.sj_pointer.specs.Pointed.{path_of};
 ghost use Rattle.sj_commands.specs.Commands.{PlainCommand, bad};
 ghost use Rattle.sj_commands.specs.CommandLines.{IsCommandOf, command_in as command_in_tree, command_with, command_with_path, command_with_text, command_with_value, command_with_member, path_in as path_in_tree, pointer_in as pointer_in_text, step_in as step_in_tree, steps_in as steps_in_items, width_named as width_of_name};
 ghost use Rattle.sj_commands.specs.Meant.{command_meant, step_meant, path_meant, width_meant};
-ghost use Rattle.sj_commands.specs.Parts.{kept, parts_in};
+ghost use Rattle.sj_commands.specs.inner.Parts.{kept, parts_in};
 
 use super::{Command, Step, Width};
 use sj_document::owned_from_tape;

@@ -5,7 +5,7 @@
 //! first part, until it comes out again as the last that is left there.
 
 ghost use Rattle.std.specs.Prelude.{◌≡◌, ◌↔◌, ◌+◌, ◌<◌, Some, IfNone, IsTrue};
-ghost use Rattle.sj_document.specs.Nodes.{nodes, nodes_of, nodes_in, work};
+ghost use Rattle.sj_document.specs.inner.Nodes.{nodes, nodes_of, nodes_in, work};
 
 use crate::value::{Document, Object};
 use sj_object::KeyText;

@@ -4,9 +4,9 @@
 ghost use Rattle.std.specs.Prelude.{◌≡◌, ◌+◌, ◌*◌, ◌<◌, ℕ, List, IfOk, suc};
 ghost use Rattle.std.specs.Iterator.{YieldsFirstBy};
 ghost use Rattle.sj_text_core.specs.Tree.{Tree};
-ghost use Rattle.sj_print.specs.Piles.{weight};
+ghost use Rattle.sj_print.specs.inner.Piles.{weight};
 ghost use Rattle.sj_document.specs.Document.{tree};
-ghost use Rattle.sj_document.specs.Piled.{Begins, GoesOn, items_tree, members_tree, items_left_weight, members_left_weight, with_part, waiting_weight, whole_of, left};
+ghost use Rattle.sj_document.specs.inner.Piled.{Begins, GoesOn, items_tree, members_tree, items_left_weight, members_left_weight, with_part, waiting_weight, whole_of, left};
 
 use crate::value::{Document, Object};
 use sj_object::{HashMap, KeyText, MapOf, ObjectHasher};

@@ -2,8 +2,8 @@
 
 ghost use Rattle.std.specs.Prelude.{◌↔◌, ◌≤◌, ◌<◌, ◌+◌, IfOk, IsTrue, length, suc};
 ghost use Rattle.sj_text_core.specs.Tree.{depth};
-ghost use Rattle.sj_print.specs.Piles.{weight};
-ghost use Rattle.sj_document.specs.Reach.{ahead_depth, ahead_weight, Reached};
+ghost use Rattle.sj_print.specs.inner.Piles.{weight};
+ghost use Rattle.sj_document.specs.inner.Reach.{ahead_depth, ahead_weight, Reached};
 
 use crate::value::Document;
 use sj_object::KeyText;

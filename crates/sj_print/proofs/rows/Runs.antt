@@ -1,7 +1,7 @@
 -- Which texts need no escape.
 use Rattle.std.proofs.Common.{◌≡◌, true, [], ◌∷◌, refl, codes}
 use Rattle.std.specs.List.{prefix_len}
-use Rattle.sj_print.specs.Runs.{is_stop, is_plain, IsAllPlain}
+use Rattle.sj_print.specs.inner.Runs.{is_stop, is_plain, IsAllPlain}
 
 stop-quote : is_stop 34 ≡ true
 stop-quote = refl

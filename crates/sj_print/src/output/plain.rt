@@ -4,7 +4,7 @@ ghost use Rattle.std.specs.Prelude.{◌≡◌, ◌+◌, ◌<◌, ◌≤◌, leng
 ghost use Rattle.std.specs.Bool.{OnTrue};
 ghost use Rattle.std.specs.List.{prefix_len};
 ghost use Rattle.std.specs.Simd.Lanes.{mask_l};
-ghost use Rattle.sj_print.specs.Runs.{is_plain, is_stop};
+ghost use Rattle.sj_print.specs.inner.Runs.{is_plain, is_stop};
 
 use std::simd::prelude::*;
 

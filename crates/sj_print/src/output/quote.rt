@@ -2,7 +2,7 @@
 
 ghost use Rattle.std.specs.Prelude.{◌≡◌, ◌<◌, ◌++◌, IsTrue, flat_map};
 ghost use Rattle.sj_text_core.specs.Print.{hex_digit, escaped};
-ghost use Rattle.sj_print.specs.Runs.{is_stop};
+ghost use Rattle.sj_print.specs.inner.Runs.{is_stop};
 ghost use Rattle.sj_print.specs.Outputs.{Appends};
 
 use super::Output;

@@ -5,8 +5,8 @@ ghost use Rattle.sj_text_core.specs.Paths.{by_key, by_place, by_token};
 ghost use Rattle.sj_text_core.specs.Tree.{list, obj, items_from};
 ghost use Rattle.sj_object.specs.Members.{entry_members};
 ghost use Rattle.sj_document.specs.Document.{tree};
-ghost use Rattle.sj_run.specs.Asked.{write_meant};
-ghost use Rattle.sj_run.specs.Changed.{Edits};
+ghost use Rattle.sj_run.specs.inner.Asked.{write_meant};
+ghost use Rattle.sj_run.specs.inner.Changed.{Edits};
 ghost use Rattle.sj_commands.specs.Meant.{step_meant};
 
 use super::insert::Inserts;

@@ -4,7 +4,7 @@ ghost use Rattle.std.specs.Prelude.{[], string_bytes};
 ghost use Rattle.std.specs.Cow.{cow_str_bytes};
 ghost use Rattle.sj_document.specs.Document.{tree};
 ghost use Rattle.sj_commands.specs.Commands as command;
-ghost use Rattle.sj_run.specs.Changed.{Edits};
+ghost use Rattle.sj_run.specs.inner.Changed.{Edits};
 
 use super::Changed;
 use crate::document::Way;

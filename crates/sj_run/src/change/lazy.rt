@@ -3,8 +3,8 @@
 ghost use Rattle.std.specs.Prelude.{◌≡◌, ◌⊎◌, Some, map, IfOk, OnOk, OnErr};
 ghost use Rattle.sj_lazy.specs.Value.{lazy_kept, owned};
 ghost use Rattle.sj_run.specs.Answers.{edit};
-ghost use Rattle.sj_run.specs.Asked.{write_meant};
-ghost use Rattle.sj_run.specs.Changed.{changed_meant};
+ghost use Rattle.sj_run.specs.inner.Asked.{write_meant};
+ghost use Rattle.sj_run.specs.inner.Changed.{changed_meant};
 ghost use Rattle.sj_commands.specs.Meant.{step_meant};
 
 use super::edit::edit_at;

@@ -7,7 +7,7 @@ ghost use Rattle.sj_text_core.specs.Reads.{as_members};
 ghost use Rattle.sj_text_core.specs.Tree.{keys_of, members_from};
 ghost use Rattle.sj_run.specs.Answered.{IsBegunBy};
 ghost use Rattle.sj_run.specs.Answers.{IsLong, keys_reply};
-ghost use Rattle.sj_run.specs.Found.{found_meant};
+ghost use Rattle.sj_run.specs.inner.Found.{found_meant};
 ghost use Rattle.sj_run.specs.Meant.{reply_meant};
 ghost use Rattle.sj_run.specs.Shown.{kind_name, truth_name, text_array, reply_text};
 

@@ -5,7 +5,7 @@ ghost use Rattle.sj_text_core.specs.Find.{nth};
 ghost use Rattle.sj_text_core.specs.Repeats.{find_by};
 ghost use Rattle.sj_text_core.specs.declared.repeats.Repeats.{Repeats};
 ghost use Rattle.sj_run.specs.Answers.{len_reply};
-ghost use Rattle.sj_run.specs.Found.{len_meant};
+ghost use Rattle.sj_run.specs.inner.Found.{len_meant};
 
 use crate::document::Way;
 use crate::keys::member;

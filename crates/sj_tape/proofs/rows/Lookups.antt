@@ -1,6 +1,6 @@
 -- Look-ups in lists of pairs.
 use Rattle.std.proofs.Common.{◌≡◌, ℕ, List, [], ◌∷◌, refl, codes, Some, None}
-use Rattle.sj_tape.specs.Lookup.{first_value, last_value, compared}
+use Rattle.sj_tape.specs.inner.Lookup.{first_value, last_value, compared}
 
 abbrev pairs : List (List ℕ × ℕ)
 pairs = (codes "a", 1) ∷ (codes "b", 2) ∷ (codes "a", 3) ∷ []

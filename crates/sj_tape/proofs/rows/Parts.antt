@@ -6,7 +6,7 @@ use Rattle.sj_text_core.specs.declared.repeats.Repeats.TheVariants.{First, Last}
 use Rattle.sj_tape.specs.Items.{items, items_ahead, parts_ahead}
 use Rattle.sj_tape.specs.Members.{members, members_ahead, keys_ahead, values_ahead, chosen, value_parts_ahead}
 use Rattle.sj_tape.specs.Marks.{packed_marks}
-use Rattle.sj_tape.specs.PackedTree.{packed_tree, packed_items, packed_members}
+use Rattle.sj_tape.specs.inner.PackedTree.{packed_tree, packed_items, packed_members}
 use Rattle.sj_tape.specs.Parts.{items_in}
 use Rattle.sj_tape.specs.Stretches.{nodes_in}
 use Rattle.sj_tape.specs.Value.{tree, choice, part, found, as_scalar, displayed}

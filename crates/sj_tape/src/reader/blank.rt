@@ -3,8 +3,8 @@
 ghost use Rattle.std.specs.Prelude.{◌≡◌, get_or, ◌+◌, ◌≤◌, length, drop, map};
 ghost use Rattle.std.specs.List.{prefix_len};
 ghost use Rattle.std.specs.Simd.Lanes.{mask_l};
-ghost use Rattle.sj_text_core.specs.Parse as parse;
-ghost use Rattle.sj_tape.specs.Run.{is_solid};
+ghost use Rattle.sj_text_core.specs.inner.Parse as parse;
+ghost use Rattle.sj_tape.specs.inner.Run.{is_solid};
 
 use std::simd::prelude::*;
 

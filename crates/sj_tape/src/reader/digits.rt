@@ -6,9 +6,9 @@ ghost use Rattle.std.specs.List.{prefix_len};
 ghost use Rattle.std.specs.Char.{is_ascii_digit};
 ghost use Rattle.std.specs.Str.Parse.{digits_value};
 ghost use Rattle.std.specs.Int.Digits.{number_from_digits};
-ghost use Rattle.sj_text_core.specs.Parse as parse;
+ghost use Rattle.sj_text_core.specs.inner.Parse as parse;
 ghost use Rattle.sj_text_core.specs.Grammar.{value_of};
-ghost use Rattle.sj_tape.specs.Lanes.{is_other, lane_of};
+ghost use Rattle.sj_tape.specs.inner.Lanes.{is_other, lane_of};
 
 use core::dec2flt::read_digits;
 use std::simd::prelude::*;

@@ -2,7 +2,7 @@
 
 ghost use Rattle.std.specs.Prelude.{◌≡◌, ◌≢◌, ◌+◌, ◌-◌, ◌<◌, ◌≤◌, Some, None, length, drop, IfOk, IfErr, IfSome, OnErr};
 ghost use Rattle.sj_text_core.specs.Grammar.{short_escape};
-ghost use Rattle.sj_text_core.specs.Parse as parse;
+ghost use Rattle.sj_text_core.specs.inner.Parse as parse;
 
 use crate::reader::digit::digit;
 use sj_text_core::ErrorKind;

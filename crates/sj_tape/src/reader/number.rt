@@ -1,7 +1,7 @@
 //! Whole numbers.
 
 ghost use Rattle.std.specs.Prelude.{◌≡◌, ◌≢◌, ◌<◌, ◌≤◌, ◌%◌, ◌^◌, Some, None, true, length, get_or, drop, IfOk, IfErr, IfSome, OnErr, MatchOption, option_map, EachIndex, slice_index};
-ghost use Rattle.sj_text_core.specs.Parse as parse;
+ghost use Rattle.sj_text_core.specs.inner.Parse as parse;
 ghost use Rattle.sj_text_core.specs.Grammar.{value_of, number_of};
 ghost use Rattle.sj_text_core.specs.Scalars.{static_tree};
 

@@ -3,7 +3,7 @@
 ghost use Rattle.std.specs.Prelude.{◌≡◌, ◌+◌, ◌≤◌, length, drop, map};
 ghost use Rattle.std.specs.List.{prefix_len};
 ghost use Rattle.std.specs.Simd.Lanes.{mask_l};
-ghost use Rattle.sj_print.specs.Runs.{is_stop, is_plain};
+ghost use Rattle.sj_print.specs.inner.Runs.{is_stop, is_plain};
 
 use std::simd::prelude::*;
 

@@ -2,7 +2,7 @@
 
 ghost use Rattle.std.specs.Prelude.{◌≡◌, ◌+◌, ◌-◌, ◌<◌, ◌≤◌, ℕ, Some, None, true, false, length, drop, IfOk, IfErr, OnOk, OnErr, MatchResult, IsTrue, ◌↔◌, ◌≢◌, ◌==◌, slice_index};
 ghost use Rattle.sj_text_core.specs.Tree.{Tree};
-ghost use Rattle.sj_text_core.specs.Parse as parse;
+ghost use Rattle.sj_text_core.specs.inner.Parse as parse;
 
 use crate::reader::blank::{byte_at, skip};
 use sj_text_core::ErrorKind;

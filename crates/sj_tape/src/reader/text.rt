@@ -3,10 +3,10 @@
 
 ghost use Rattle.std.specs.Prelude.{◌≡◌, ◌≢◌, ◌+◌, ◌-◌, ◌<◌, ◌≤◌, ◌++◌, Some, None, false, length, get_or, take, drop, IfOk, IfErr, OnErr, IsUtf8, slice_range};
 ghost use Rattle.std.specs.Char.{encode_utf8};
-ghost use Rattle.sj_tape.specs.Gives.{EndsUtf8, GivesText};
+ghost use Rattle.sj_tape.specs.inner.Gives.{EndsUtf8, GivesText};
 ghost use Rattle.sj_tape.specs.Marks.{packed_marks};
-ghost use Rattle.sj_text_core.specs.Parse as parse;
-ghost use Rattle.sj_print.specs.Runs.{is_plain};
+ghost use Rattle.sj_text_core.specs.inner.Parse as parse;
+ghost use Rattle.sj_print.specs.inner.Runs.{is_plain};
 
 use crate::node::Node;
 use crate::packed::Packed;

@@ -3,9 +3,9 @@
 
 ghost use Rattle.std.specs.Prelude.{◌≡◌, ◌≢◌, ◌<◌, ◌≤◌, Some, None, [], length, get_or, drop, IfOk, IfErr, OnOk, OnErr, IsUtf8};
 ghost use Rattle.sj_text_core.specs.Scalars.{static_tree};
-ghost use Rattle.sj_tape.specs.Gives.{EndsUtf8, Gives, GivesItems, GivesMember, GivesMembers, Scans};
+ghost use Rattle.sj_tape.specs.inner.Gives.{EndsUtf8, Gives, GivesItems, GivesMember, GivesMembers, Scans};
 ghost use Rattle.sj_tape.specs.Marks.{packed_marks};
-ghost use Rattle.sj_text_core.specs.Parse as parse;
+ghost use Rattle.sj_text_core.specs.inner.Parse as parse;
 
 use crate::node::Node;
 use crate::packed::Packed;

@@ -7,8 +7,8 @@ ghost use Rattle.sj_text_core.specs.Find.{find_member};
 ghost use Rattle.sj_text_core.specs.Nodes.{nothing, string, width as node_width};
 ghost use Rattle.sj_text_core.specs.Repeats.{find_last_member, visited};
 ghost use Rattle.sj_text_core.specs.Tree.{members_len};
-ghost use Rattle.sj_tape.specs.Ahead.{MembersAhead, members_from, tree_from};
-ghost use Rattle.sj_tape.specs.Fronts.{BeginsTree};
+ghost use Rattle.sj_tape.specs.inner.Ahead.{MembersAhead, members_from, tree_from};
+ghost use Rattle.sj_tape.specs.inner.Fronts.{BeginsTree};
 ghost use Rattle.sj_tape.specs.Marks.{packed_marks};
 
 use crate::kept::{Kept, kept_at};

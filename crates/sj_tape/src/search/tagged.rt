@@ -6,11 +6,11 @@ ghost use Rattle.sj_text_core.specs.Find.{find_member};
 ghost use Rattle.sj_text_core.specs.Nodes.{AreMembers, members_in};
 ghost use Rattle.sj_text_core.specs.Repeats.{visited};
 ghost use Rattle.sj_text_core.specs.Tree.{members_len};
-ghost use Rattle.sj_tape.specs.Ahead.{members_from, tree_from};
-ghost use Rattle.sj_tape.specs.Fronts.{BeginsTree};
+ghost use Rattle.sj_tape.specs.inner.Ahead.{members_from, tree_from};
+ghost use Rattle.sj_tape.specs.inner.Fronts.{BeginsTree};
 ghost use Rattle.sj_tape.specs.Marks.{packed_marks};
 ghost use Rattle.sj_tape.specs.Stretches.{nodes_in};
-ghost use Rattle.sj_tape.specs.Tags.{IsTagged, member_at, tag as tag_is};
+ghost use Rattle.sj_tape.specs.inner.Tags.{IsTagged, member_at, tag as tag_is};
 
 use crate::key_tags::KeyTags;
 use crate::landmarks::STEP;

@@ -5,7 +5,7 @@ ghost use Rattle.sj_text_core.specs.Print.{quoted};
 ghost use Rattle.sj_print.specs.Layouts.{laid, top};
 ghost use Rattle.sj_print.specs.Printed.{mark_len, marks_len, Counts};
 ghost use Rattle.sj_tape.specs.Marks.{packed_mark, packed_marks};
-ghost use Rattle.sj_tape.specs.PackedTree.{packed_tree};
+ghost use Rattle.sj_tape.specs.inner.PackedTree.{packed_tree};
 
 use super::packed_tree::PackedTree;
 use crate::kept::Kept;

@@ -2,7 +2,7 @@
 
 ghost use Rattle.std.specs.Prelude.{◌≡◌, option_map};
 ghost use Rattle.sj_tape.specs.Marks.{packed_mark, packed_marks, split_text, text_in};
-ghost use Rattle.sj_tape.specs.PackedKey.{packed_key};
+ghost use Rattle.sj_tape.specs.inner.PackedKey.{packed_key};
 
 use crate::packed::Packed;
 use sj_print::PlainText;

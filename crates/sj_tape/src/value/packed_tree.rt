@@ -4,7 +4,7 @@ ghost use Rattle.std.specs.Prelude.{◌≡◌, ◌++◌, IfSome};
 ghost use Rattle.std.specs.Coded.{Coded-set, coded_list};
 ghost use Rattle.sj_text_core.specs.Code.{mark_code};
 ghost use Rattle.sj_text_core.specs.Nodes.{AreMembers, IsPreorder};
-ghost use Rattle.sj_tape.specs.Fronts.{BeginsTree};
+ghost use Rattle.sj_tape.specs.inner.Fronts.{BeginsTree};
 ghost use Rattle.sj_tape.specs.Marks.{packed_marks};
 ghost use Rattle.sj_tape.specs.Parts.{AreItemNodes};
 
@@ -47,7 +47,7 @@ fn split_packed<'t, 'i>(nodes: &'t [Packed<'i>]) -> (&'t [Packed<'i>], &'t [Pack
 }
 
 impl<'t, 'i> Value<'t, 'i> {
-    ghost use Rattle.sj_tape.specs.PackedTree.{packed_tree};
+    ghost use Rattle.sj_tape.specs.inner.PackedTree.{packed_tree};
     ghost use Rattle.sj_tape.specs.Value.{tree};
 
     /// Its nodes, where they are packed.
@@ -62,7 +62,7 @@ impl<'t, 'i> Value<'t, 'i> {
 impl<'t, 'i> PackedTree<'t, 'i> {
     ghost use Rattle.std.specs.Prelude.{◌≡◌};
     ghost use Rattle.sj_text_core.specs.Nodes.{flat};
-    ghost use Rattle.sj_tape.specs.PackedTree.{packed_tree};
+    ghost use Rattle.sj_tape.specs.inner.PackedTree.{packed_tree};
 
     /// The nodes.
     pub(super) fn nodes(&self) -> &'t [Packed<'i>]
@@ -79,8 +79,8 @@ impl<'t, 'i> Parts for PackedTree<'t, 'i> {
 
     type Key = PackedKey<'i>;
 
-    ghost use Rattle.sj_tape.specs.PackedKey.{packed_key};
-    ghost use Rattle.sj_tape.specs.PackedTree.{packed_tree, packed_items, packed_members};
+    ghost use Rattle.sj_tape.specs.inner.PackedKey.{packed_key};
+    ghost use Rattle.sj_tape.specs.inner.PackedTree.{packed_tree, packed_items, packed_members};
 
     ghost tree_of = { packed_tree };
 

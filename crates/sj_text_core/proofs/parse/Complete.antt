@@ -5,7 +5,7 @@ use Rattle.std.proofs.lemmas.Bool.Decides.{nat_tests}
 use Rattle.std.proofs.lemmas.List.{drop_at, take_at}
 use Rattle.sj_text_core.specs.Tree.{Tree, null, boolean, int, text, list, obj, Items, no_items, item, Members, no_members, member, depth, items_depth, members_depth, items_len, members_len, listed, paired}
 use Rattle.sj_text_core.specs.Grammar.{IsSpace, IsBlank, IsDigit, IsString, IsNumeral, IsNumber, Spaced, Spelling, MoreItems, MoreMembers, value_of, number_of}
-use Rattle.sj_text_core.specs.Parse.{Read, is_space, after_blank, text_at, is_digit, digits_len, goes_on, numeral_at, number_at, separator_at, separator_or, with_first, parts_at, all_parts_at, list_at, obj_at, member_at, after_key, value_at}
+use Rattle.sj_text_core.specs.inner.Parse.{Read, is_space, after_blank, text_at, is_digit, digits_len, goes_on, numeral_at, number_at, separator_at, separator_or, with_first, parts_at, all_parts_at, list_at, obj_at, member_at, after_key, value_at}
 use Rattle.sj_text_core.specs.Tree.{items_from, members_from}
 use Rattle.sj_text_core.proofs.parse.Strings.{string_read}
 use Rattle.sj_text_core.proofs.parse.Numbers.{numeral_is}

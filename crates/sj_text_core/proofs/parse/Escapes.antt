@@ -10,7 +10,7 @@ use Rattle.std.proofs.lemmas.Bool.{and_parts, ltb-true, ltb-false}
 use Rattle.std.proofs.lemmas.Str.{encode_ascii, length-encode}
 use Rattle.sj_text_core.proofs.Characters.{hex_ascii, short_ascii, short_scalar}
 use Rattle.sj_text_core.specs.Grammar.{IsUnit, IsItem, short_escape}
-use Rattle.sj_text_core.specs.Parse.{Read, is_hex, unit_at, is_high, is_low, pair_with, pair_at, code_with, code_at, escape_at, with_front, text_from, text_at}
+use Rattle.sj_text_core.specs.inner.Parse.{Read, is_hex, unit_at, is_high, is_low, pair_with, pair_at, code_with, code_at, escape_at, with_front, text_from, text_at}
 
 -- a counter of bytes passes over them
 pub text_skip : (k : ℕ) (b : List ℕ) → text_from k b ≡ text_at (drop k b)

@@ -7,7 +7,7 @@ use Rattle.std.proofs.lemmas.Grind.{common_steps}
 use Rattle.std.proofs.lemmas.Bool.Decides.{nat_tests}
 use Rattle.sj_text_core.specs.Tree.{Tree}
 use Rattle.sj_text_core.specs.Grammar.{value_of, number_of}
-use Rattle.sj_text_core.specs.Parse.{numeral_at, goes_on}
+use Rattle.sj_text_core.specs.inner.Parse.{numeral_at, goes_on}
 
 abbrev pub step : ℕ → ℕ → ℕ
 step n c = n * 10 + (c - 48)

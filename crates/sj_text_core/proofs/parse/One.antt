@@ -2,7 +2,7 @@
 use Rattle.std.proofs.Common.{◌≡◌, ℕ, ◌≤◌, max, List, [], ◌++◌, Some, option_and_then, refl, sym, ap, ◌∙◌, subst, arith, append-nil, unwrap_or}
 use Rattle.sj_text_core.specs.Tree.{Tree, depth, IsProper}
 use Rattle.sj_text_core.specs.Grammar.{Spells}
-use Rattle.sj_text_core.specs.Parse.{tree_at, value_at, after_blank, last}
+use Rattle.sj_text_core.specs.inner.Parse.{tree_at, value_at, after_blank, last}
 use Rattle.sj_text_core.specs.Print.{compact, pretty, recarry}
 use Rattle.sj_text_core.proofs.Printed.{compact-spells, pretty-spells}
 use Rattle.sj_text_core.proofs.parse.Complete.{read_again, after_blank-append, solid_stays, spelling_solid, ends_blank}

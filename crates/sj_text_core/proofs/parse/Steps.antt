@@ -3,7 +3,7 @@ use Rattle.std.proofs.Common.{◌≡◌, ◌≢◌, ◌⊎◌, ℕ, suc, ◌+◌
 use Rattle.std.specs.List.{AllByRecursion}
 use Rattle.std.proofs.lemmas.Bool.Decides.{nat_tests, eqb_tells}
 use Rattle.sj_text_core.specs.Grammar.{IsSpace, IsBlank, IsDigit}
-use Rattle.sj_text_core.specs.Parse.{is_space, after_blank, is_digit, digits_len, separator_or}
+use Rattle.sj_text_core.specs.inner.Parse.{is_space, after_blank, is_digit, digits_len, separator_or}
 
 -- by a truth value
 pub by_cases : {P : Type 0} (b : Bool) → (b ≡ true → P) → (b ≡ false → P) → P

@@ -12,7 +12,7 @@ use Rattle.std.proofs.lemmas.List.{take-append-le, drop-append-le, get_or_append
 use Rattle.std.proofs.lemmas.Bool.{and_parts, lt-ltb}
 use Rattle.std.proofs.lemmas.Str.{encode_ascii, IsUtf8-drop, IsCharBoundary-after_ascii, length-encode}
 use Rattle.sj_text_core.specs.Grammar.{IsHexDigit, IsRaw, IsShort, IsCode, IsPair, IsItem, AreItems, IsString, short_escape}
-use Rattle.sj_text_core.specs.Parse.{is_hex, unit_at, is_high, is_low, pair_with, pair_at, code_with, code_at, escape_at, with_front, text_from, text_at}
+use Rattle.sj_text_core.specs.inner.Parse.{is_hex, unit_at, is_high, is_low, pair_with, pair_at, code_with, code_at, escape_at, with_front, text_from, text_at}
 use Rattle.sj_text_core.proofs.parse.Escapes.{quote, backslash, control, plain, text_skip, text_quote, with_escape, text_backslash, text_control, with_front_some, text_run, Byte, byte_of, text_ends, encode_plain, escape_sound, false-true}
 
 -- what is spelled is read

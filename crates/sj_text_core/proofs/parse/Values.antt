@@ -3,7 +3,7 @@ use Rattle.std.proofs.Common.{◌≡◌, ◌≢◌, ℕ, zero, suc, List, ◌∷
 use Rattle.std.proofs.lemmas.Grind.{common_steps}
 use Rattle.std.proofs.lemmas.Bool.Decides.{nat_tests}
 use Rattle.sj_text_core.specs.Tree.{Tree}
-use Rattle.sj_text_core.specs.Parse.{Read, number_at, list_at, obj_at, value_at, value_by, nothing_at}
+use Rattle.sj_text_core.specs.inner.Parse.{Read, number_at, list_at, obj_at, value_at, value_by, nothing_at}
 
 -- a value that begins with none of these is a number
 pub value_by_other : (f g : List ℕ → Read Tree) (c : ℕ) (b : List ℕ) → c ≢ 34 → c ≢ 91 → c ≢ 123 → c ≢ 110 → c ≢ 116 → c ≢ 102 → value_by f g (c ∷ b) ≡ number_at (c ∷ b)

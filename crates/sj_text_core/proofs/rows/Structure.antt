@@ -3,7 +3,7 @@ use Rattle.std.proofs.Common.{◌≡◌, ℕ, zero, suc, List, [], refl, sym, �
 use Rattle.std.proofs.lemmas.Option.{none-some}
 use Rattle.sj_text_core.specs.Tree.{Tree, depth}
 use Rattle.sj_text_core.specs.Grammar.{Spells}
-use Rattle.sj_text_core.specs.Parse.{tree_at, value_at, parts_at, text_from}
+use Rattle.sj_text_core.specs.inner.Parse.{tree_at, value_at, parts_at, text_from}
 use Rattle.sj_text_core.proofs.parse.One.{complete}
 
 -- what is not read at any depth is not spelled

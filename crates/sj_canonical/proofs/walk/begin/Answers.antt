@@ -3,7 +3,7 @@ use Rattle.std.proofs.lemmas.Result.{on_ok_weaker}
 use Rattle.sj_text_core.specs.Print.{compact}
 use Rattle.sj_text_core.specs.Scalars.{static_tree}
 use Rattle.sj_canonical.specs.Canonical.{canonical_by}
-use Rattle.sj_canonical.specs.Walks.{members_rest, pair_of, rest}
+use Rattle.sj_canonical.specs.inner.Walks.{members_rest, pair_of, rest}
 use Rattle.sj_canonical.specs.declared.walk.Ahead.TheVariants as ahead
 use Rattle.sj_canonical.proofs.Rests.{compact_some, canonical-static, list-rest, obj-rest, moves, opened}
 use Rattle.sj_canonical.proofs.walk.begin.Goals as goal

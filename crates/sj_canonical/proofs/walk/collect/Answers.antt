@@ -1,7 +1,7 @@
 use Rattle.std.proofs.Common.{◌++◌, ◌∷◌, [], map, sym, ap, ◌∙◌, subst, append-nil, append_assoc, IsUtf8}
 use Rattle.std.proofs.lemmas.List.{map-append}
-use Rattle.sj_canonical.specs.Picks.{AreTexts}
-use Rattle.sj_canonical.specs.Walks.{pair_of}
+use Rattle.sj_canonical.specs.inner.Picks.{AreTexts}
+use Rattle.sj_canonical.specs.inner.Walks.{pair_of}
 use Rattle.sj_canonical.proofs.Picked.{texts-push}
 use Rattle.sj_canonical.proofs.walk.collect.Goals as goal
 

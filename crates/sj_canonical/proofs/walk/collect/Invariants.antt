@@ -1,6 +1,6 @@
 use Rattle.std.proofs.Common.{◌≡◌, ◌++◌, map, length}
-use Rattle.sj_canonical.specs.Picks.{AreTexts}
-use Rattle.sj_canonical.specs.Walks.{pair_of}
+use Rattle.sj_canonical.specs.inner.Picks.{AreTexts}
+use Rattle.sj_canonical.specs.inner.Walks.{pair_of}
 use Rattle.sj_canonical.proofs.walk.collect.Given as goal
 
 abbrev pub invariant-loop-member : goal.invariant-loop-member

@@ -2,7 +2,7 @@ use Rattle.std.proofs.Common.{ap, true}
 use Rattle.std.proofs.lemmas.Result.{on_ok_weaker}
 use Rattle.sj_text_core.specs.Print.{compact}
 use Rattle.sj_canonical.specs.Canonical.{canonical_by}
-use Rattle.sj_canonical.specs.Walks.{comma, items_rest}
+use Rattle.sj_canonical.specs.inner.Walks.{comma, items_rest}
 use Rattle.sj_canonical.specs.declared.walk.Ahead.TheVariants as ahead
 use Rattle.sj_canonical.proofs.Rests.{part_next, moves_behind}
 use Rattle.sj_canonical.proofs.walk.further_item.Goals as goal

@@ -2,7 +2,7 @@ use Rattle.std.proofs.Common.{◌++◌, ◌∷◌, [], ap, ◌∙◌, true, map,
 use Rattle.std.proofs.lemmas.Result.{on_ok_weaker}
 use Rattle.sj_text_core.specs.Print.{quoted, compact}
 use Rattle.sj_canonical.specs.Canonical.{canonical_by}
-use Rattle.sj_canonical.specs.Walks.{comma, members_rest, pair_of}
+use Rattle.sj_canonical.specs.inner.Walks.{comma, members_rest, pair_of}
 use Rattle.sj_canonical.specs.declared.walk.Ahead.TheVariants as ahead
 use Rattle.sj_canonical.proofs.Rests.{part_next, moves_behind, keyed}
 use Rattle.sj_canonical.proofs.walk.further_member.Goals as goal

@@ -1,8 +1,8 @@
 use Rattle.std.proofs.Common.{ap, ◌∙◌, map, rules}
 use Rattle.std.proofs.lemmas.Fn.{dedup_same}
 use Rattle.std.proofs.lemmas.List.Sorted.{answers_always}
-use Rattle.sj_canonical.specs.Picks.{by_choice, sorted, thinned}
-use Rattle.sj_canonical.specs.Walks.{pair_of}
+use Rattle.sj_canonical.specs.inner.Picks.{by_choice, sorted, thinned}
+use Rattle.sj_canonical.specs.inner.Walks.{pair_of}
 use Rattle.sj_canonical.proofs.Sorted.{sorts}
 use Rattle.sj_canonical.proofs.Pairs.{by_key, by_key-order, same_key, in_order-pairs, pairs-deduped, pairs-choice}
 use Rattle.sj_canonical.proofs.walk.pick.Goals as goal

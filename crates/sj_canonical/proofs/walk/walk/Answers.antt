@@ -1,5 +1,5 @@
 use Rattle.std.proofs.Common.{◌++◌, sym, ap, ◌∙◌, length, arith}
-use Rattle.sj_canonical.specs.Walks.{rest}
+use Rattle.sj_canonical.specs.inner.Walks.{rest}
 use Rattle.sj_canonical.proofs.Rests.{rest_push, moves-whole, moves-fewer, begun-on}
 use Rattle.sj_canonical.proofs.walk.walk.Goals as goal
 

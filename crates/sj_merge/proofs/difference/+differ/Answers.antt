@@ -10,7 +10,7 @@ use Rattle.sj_object.proofs.Shown.{lookup-entry_members, entry_members-put}
 use Rattle.sj_document.specs.Document.{tree}
 use Rattle.sj_document.proofs.Trees.{Map, tree-Object}
 use Rattle.sj_merge.specs.MergeDiff.{patch_members}
-use Rattle.sj_merge.specs.Change.{IsChange}
+use Rattle.sj_merge.specs.inner.Change.{IsChange}
 use Rattle.sj_merge.specs.declared.difference.Change.TheVariants.{Stays, Impossible, Becomes}
 use Rattle.sj_merge.proofs.Told.{is_same}
 use Rattle.sj_merge.proofs.Changes.{single_object, single_found, impossible, not_empty, no_object, stays, empty_entries, patch_of, if_ok}

@@ -8,7 +8,7 @@ use Rattle.sj_object.proofs.Shown.{lookup-entry_members, entry_members-set_value
 use Rattle.sj_document.specs.Document.{tree}
 use Rattle.sj_document.specs.declared.value.Document.{Object, the_lemmas}
 use Rattle.sj_document.proofs.Trees.{Map, tree-Object}
-use Rattle.sj_merge.specs.Log.{in_object, finished_one, finished}
+use Rattle.sj_merge.specs.inner.Log.{in_object, finished_one, finished}
 use Rattle.sj_merge.proofs.Passing.{changed-found, changed-absent}
 use Rattle.sj_merge.proofs.Logs.{depth_of, log_depth, depth-Within, finished-Goes, finished-Within}
 use Rattle.sj_merge.proofs.in_place.+finish.Goals as goal

@@ -2,7 +2,7 @@ use Rattle.std.proofs.Common.{◌≡◌, ◌≤◌, ◌+◌, ◌*◌}
 use Rattle.std.specs.Vec.Iter.{into_iter_items}
 use Rattle.sj_object.specs.Members.{entry_members}
 use Rattle.sj_document.specs.Document.{tree}
-use Rattle.sj_merge.specs.Log.{finished}
+use Rattle.sj_merge.specs.inner.Log.{finished}
 use Rattle.sj_merge.proofs.Logs.{depth_of, log_depth}
 use Rattle.sj_merge.proofs.in_place.+finish.Given as goal
 

@@ -12,7 +12,7 @@ use Rattle.sj_document.specs.Document.{tree}
 use Rattle.sj_document.specs.declared.value.Document.{Object, the_lemmas}
 use Rattle.sj_document.proofs.Trees.{Map, tree-Object}
 use Rattle.sj_merge.specs.Merge.{merged, merged_members, target_members}
-use Rattle.sj_merge.specs.Log.{finished_one, finished, undone}
+use Rattle.sj_merge.specs.inner.Log.{finished_one, finished, undone}
 use Rattle.sj_merge.proofs.Pairs.{null_of, no_null, merged-none, merged_whole}
 use Rattle.sj_merge.proofs.Passing.{passes_as, both-pass}
 use Rattle.sj_merge.proofs.Logs.{finished-last, undone-last}

@@ -6,7 +6,7 @@ use Rattle.sj_object.specs.Entries.{entries_of, texts}
 use Rattle.sj_object.specs.Members.{entry_members}
 use Rattle.sj_document.specs.Document.{tree}
 use Rattle.sj_merge.specs.Merge.{merged_members}
-use Rattle.sj_merge.specs.Log.{finished, undone, Passes}
+use Rattle.sj_merge.specs.inner.Log.{finished, undone, Passes}
 use Rattle.sj_merge.proofs.in_place.+merge.Given as goal
 
 abbrev pub invariant-merge_within-loop-key : goal.invariant-merge_within-loop-key

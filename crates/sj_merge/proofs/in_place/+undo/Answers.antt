@@ -7,7 +7,7 @@ use Rattle.sj_object.proofs.Shown.{lookup-entry_members, entry_members-set_value
 use Rattle.sj_document.specs.Document.{tree}
 use Rattle.sj_document.specs.declared.value.Document.{Object, the_lemmas}
 use Rattle.sj_document.proofs.Trees.{Map, tree-Object}
-use Rattle.sj_merge.specs.Log.{in_object, undone_one, undone}
+use Rattle.sj_merge.specs.inner.Log.{in_object, undone_one, undone}
 use Rattle.sj_merge.proofs.Passing.{changed-found, changed-absent}
 use Rattle.sj_merge.proofs.Logs.{log_depth, depth-last, undone-Added, undone-Swapped, undone-Within, undone-last, popped}
 use Rattle.sj_merge.proofs.in_place.+undo.Goals as goal

@@ -1,7 +1,7 @@
 use Rattle.std.proofs.Common.{◌≡◌, ◌≤◌, ◌+◌, ◌*◌, length}
 use Rattle.sj_object.specs.Members.{entry_members}
 use Rattle.sj_document.specs.Document.{tree}
-use Rattle.sj_merge.specs.Log.{undone}
+use Rattle.sj_merge.specs.inner.Log.{undone}
 use Rattle.sj_merge.proofs.Logs.{depth_of, log_depth}
 use Rattle.sj_merge.proofs.in_place.+undo.Given as goal
 

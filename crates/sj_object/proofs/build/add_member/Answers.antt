@@ -3,7 +3,7 @@ use Rattle.sj_text_core.specs.Keep.{is_seen}
 use Rattle.sj_tape.specs.Stretches.{nodes_in}
 use Rattle.sj_tape.proofs.Stretched.{few}
 use Rattle.sj_object.specs.Entries.{texts}
-use Rattle.sj_object.specs.Piles.{first_mark, made_of, pile}
+use Rattle.sj_object.specs.inner.Piles.{first_mark, made_of, pile}
 use Rattle.sj_object.proofs.PileEntries.{add_none, add_one}
 use Rattle.sj_object.proofs.Piles.{whole_at}
 use Rattle.sj_object.proofs.build.add_member.Goals as goal

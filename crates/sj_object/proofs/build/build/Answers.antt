@@ -2,7 +2,7 @@ use Rattle.std.proofs.Common.{rules, ◌≡◌, ◌-◌, [], All, drop, refl, sy
 use Rattle.std.proofs.lemmas.List.Elements.{All-nil}
 use Rattle.std.proofs.lemmas.Result.{IfOk-weaker}
 use Rattle.sj_tape.specs.Stretches.{nodes_in}
-use Rattle.sj_object.specs.Piles.{pile, made_of, IsThere, Needs, grown}
+use Rattle.sj_object.specs.inner.Piles.{pile, made_of, IsThere, Needs, grown}
 use Rattle.sj_object.proofs.Piles.{ahead, turn_at, last_one, first_at, preorder_some, nothing_ahead}
 use Rattle.sj_object.proofs.build.build.Goals as goal
 

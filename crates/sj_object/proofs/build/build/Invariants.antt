@@ -1,6 +1,6 @@
 use Rattle.std.proofs.Common.{◌≡◌, ◌≤◌, drop, length, All}
 use Rattle.sj_tape.specs.Stretches.{nodes_in}
-use Rattle.sj_object.specs.Piles.{pile}
+use Rattle.sj_object.specs.inner.Piles.{pile}
 use Rattle.sj_object.proofs.Piles.{ahead}
 use Rattle.sj_object.proofs.build.build.Given as goal
 

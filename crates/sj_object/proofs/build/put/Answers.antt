@@ -2,7 +2,7 @@ use Rattle.std.proofs.Common.{◌∷◌, [], arith, refl, sym, ap, ◌∙◌, su
 use Rattle.sj_text_core.specs.Tree.{list, obj, items_from, members_from}
 use Rattle.sj_tape.specs.Marks.{mark}
 use Rattle.sj_tape.specs.Stretches.{nodes_in}
-use Rattle.sj_object.specs.Piles.{pile, taken, left, taken_pairs, left_pairs, kept_by, grown, Needs, CanTakeItems, CanTakePairs}
+use Rattle.sj_object.specs.inner.Piles.{pile, taken, left, taken_pairs, left_pairs, kept_by, grown, Needs, CanTakeItems, CanTakePairs}
 use Rattle.sj_object.proofs.Piles.{array_on, object_on, begins_with, some_node}
 use Rattle.sj_object.proofs.build.put.Goals as goal
 

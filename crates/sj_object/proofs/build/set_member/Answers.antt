@@ -2,7 +2,7 @@ use Rattle.std.proofs.Common.{sym, ap, ◌∙◌, subst, arith}
 use Rattle.sj_tape.specs.Stretches.{nodes_in}
 use Rattle.sj_tape.proofs.Stretched.{few}
 use Rattle.sj_object.specs.Builder.{AreMade}
-use Rattle.sj_object.specs.Piles.{first_mark, made_of, pile}
+use Rattle.sj_object.specs.inner.Piles.{first_mark, made_of, pile}
 use Rattle.sj_object.proofs.PileEntries.{set_one, made_put}
 use Rattle.sj_object.proofs.Piles.{whole_at}
 use Rattle.sj_object.proofs.build.set_member.Goals as goal

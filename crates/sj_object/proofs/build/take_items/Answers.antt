@@ -2,7 +2,7 @@ use Rattle.std.proofs.Common.{rules, ◌≡◌, ◌+◌, ◌-◌, suc, [], ◌++
 use Rattle.std.proofs.lemmas.List.Elements.{All-nil, All-push}
 use Rattle.sj_tape.specs.Stretches.{nodes_in}
 use Rattle.sj_tape.proofs.Stretched.{few}
-use Rattle.sj_object.specs.Piles.{pile, taken, left, CanTakeItems}
+use Rattle.sj_object.specs.inner.Piles.{pile, taken, left, CanTakeItems}
 use Rattle.sj_object.proofs.Piles.{one_item, map_push}
 use Rattle.sj_object.proofs.build.take_items.Goals as goal
 

@@ -1,6 +1,6 @@
 use Rattle.std.proofs.Common.{◌≡◌, ◌-◌, ◌++◌, map, drop, All}
 use Rattle.sj_tape.specs.Stretches.{nodes_in}
-use Rattle.sj_object.specs.Piles.{pile, taken, left, CanTakeItems}
+use Rattle.sj_object.specs.inner.Piles.{pile, taken, left, CanTakeItems}
 use Rattle.sj_object.proofs.build.take_items.Given as goal
 
 abbrev pub invariant-loop-i : goal.invariant-loop-i

@@ -4,7 +4,7 @@ use Rattle.sj_tape.specs.Marks.{text_in}
 use Rattle.sj_tape.specs.Stretches.{nodes_in}
 use Rattle.sj_tape.proofs.Stretched.{few}
 use Rattle.sj_object.proofs.Strings.{text_key}
-use Rattle.sj_object.specs.Piles.{pile, first_mark, made_of, left_of, CanTake, taken_pairs, left_pairs, CanTakePairs, kept_by, shown}
+use Rattle.sj_object.specs.inner.Piles.{pile, first_mark, made_of, left_of, CanTake, taken_pairs, left_pairs, CanTakePairs, kept_by, shown}
 use Rattle.sj_object.proofs.PileEntries.{kept_more}
 use Rattle.sj_object.proofs.Piles.{one_member}
 use Rattle.sj_object.proofs.build.take_members.Goals as goal

@@ -1,7 +1,7 @@
 use Rattle.std.proofs.Common.{◌≡◌, ◌-◌, [], drop, All}
 use Rattle.sj_tape.specs.Stretches.{nodes_in}
 use Rattle.sj_object.specs.Builder.{AreMade}
-use Rattle.sj_object.specs.Piles.{pile, taken_pairs, left_pairs, CanTakePairs, kept_by, shown}
+use Rattle.sj_object.specs.inner.Piles.{pile, taken_pairs, left_pairs, CanTakePairs, kept_by, shown}
 use Rattle.sj_object.proofs.build.take_members.Given as goal
 
 abbrev pub invariant-loop-i : goal.invariant-loop-i

@@ -1,6 +1,6 @@
 use Rattle.std.proofs.Common.{◌≡◌, Ok, IfErr, OnOk, subst}
 use Rattle.sj_document.specs.Document.{tree}
-use Rattle.sj_patch.specs.Changed.{Refuses}
+use Rattle.sj_patch.specs.inner.Changed.{Refuses}
 use Rattle.sj_patch.proofs.Logged.{swap-replaced}
 use Rattle.sj_patch.proofs.apply.replace.Goals as goal
 

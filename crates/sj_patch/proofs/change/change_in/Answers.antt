@@ -1,6 +1,6 @@
 use Rattle.std.proofs.Common.{[], ◌∷◌, sym, subst}
 use Rattle.sj_document.specs.Document.{tree}
-use Rattle.sj_patch.specs.Changed.{Does}
+use Rattle.sj_patch.specs.inner.Changed.{Does}
 use Rattle.sj_patch.specs.declared.change.Change.TheVariants.{Swap}
 use Rattle.sj_patch.specs.declared.change.Done.{Done}
 use Rattle.sj_patch.specs.declared.reversal.Reversal.TheVariants as reversal

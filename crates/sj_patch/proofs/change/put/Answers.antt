@@ -1,7 +1,7 @@
 use Rattle.std.proofs.Common.{◌≡◌, rules, Box, Vec, Global, [], ◌∷◌, ap, ◌∙◌}
 use Rattle.sj_document.specs.declared.value.Document.{Document, Object, Array, the_lemmas}
 use Rattle.sj_document.proofs.Trees.{Map}
-use Rattle.sj_patch.specs.Changed.{ChangesOrReturns}
+use Rattle.sj_patch.specs.inner.Changed.{ChangesOrReturns}
 use Rattle.sj_patch.specs.declared.change.Change.TheVariants.{Put}
 use Rattle.sj_patch.proofs.Holders.{in_object, in_array}
 use Rattle.sj_patch.proofs.change.put.Goals as goal

@@ -1,7 +1,7 @@
 use Rattle.std.proofs.Common.{map, take}
 use Rattle.sj_text_core.specs.Same.{Same}
 use Rattle.sj_document.specs.Document.{tree}
-use Rattle.sj_patch.specs.Noted.{array}
+use Rattle.sj_patch.specs.inner.Noted.{array}
 use Rattle.sj_patch.proofs.ends.same_from_the_front.Given as goal
 
 abbrev pub invariant-loop-i : goal.invariant-loop-i

@@ -3,7 +3,7 @@ use Rattle.std.specs.Vec.{vec_capacity}
 use Rattle.sj_text_core.specs.Tree.{list}
 use Rattle.sj_object.specs.Rooms.{places}
 use Rattle.sj_document.proofs.Arrays.{items_seen}
-use Rattle.sj_patch.specs.Changed.{gaps_filled}
+use Rattle.sj_patch.specs.inner.Changed.{gaps_filled}
 use Rattle.sj_patch.proofs.Gathered.{fill_full, members_in_list}
 use Rattle.sj_patch.proofs.gaps.fill_items.Goals as goal
 

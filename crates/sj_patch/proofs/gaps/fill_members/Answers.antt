@@ -4,7 +4,7 @@ use Rattle.sj_text_core.specs.Tree.{obj}
 use Rattle.sj_object.specs.Members.{entry_members}
 use Rattle.sj_object.specs.Rooms.{places}
 use Rattle.sj_document.specs.Document.{tree}
-use Rattle.sj_patch.specs.Changed.{gaps_filled}
+use Rattle.sj_patch.specs.inner.Changed.{gaps_filled}
 use Rattle.sj_patch.proofs.Gathered.{restored_all-seen, items_in_object}
 use Rattle.sj_patch.proofs.gaps.fill_members.Goals as goal
 

@@ -1,6 +1,6 @@
 use Rattle.std.proofs.Common.{◌≡◌, true, false, length, refl, sym, ap, ◌∙◌, arith}
 use Rattle.std.specs.List.{insert}
-use Rattle.sj_patch.specs.Changed.{is_placed}
+use Rattle.sj_patch.specs.inner.Changed.{is_placed}
 use Rattle.sj_patch.proofs.Backs.{placed-below, placed-within}
 use Rattle.sj_patch.proofs.Gathered.{fill_placed, fill_unplaced}
 use Rattle.sj_patch.proofs.gaps.put_back_items.Goals as goal

@@ -1,7 +1,7 @@
 use Rattle.std.proofs.Common.{◌≡◌, ◌≤◌, vec_len, vec_capacity}
 use Rattle.sj_text_core.specs.Tree.{list}
 use Rattle.sj_document.proofs.Arrays.{items_seen}
-use Rattle.sj_patch.specs.Changed.{items_filled}
+use Rattle.sj_patch.specs.inner.Changed.{items_filled}
 use Rattle.sj_patch.proofs.gaps.put_back_items.Given as goal
 
 abbrev pub invariant-loop-index : goal.invariant-loop-index

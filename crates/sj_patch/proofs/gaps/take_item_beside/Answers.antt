@@ -1,7 +1,7 @@
 use Rattle.std.proofs.Common.{sym, subst, arith}
 use Rattle.sj_text_core.specs.Tree.{list}
 use Rattle.sj_document.proofs.Arrays.{items_seen}
-use Rattle.sj_patch.specs.Changed.{Takes}
+use Rattle.sj_patch.specs.inner.Changed.{Takes}
 use Rattle.sj_patch.specs.declared.gaps.Gap.TheVariants.{Item}
 use Rattle.sj_patch.proofs.Taken.{took_item}
 use Rattle.sj_patch.proofs.gaps.take_item_beside.Goals as goal

@@ -2,7 +2,7 @@ use Rattle.std.proofs.Common.{sym, subst, arith}
 use Rattle.sj_text_core.specs.Tree.{obj}
 use Rattle.sj_object.specs.Members.{entry_members}
 use Rattle.sj_document.specs.Document.{tree}
-use Rattle.sj_patch.specs.Changed.{Takes}
+use Rattle.sj_patch.specs.inner.Changed.{Takes}
 use Rattle.sj_patch.specs.declared.gaps.Gap.TheVariants.{Member}
 use Rattle.sj_patch.proofs.Taken.{took_member}
 use Rattle.sj_patch.proofs.gaps.take_member_beside.Goals as goal

@@ -1,6 +1,6 @@
 use Rattle.std.proofs.Common.{◌≡◌, ◌<◌, ◌++◌, rules, arith, map, take, drop, length, get_or, slice_set, add-one, sym, ap, subst}
 use Rattle.std.specs.Vec.Iter.{into_iter_items}
-use Rattle.sj_patch.specs.Filled.{filled_all}
+use Rattle.sj_patch.specs.inner.Filled.{filled_all}
 use Rattle.sj_patch.specs.Meant.{meant}
 use Rattle.sj_patch.proofs.Behind.{seen}
 use Rattle.sj_patch.proofs.Filling.{filled_further}

@@ -1,6 +1,6 @@
 use Rattle.std.proofs.Common.{◌≡◌, ◌++◌, map, take, drop}
 use Rattle.std.specs.Vec.Iter.{into_iter_items}
-use Rattle.sj_patch.specs.Filled.{filled_all}
+use Rattle.sj_patch.specs.inner.Filled.{filled_all}
 use Rattle.sj_patch.specs.Meant.{meant}
 use Rattle.sj_patch.proofs.Behind.{seen}
 use Rattle.sj_patch.proofs.reading.fill_all.Given as goal

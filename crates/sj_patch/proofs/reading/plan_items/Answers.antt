@@ -1,7 +1,7 @@
 use Rattle.std.proofs.Common.{◌≡◌, ◌+◌, [], ◌∷◌, ◌++◌, length, map, drop, ap, ◌∙◌}
 use Rattle.std.proofs.lemmas.List.{map-append, length_push}
 use Rattle.sj_document.specs.Document.{tree}
-use Rattle.sj_patch.specs.Filled.{filled, filled_all}
+use Rattle.sj_patch.specs.inner.Filled.{filled, filled_all}
 use Rattle.sj_patch.specs.Meant.{meant}
 use Rattle.sj_patch.specs.Operations.{operations_from}
 use Rattle.sj_patch.proofs.Behind.{behind, seen, behind-turn, behind-fault}

@@ -1,5 +1,5 @@
 use Rattle.std.proofs.Common.{◌≡◌, length, map, drop}
-use Rattle.sj_patch.specs.Filled.{filled_all}
+use Rattle.sj_patch.specs.inner.Filled.{filled_all}
 use Rattle.sj_patch.specs.Meant.{meant}
 use Rattle.sj_patch.specs.Operations.{operations_from}
 use Rattle.sj_patch.proofs.Behind.{behind, seen}

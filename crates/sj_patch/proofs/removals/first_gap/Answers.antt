@@ -1,5 +1,5 @@
 use Rattle.std.proofs.Common.{◌≡◌, [], ◌∷◌, refl, sym, subst}
-use Rattle.sj_patch.specs.Changed.{IsFirstGap}
+use Rattle.sj_patch.specs.inner.Changed.{IsFirstGap}
 use Rattle.sj_patch.specs.declared.gaps.Gaps.TheVariants.{Members, Items}
 use Rattle.sj_patch.proofs.Gathered.{first_member, first_item}
 use Rattle.sj_patch.proofs.removals.first_gap.Goals as goal

@@ -1,5 +1,5 @@
 use Rattle.std.proofs.Common.{◌≡◌, [], ◌∷◌, ◌++◌, refl, sym, ap, ◌∙◌}
-use Rattle.sj_patch.specs.Changed.{undone}
+use Rattle.sj_patch.specs.inner.Changed.{undone}
 use Rattle.sj_patch.proofs.Logged.{undone-last}
 use Rattle.sj_patch.proofs.removals.gather.Goals as goal
 

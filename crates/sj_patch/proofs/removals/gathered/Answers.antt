@@ -1,6 +1,6 @@
 use Rattle.std.proofs.Common.{◌-◌, length, map, take, string_bytes, sym, ap, ◌∙◌}
 use Rattle.sj_document.specs.Document.{tree}
-use Rattle.sj_patch.specs.Changed.{undone_at}
+use Rattle.sj_patch.specs.inner.Changed.{undone_at}
 use Rattle.sj_patch.proofs.Gathered.{gathered_gap, ends_tokens}
 use Rattle.sj_patch.proofs.removals.gathered.Goals as goal
 

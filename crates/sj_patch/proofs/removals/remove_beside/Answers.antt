@@ -1,6 +1,6 @@
 use Rattle.std.proofs.Common.{◌≡◌, [], ◌∷◌, ◌++◌, refl, sym, ap, ◌∙◌}
 use Rattle.sj_document.specs.Document.{tree}
-use Rattle.sj_patch.specs.Changed.{undone}
+use Rattle.sj_patch.specs.inner.Changed.{undone}
 use Rattle.sj_patch.proofs.Logged.{undone-last}
 use Rattle.sj_patch.proofs.removals.remove_beside.Goals as goal
 

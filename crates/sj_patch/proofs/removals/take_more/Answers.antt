@@ -1,6 +1,6 @@
 use Rattle.std.proofs.Common.{map, string_bytes, ap, ◌∙◌, subst}
 use Rattle.sj_document.specs.Document.{tree}
-use Rattle.sj_patch.specs.Changed.{TakesBeside, filled_below, gaps_filled}
+use Rattle.sj_patch.specs.inner.Changed.{TakesBeside, filled_below, gaps_filled}
 use Rattle.sj_patch.proofs.Stepped.{filled-alike}
 use Rattle.sj_patch.proofs.Gathered.{taken_back, taken_removed, left_same}
 use Rattle.sj_patch.proofs.removals.take_more.Goals as goal

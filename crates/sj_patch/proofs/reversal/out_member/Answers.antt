@@ -3,7 +3,7 @@ use Rattle.sj_text_core.specs.Tree.{obj}
 use Rattle.sj_object.specs.Members.{entry_members}
 use Rattle.sj_object.proofs.Shown.{lookup-entry_members, entry_members-cut}
 use Rattle.sj_document.specs.Document.{tree}
-use Rattle.sj_patch.specs.Changed.{or_null}
+use Rattle.sj_patch.specs.inner.Changed.{or_null}
 use Rattle.sj_patch.proofs.Leaves.{removed_member, no_member, cut_absent}
 use Rattle.sj_patch.proofs.reversal.out_member.Goals as goal
 

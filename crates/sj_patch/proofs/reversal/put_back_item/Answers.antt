@@ -1,7 +1,7 @@
 use Rattle.std.proofs.Common.{◌≡◌, rules, Box, Vec, Global, ap, ◌∙◌}
 use Rattle.sj_document.specs.Document.{tree}
 use Rattle.sj_document.specs.declared.value.Document.{Document, Array, the_lemmas}
-use Rattle.sj_patch.specs.Changed.{Reverts}
+use Rattle.sj_patch.specs.inner.Changed.{Reverts}
 use Rattle.sj_patch.specs.declared.reversal.Reversal.TheVariants as reversal
 use Rattle.sj_patch.proofs.Holders.{in_array}
 use Rattle.sj_patch.proofs.reversal.put_back_item.Goals as goal

@@ -3,7 +3,7 @@ use Rattle.std.specs.List.{insert}
 use Rattle.std.specs.Vec.{vec_capacity}
 use Rattle.sj_text_core.specs.Tree.{list, items_len}
 use Rattle.sj_document.proofs.Arrays.{items_seen}
-use Rattle.sj_patch.specs.Changed.{is_placed}
+use Rattle.sj_patch.specs.inner.Changed.{is_placed}
 use Rattle.sj_patch.proofs.Items.{items-insert, items_len-seen}
 use Rattle.sj_patch.proofs.Backs.{so, not_so, placed-within}
 use Rattle.sj_patch.proofs.reversal.restore_item.Goals as goal

@@ -7,7 +7,7 @@ use Rattle.sj_object.specs.Edits.{lookup}
 use Rattle.sj_object.specs.Rooms.{places}
 use Rattle.sj_object.proofs.Shown.{lookup-entry_members}
 use Rattle.sj_document.specs.Document.{tree}
-use Rattle.sj_patch.specs.Changed.{is_placed}
+use Rattle.sj_patch.specs.inner.Changed.{is_placed}
 use Rattle.sj_patch.proofs.Backs.{so, not_so, some-map, placed-within, members-insert, members_len-seen, and_false}
 use Rattle.sj_patch.proofs.reversal.restore_member.Goals as goal
 

@@ -2,7 +2,7 @@ use Rattle.std.proofs.Common.{◌≡◌, rules, Box, Vec, Global, ap, ◌∙◌}
 use Rattle.sj_document.specs.Document.{tree}
 use Rattle.sj_document.specs.declared.value.Document.{Document, Object, Array, the_lemmas}
 use Rattle.sj_document.proofs.Trees.{Map}
-use Rattle.sj_patch.specs.Changed.{Reverts}
+use Rattle.sj_patch.specs.inner.Changed.{Reverts}
 use Rattle.sj_patch.specs.declared.reversal.Reversal.TheVariants as reversal
 use Rattle.sj_patch.proofs.Holders.{in_object, in_array}
 use Rattle.sj_patch.proofs.reversal.swap.Goals as goal

@@ -3,7 +3,7 @@ use Rattle.sj_text_core.specs.Tree.{Tree}
 use Rattle.sj_document.specs.Document.{tree}
 use Rattle.sj_pointer.specs.Pointed.{pointed}
 use Rattle.sj_patch.specs.Patch.{added, onwards, or_missing}
-use Rattle.sj_patch.specs.Changed.{Refuses, carried, undone, changed_at}
+use Rattle.sj_patch.specs.inner.Changed.{Refuses, carried, undone, changed_at}
 use Rattle.sj_patch.specs.declared.change.Change.TheVariants.{Take}
 use Rattle.sj_patch.proofs.Within.{refuses_as, refuses_onwards}
 use Rattle.sj_patch.proofs.Logged.{undone-last, logged, take-removed, carried-found}

@@ -1,6 +1,6 @@
 use Rattle.std.proofs.Common.{◌≡◌, [], ◌∷◌, ◌++◌, map, string_bytes, refl, ap, ◌∙◌}
 use Rattle.sj_document.specs.Document.{tree}
-use Rattle.sj_patch.specs.Changed.{undone}
+use Rattle.sj_patch.specs.inner.Changed.{undone}
 use Rattle.sj_patch.specs.declared.steps.Undo.{Undo}
 use Rattle.sj_patch.specs.declared.steps.Undo.TheVariants.{Change}
 use Rattle.sj_patch.proofs.Logged.{undone-last, logged}

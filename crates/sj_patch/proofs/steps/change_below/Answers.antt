@@ -1,6 +1,6 @@
 use Rattle.std.proofs.Common.{map, string_bytes, subst, ap}
 use Rattle.sj_document.specs.Document.{tree}
-use Rattle.sj_patch.specs.Changed.{Returns}
+use Rattle.sj_patch.specs.inner.Changed.{Returns}
 use Rattle.sj_patch.proofs.Within.{changed_below, changed_missing}
 use Rattle.sj_patch.proofs.steps.change_below.Goals as goal
 

@@ -1,6 +1,6 @@
 use Rattle.std.proofs.Common.{map, string_bytes, sym, ◌∙◌}
 use Rattle.sj_document.specs.Document.{tree}
-use Rattle.sj_patch.specs.Changed.{undone_at}
+use Rattle.sj_patch.specs.inner.Changed.{undone_at}
 use Rattle.sj_patch.proofs.Within.{refuses_as}
 use Rattle.sj_patch.proofs.Logged.{put-added, filled_back}
 use Rattle.sj_patch.proofs.steps.put_taken.Goals as goal

@@ -1,5 +1,5 @@
 use Rattle.std.proofs.Common.{◌≡◌, map, take, string_bytes}
-use Rattle.sj_patch.specs.Noted.{token_text}
+use Rattle.sj_patch.specs.inner.Noted.{token_text}
 use Rattle.sj_patch.proofs.token.pointer_of.Given as goal
 
 abbrev pub invariant-loop-token : goal.invariant-loop-token

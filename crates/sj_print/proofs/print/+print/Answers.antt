@@ -3,7 +3,7 @@ use Rattle.sj_text_core.specs.Print.{quoted}
 use Rattle.sj_text_core.specs.Tree.{list, obj, items_from, members_from}
 use Rattle.sj_print.specs.Layouts.{laid, deeper, gap, colon}
 use Rattle.sj_print.specs.Outputs.{AppendsText, HoldsText}
-use Rattle.sj_print.specs.Piles.{items_mark, members_mark, items_weight, members_weight, items_laid, members_laid, ahead_tree, left, PilesUp}
+use Rattle.sj_print.specs.inner.Piles.{items_mark, members_mark, items_weight, members_weight, items_laid, members_laid, ahead_tree, left, PilesUp}
 use Rattle.sj_print.specs.declared.print.Ahead.TheVariants as ahead
 use Rattle.sj_print.proofs.Layouts.{items_laid-item, members_laid-member}
 use Rattle.sj_print.proofs.Piles.{left_push, stored, piled_print, piled_up, piled_part, piled_on}

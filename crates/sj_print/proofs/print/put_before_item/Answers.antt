@@ -1,7 +1,7 @@
 use Rattle.std.proofs.Common.{◌∷◌, sym, subst}
 use Rattle.sj_print.specs.Layouts.{gap}
 use Rattle.sj_print.specs.Outputs.{AppendsText}
-use Rattle.sj_print.specs.Piles.{items_mark}
+use Rattle.sj_print.specs.inner.Piles.{items_mark}
 use Rattle.sj_print.proofs.print.put_before_item.Goals as goal
 
 pub returns-then-is_begun : goal.returns-then-is_begun

@@ -1,5 +1,5 @@
 use Rattle.std.proofs.Common.{rules, ◌≡◌, ◌+◌, ◌*◌, ◌++◌, ◌∷◌, [], map, length, ap, ◌∙◌, arith, length-append}
-use Rattle.sj_tape.specs.Places.{item_at}
+use Rattle.sj_tape.specs.inner.Places.{item_at}
 use Rattle.sj_tape.proofs.ItemPlaces.{item_from, one_place, kept_with}
 use Rattle.sj_tape.proofs.item_places.places_of.Goals as goal
 

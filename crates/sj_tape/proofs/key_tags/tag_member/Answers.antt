@@ -2,7 +2,7 @@ use Rattle.std.proofs.Common.{rules, ◌≡◌, ◌+◌, ◌<◌, ◌^◌, ◌++
 use Rattle.std.proofs.lemmas.List.{length-map}
 use Rattle.sj_text_core.specs.Nodes.{nothing, width}
 use Rattle.sj_tape.specs.Marks.{packed_mark, packed_marks}
-use Rattle.sj_tape.specs.Tags.{MembersFrom}
+use Rattle.sj_tape.specs.inner.Tags.{MembersFrom}
 use Rattle.sj_tape.proofs.MemberPlaces.{next_member_place, tagged_with}
 use Rattle.sj_tape.proofs.key_tags.tag_member.Goals as goal
 

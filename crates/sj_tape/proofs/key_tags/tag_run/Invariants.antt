@@ -1,6 +1,6 @@
 use Rattle.std.proofs.Common.{◌-◌, ◌<◌, ◌≤◌, length}
 use Rattle.sj_tape.specs.Marks.{packed_marks}
-use Rattle.sj_tape.specs.Tags.{AreTags, MembersFrom}
+use Rattle.sj_tape.specs.inner.Tags.{AreTags, MembersFrom}
 use Rattle.sj_tape.proofs.key_tags.tag_run.Given as goal
 
 abbrev pub invariant-loop-tags : goal.invariant-loop-tags

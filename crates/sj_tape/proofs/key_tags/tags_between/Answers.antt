@@ -2,7 +2,7 @@ use Rattle.std.proofs.Common.{rules, ◌≡◌, ◌+◌, ◌*◌, ◌≤◌, ◌
 use Rattle.sj_text_core.specs.Tree.{members_len}
 use Rattle.sj_text_core.specs.Nodes.{members_in}
 use Rattle.sj_tape.specs.Marks.{packed_marks}
-use Rattle.sj_tape.specs.Tags.{member_at}
+use Rattle.sj_tape.specs.inner.Tags.{member_at}
 use Rattle.sj_tape.proofs.MemberPlaces.{member_from, one_member_place, placed_with}
 use Rattle.sj_tape.proofs.key_tags.tags_between.Goals as goal
 

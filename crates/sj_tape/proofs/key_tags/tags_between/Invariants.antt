@@ -1,6 +1,6 @@
 use Rattle.std.proofs.Common.{◌≡◌, ◌*◌, ◌-◌, length, min}
 use Rattle.sj_tape.specs.Marks.{packed_marks}
-use Rattle.sj_tape.specs.Tags.{AreTags, AreMemberPlaces, MembersFrom}
+use Rattle.sj_tape.specs.inner.Tags.{AreTags, AreMemberPlaces, MembersFrom}
 use Rattle.sj_tape.proofs.key_tags.tags_between.Given as goal
 
 abbrev pub invariant-loop-tags : goal.invariant-loop-tags

@@ -1,7 +1,7 @@
 use Rattle.std.proofs.Common.{◌-◌, ◌≤◌, length}
 use Rattle.sj_tape.specs.Marks.{packed_marks}
-use Rattle.sj_tape.specs.Places.{AllPlaced}
-use Rattle.sj_tape.specs.Tags.{AllTagged}
+use Rattle.sj_tape.specs.inner.Places.{AllPlaced}
+use Rattle.sj_tape.specs.inner.Tags.{AllTagged}
 use Rattle.sj_tape.proofs.landmarks.landmarks_in.Given as goal
 
 abbrev pub invariant-loop-at : goal.invariant-loop-at

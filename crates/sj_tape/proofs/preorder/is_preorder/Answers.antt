@@ -1,7 +1,7 @@
 use Rattle.std.proofs.Common.{rules, ◌≡◌, ◌∙◌, ◌-◌, ◌<◌, ◌^◌, ℕ, List, nat_eq, length, drop, ap, sym, subst, arith}
 use Rattle.std.proofs.lemmas.Bool.Decides.{nat_tests}
 use Rattle.std.proofs.lemmas.List.{length-map}
-use Rattle.sj_tape.specs.Fronts.{AllBegin, BeginsTree}
+use Rattle.sj_tape.specs.inner.Fronts.{AllBegin, BeginsTree}
 use Rattle.sj_tape.specs.Marks.{mark, marks}
 use Rattle.sj_tape.proofs.Counts.{begins_first}
 use Rattle.std.proofs.Math.ListN.{get_or-map}

@@ -1,5 +1,5 @@
 use Rattle.std.proofs.Common.{drop}
-use Rattle.sj_tape.specs.Fronts.{AllBegin}
+use Rattle.sj_tape.specs.inner.Fronts.{AllBegin}
 use Rattle.sj_tape.specs.Marks.{marks}
 use Rattle.sj_tape.proofs.preorder.is_preorder.Given as goal
 

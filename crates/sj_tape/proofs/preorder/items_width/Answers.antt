@@ -1,6 +1,6 @@
 use Rattle.std.proofs.Common.{◌+◌, refl, sym, subst, arith}
 use Rattle.sj_text_core.specs.Tree.{no_items}
-use Rattle.sj_tape.specs.Fronts.{BeginsItems}
+use Rattle.sj_tape.specs.inner.Fronts.{BeginsItems}
 use Rattle.sj_tape.specs.Marks.{marks}
 use Rattle.sj_tape.proofs.Counts.{item_step, items_none}
 use Rattle.sj_tape.proofs.preorder.items_width.Goals as goal

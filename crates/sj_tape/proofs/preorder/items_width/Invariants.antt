@@ -1,5 +1,5 @@
 use Rattle.std.proofs.Common.{◌≤◌, length}
-use Rattle.sj_tape.specs.Fronts.{BeginsItems}
+use Rattle.sj_tape.specs.inner.Fronts.{BeginsItems}
 use Rattle.sj_tape.specs.Marks.{marks}
 use Rattle.sj_tape.proofs.preorder.items_width.Given as goal
 

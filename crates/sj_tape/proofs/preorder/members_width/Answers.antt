@@ -2,7 +2,7 @@ use Rattle.std.proofs.Common.{◌≡◌, ◌+◌, ◌<◌, Bool, true, false, Is
 use Rattle.sj_text_core.specs.Tree.{no_members}
 use Rattle.sj_text_core.specs.declared.static_node.StaticNode.TheVariants.{Null}
 use Rattle.sj_tape.specs.declared.node.Node.TheVariants.{Static}
-use Rattle.sj_tape.specs.Fronts.{IsText, BeginsMembers}
+use Rattle.sj_tape.specs.inner.Fronts.{IsText, BeginsMembers}
 use Rattle.sj_tape.specs.Marks.{mark, marks}
 use Rattle.sj_tape.proofs.Counts.{member_step, members_none}
 use Rattle.sj_tape.proofs.preorder.members_width.Goals as goal

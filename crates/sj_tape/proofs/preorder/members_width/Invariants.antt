@@ -1,5 +1,5 @@
 use Rattle.std.proofs.Common.{◌≤◌, length}
-use Rattle.sj_tape.specs.Fronts.{BeginsMembers}
+use Rattle.sj_tape.specs.inner.Fronts.{BeginsMembers}
 use Rattle.sj_tape.specs.Marks.{marks}
 use Rattle.sj_tape.proofs.preorder.members_width.Given as goal
 

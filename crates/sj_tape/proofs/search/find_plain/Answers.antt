@@ -2,7 +2,7 @@ use Rattle.std.proofs.Common.{◌+◌, ap, sym, ◌∙◌, option_map, List, ℕ
 use Rattle.sj_text_core.specs.Repeats.{find_member_by, visited_by}
 use Rattle.sj_text_core.specs.Tree.{Tree}
 use Rattle.sj_text_core.specs.declared.repeats.Repeats.{Repeats}
-use Rattle.sj_tape.specs.Lookup.{first_value, last_value, compared}
+use Rattle.sj_tape.specs.inner.Lookup.{first_value, last_value, compared}
 use Rattle.sj_tape.specs.Members.{members, object_choice}
 use Rattle.sj_tape.proofs.Lookups.{first_value-chosen, last_value-chosen, compared-chosen, length-chosen}
 use Rattle.sj_tape.proofs.search.find_plain.Goals as goal

@@ -1,5 +1,5 @@
 use Rattle.std.proofs.Common.{◌≡◌, ◌+◌}
-use Rattle.sj_tape.specs.Lookup.{first_value, compared}
+use Rattle.sj_tape.specs.inner.Lookup.{first_value, compared}
 use Rattle.sj_tape.specs.Members.{parts_ahead}
 use Rattle.sj_tape.proofs.search.first_plain.Given as goal
 

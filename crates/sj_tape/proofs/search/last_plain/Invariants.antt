@@ -1,6 +1,6 @@
 use Rattle.std.proofs.Common.{◌≡◌, ◌+◌, length, option_map}
 use Rattle.std.specs.Option.{option_or}
-use Rattle.sj_tape.specs.Lookup.{last_value}
+use Rattle.sj_tape.specs.inner.Lookup.{last_value}
 use Rattle.sj_tape.specs.Members.{parts_ahead}
 use Rattle.sj_tape.specs.Value.{part}
 use Rattle.sj_tape.proofs.search.last_plain.Given as goal

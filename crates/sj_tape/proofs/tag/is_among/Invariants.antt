@@ -1,5 +1,5 @@
 use Rattle.std.proofs.Common.{◌≡◌, ◌||◌, drop}
-use Rattle.sj_tape.specs.Tags.{has_tag}
+use Rattle.sj_tape.specs.inner.Tags.{has_tag}
 use Rattle.sj_tape.proofs.tag.is_among.Given as goal
 
 abbrev pub invariant-loop-other : goal.invariant-loop-other

@@ -6,7 +6,7 @@ use Rattle.sj_tape.specs.Value.{tree, choice}
 use Rattle.sj_tape.specs.Items.{items}
 use Rattle.sj_commands.specs.CommandLines.{command_in}
 use Rattle.sj_commands.specs.Meant.{command_meant}
-use Rattle.sj_commands.specs.Parts.{kept}
+use Rattle.sj_commands.specs.inner.Parts.{kept}
 use Rattle.sj_commands.specs.declared.command.Command.{Command}
 use Rattle.sj_commands.proofs.Kept.{kept_list}
 use Rattle.sj_commands.proofs.command.line.command_in.Goals as goal

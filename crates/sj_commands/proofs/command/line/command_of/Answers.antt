@@ -8,7 +8,7 @@ use Rattle.sj_tape.specs.Value.{part}
 use Rattle.sj_commands.specs.Commands.{PlainCommand, bad}
 use Rattle.sj_commands.specs.CommandLines.{IsCommandOf, command_in}
 use Rattle.sj_commands.specs.Meant.{command_meant}
-use Rattle.sj_commands.specs.Parts.{kept}
+use Rattle.sj_commands.specs.inner.Parts.{kept}
 use Rattle.sj_commands.specs.declared.command.Command.{Command}
 use Rattle.sj_commands.proofs.CommandLemmas.{reads_tree, reads_one, reads_bad, reads_bad_only}
 use Rattle.sj_text_core.proofs.Unread.{unreadable}

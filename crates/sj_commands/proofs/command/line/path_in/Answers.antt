@@ -6,7 +6,7 @@ use Rattle.sj_tape.specs.Value.{tree, choice}
 use Rattle.sj_tape.specs.Items.{items}
 use Rattle.sj_commands.specs.CommandLines.{path_in}
 use Rattle.sj_commands.specs.Meant.{path_meant}
-use Rattle.sj_commands.specs.Parts.{kept}
+use Rattle.sj_commands.specs.inner.Parts.{kept}
 use Rattle.sj_commands.specs.declared.command.Step.{Step}
 use Rattle.sj_commands.proofs.Kept.{kept_text, kept_list}
 use Rattle.sj_commands.proofs.command.line.path_in.Goals as goal

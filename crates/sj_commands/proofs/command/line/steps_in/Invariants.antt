@@ -3,7 +3,7 @@ use Rattle.sj_text_core.specs.Tree.{items_from}
 use Rattle.sj_tape.specs.Items.{parts_ahead}
 use Rattle.sj_commands.specs.CommandLines.{steps_in}
 use Rattle.sj_commands.specs.Meant.{path_meant}
-use Rattle.sj_commands.specs.Parts.{kept, parts_in}
+use Rattle.sj_commands.specs.inner.Parts.{kept, parts_in}
 use Rattle.sj_commands.proofs.command.line.steps_in.Given as goal
 
 abbrev pub invariant-loop-item : goal.invariant-loop-item

@@ -1,5 +1,5 @@
 use Rattle.std.proofs.Common.{sym, ap, ◌∙◌, arith}
-use Rattle.sj_document.specs.Nodes.{nodes}
+use Rattle.sj_document.specs.inner.Nodes.{nodes}
 use Rattle.sj_document.proofs.Nodes.{nodes-Array, nodes-Object, items_none, members_none}
 use Rattle.sj_document.proofs.value.Document.close.Goals as goal
 

@@ -1,5 +1,5 @@
 use Rattle.std.proofs.Common.{◌≡◌, ◌<◌, ◌+◌, [], length, subst, ap, ◌∙◌, arith}
-use Rattle.sj_document.specs.Nodes.{nodes}
+use Rattle.sj_document.specs.inner.Nodes.{nodes}
 use Rattle.sj_document.proofs.Nodes.{nodes-Array, nodes-Object, of_items, items_some, items_pos, members_decide}
 use Rattle.std.specs.Bool.{IsTrue}
 use Rattle.sj_document.proofs.value.Document.has_parts.Goals as goal

@@ -1,5 +1,5 @@
 use Rattle.std.proofs.Common.{◌≡◌, ◌+◌, sym, ap, ◌∙◌, rules, arith, Box, Vec, Global}
-use Rattle.sj_document.specs.Nodes.{nodes, nodes_of, nodes_in}
+use Rattle.sj_document.specs.inner.Nodes.{nodes, nodes_of, nodes_in}
 use Rattle.sj_document.specs.declared.value.Document.{Document, Array, Object, the_lemmas}
 use Rattle.sj_document.proofs.Trees.{Map}
 use Rattle.sj_document.proofs.Nodes.{nodes-Array, nodes-Object, of_items, items_popped, none_popped, items_zero, still_none}

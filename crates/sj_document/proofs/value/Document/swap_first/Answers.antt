@@ -1,7 +1,7 @@
 use Rattle.std.proofs.Common.{◌≡◌, ◌<◌, ◌+◌, length, get_or, sym, ap, ◌∙◌, rules, arith, Some, Box, Vec, Global}
 use Rattle.std.specs.Vec.{with_item}
 use Rattle.sj_object.specs.Edits.{value_at, with_value_at}
-use Rattle.sj_document.specs.Nodes.{nodes, nodes_in}
+use Rattle.sj_document.specs.inner.Nodes.{nodes, nodes_in}
 use Rattle.sj_document.specs.declared.value.Document.{Document, Array, Object, the_lemmas}
 use Rattle.sj_document.proofs.Trees.{Map}
 use Rattle.sj_document.proofs.Nodes.{nodes-Array, nodes-Object, of_items, items_pos, items_swapped, items_below, members_swapped, members_below}

@@ -1,5 +1,5 @@
 use Rattle.std.proofs.Common.{ap, arith}
-use Rattle.sj_document.specs.Nodes.{nodes, nodes_of}
+use Rattle.sj_document.specs.inner.Nodes.{nodes, nodes_of}
 use Rattle.sj_document.proofs.Nodes.{falls, some_nodes}
 use Rattle.sj_document.proofs.value.drops.after.Goals as goal
 

@@ -1,6 +1,6 @@
 use Rattle.std.proofs.Common.{◌≡◌}
 use Rattle.std.specs.Prelude.{IfNone}
-use Rattle.sj_document.specs.Nodes.{nodes, nodes_of, work}
+use Rattle.sj_document.specs.inner.Nodes.{nodes, nodes_of, work}
 use Rattle.sj_document.proofs.value.drops.let_go.Given as goal
 
 abbrev pub invariant-loop-next : goal.invariant-loop-next

@@ -1,5 +1,5 @@
 use Rattle.std.proofs.Common.{ap}
-use Rattle.sj_document.specs.Nodes.{nodes_in}
+use Rattle.sj_document.specs.inner.Nodes.{nodes_in}
 use Rattle.sj_document.proofs.Nodes.{members_popped, members_rest}
 use Rattle.sj_document.proofs.value.drops.pop_value.Goals as goal
 

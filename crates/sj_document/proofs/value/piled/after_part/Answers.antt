@@ -1,6 +1,6 @@
 use Rattle.std.proofs.Common.{◌+◌, ◌*◌, sym, ap, ◌∙◌, arith}
 use Rattle.sj_document.specs.Document.{tree}
-use Rattle.sj_document.specs.Piled.{with_part, waiting_weight, items_tree, members_tree, items_left_weight, members_left_weight}
+use Rattle.sj_document.specs.inner.Piled.{with_part, waiting_weight, items_tree, members_tree, items_left_weight, members_left_weight}
 use Rattle.sj_document.proofs.Piled.{item_put, member_put, goes_ok}
 use Rattle.sj_document.proofs.value.piled.after_part.Goals as goal
 

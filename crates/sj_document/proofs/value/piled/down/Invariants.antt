@@ -1,6 +1,6 @@
 use Rattle.std.proofs.Common.{◌≡◌, ◌≤◌, ◌+◌, ◌*◌}
-use Rattle.sj_print.specs.Piles.{weight}
-use Rattle.sj_document.specs.Piled.{whole_of, left}
+use Rattle.sj_print.specs.inner.Piles.{weight}
+use Rattle.sj_document.specs.inner.Piled.{whole_of, left}
 use Rattle.sj_document.proofs.value.piled.down.Given as goal
 
 abbrev pub invariant-loop-part : goal.invariant-loop-part

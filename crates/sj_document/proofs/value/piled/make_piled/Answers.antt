@@ -1,6 +1,6 @@
 use Rattle.std.proofs.Common.{sym, ap, ◌∙◌}
 use Rattle.sj_document.specs.Document.{tree}
-use Rattle.sj_document.specs.Piled.{whole_of}
+use Rattle.sj_document.specs.inner.Piled.{whole_of}
 use Rattle.sj_document.proofs.Piled.{whole_push}
 use Rattle.sj_document.proofs.value.piled.make_piled.Goals as goal
 

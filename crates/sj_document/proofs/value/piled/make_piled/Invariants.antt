@@ -1,6 +1,6 @@
 use Rattle.std.proofs.Common.{◌≡◌}
 use Rattle.sj_document.specs.Document.{tree}
-use Rattle.sj_document.specs.Piled.{whole_of, left}
+use Rattle.sj_document.specs.inner.Piled.{whole_of, left}
 use Rattle.sj_document.proofs.value.piled.make_piled.Given as goal
 
 abbrev pub invariant-loop-waiting : goal.invariant-loop-waiting

@@ -1,6 +1,6 @@
 use Rattle.std.proofs.Common.{◌≡◌, true, false, rules, suc}
 use Rattle.sj_text_core.specs.Tree.{depth}
-use Rattle.sj_document.specs.Reach.{ahead_depth, ahead_weight}
+use Rattle.sj_document.specs.inner.Reach.{ahead_depth, ahead_weight}
 use Rattle.sj_document.proofs.Reach.{reached_all, reached_within, reached_none}
 use Rattle.sj_document.proofs.value.within.is_within_depth.Goals as goal
 

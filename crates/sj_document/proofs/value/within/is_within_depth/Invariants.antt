@@ -1,6 +1,6 @@
 use Rattle.std.proofs.Common.{◌↔◌, ◌≤◌, length}
 use Rattle.sj_text_core.specs.Tree.{depth}
-use Rattle.sj_document.specs.Reach.{reach, left}
+use Rattle.sj_document.specs.inner.Reach.{reach, left}
 use Rattle.sj_document.proofs.value.within.is_within_depth.Given as goal
 
 abbrev pub invariant-loop-ahead : goal.invariant-loop-ahead

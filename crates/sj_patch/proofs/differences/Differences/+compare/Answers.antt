@@ -7,7 +7,7 @@ use Rattle.sj_document.specs.Document.{tree}
 use Rattle.sj_document.proofs.Trees.{tree-Object}
 use Rattle.sj_document.proofs.Compared.{each_there, near_there}
 use Rattle.sj_patch.specs.Patch.{remove}
-use Rattle.sj_patch.specs.Noted.{token_text, array}
+use Rattle.sj_patch.specs.inner.Noted.{token_text, array}
 use Rattle.sj_patch.proofs.Noting.{single-array, notes-as, notes-nothing, noted-there, noted-here, notes-there, on-ok}
 use Rattle.sj_patch.proofs.NotedItems.{between-first, notes-pair, notes-arrays}
 use Rattle.sj_patch.proofs.NotedMembers.{pairs, left, object-pairs, single-pairs, pair-found, pair-absent, compares-none, compares-found, compares-gone, compares-all}

@@ -2,7 +2,7 @@ use Rattle.std.proofs.Common.{◌≡◌, ◌+◌, ◌*◌, map}
 use Rattle.sj_object.specs.Entries.{entries_of}
 use Rattle.sj_document.specs.Document.{tree}
 use Rattle.sj_document.proofs.Compared.{EachThere}
-use Rattle.sj_patch.specs.Noted.{place_of, noted_by, Notes, array, between}
+use Rattle.sj_patch.specs.inner.Noted.{place_of, noted_by, Notes, array, between}
 use Rattle.sj_patch.proofs.NotedMembers.{Compares, pairs, left}
 use Rattle.sj_patch.proofs.differences.Differences.+compare.Given as goal
 

@@ -1,6 +1,6 @@
 use Rattle.std.proofs.Common.{◌<◌, length, map, ap, ◌∙◌, arith}
 use Rattle.sj_document.specs.Document.{tree}
-use Rattle.sj_patch.specs.Noted.{token_text}
+use Rattle.sj_patch.specs.inner.Noted.{token_text}
 use Rattle.sj_patch.proofs.Noting.{noted-more}
 use Rattle.sj_patch.proofs.NotedItems.{additions-at}
 use Rattle.sj_patch.proofs.differences.Differences.add_items.Goals as goal

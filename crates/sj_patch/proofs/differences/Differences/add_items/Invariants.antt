@@ -1,7 +1,7 @@
 use Rattle.std.proofs.Common.{◌≡◌, ◌++◌, map, take, drop}
 use Rattle.sj_document.specs.Document.{tree}
 use Rattle.sj_patch.specs.Locality.{under}
-use Rattle.sj_patch.specs.Noted.{place_of, noted_by, additions}
+use Rattle.sj_patch.specs.inner.Noted.{place_of, noted_by, additions}
 use Rattle.sj_patch.proofs.differences.Differences.add_items.Given as goal
 
 abbrev pub invariant-loop-i : goal.invariant-loop-i

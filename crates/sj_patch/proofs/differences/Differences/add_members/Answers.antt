@@ -3,7 +3,7 @@ use Rattle.sj_object.specs.Entries.{entries_of}
 use Rattle.sj_document.specs.Document.{tree}
 use Rattle.sj_document.proofs.Compared.{each_there, near_there}
 use Rattle.sj_patch.specs.Patch.{add}
-use Rattle.sj_patch.specs.Noted.{token_text}
+use Rattle.sj_patch.specs.inner.Noted.{token_text}
 use Rattle.sj_patch.proofs.NotedMembers.{pairs, left, pair-found, pair-absent, adds-none, adds-new, adds-known}
 use Rattle.sj_patch.proofs.Noting.{noted-there}
 use Rattle.sj_patch.proofs.differences.Differences.add_members.Goals as goal

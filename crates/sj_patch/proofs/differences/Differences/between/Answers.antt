@@ -1,6 +1,6 @@
 use Rattle.std.proofs.Common.{map, ap}
 use Rattle.sj_patch.specs.Meant.{meant}
-use Rattle.sj_patch.specs.Noted.{token_text}
+use Rattle.sj_patch.specs.inner.Noted.{token_text}
 use Rattle.sj_patch.proofs.Noting.{becomes-noted, none-noted, map-none}
 use Rattle.sj_patch.proofs.differences.Differences.between.Goals as goal
 

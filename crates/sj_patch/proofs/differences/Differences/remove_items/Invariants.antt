@@ -1,6 +1,6 @@
 use Rattle.std.proofs.Common.{◌≡◌, ◌-◌, ◌++◌, map}
 use Rattle.sj_patch.specs.Locality.{under}
-use Rattle.sj_patch.specs.Noted.{place_of, noted_by, removals}
+use Rattle.sj_patch.specs.inner.Noted.{place_of, noted_by, removals}
 use Rattle.sj_patch.proofs.differences.Differences.remove_items.Given as goal
 
 abbrev pub invariant-loop : goal.invariant-loop

@@ -3,7 +3,7 @@ use Rattle.std.proofs.lemmas.List.{map-append}
 use Rattle.sj_tape.proofs.Compared.{denied}
 use Rattle.sj_document.specs.Document.{tree}
 use Rattle.sj_patch.specs.Meant.{meant}
-use Rattle.sj_patch.specs.Noted.{token_text}
+use Rattle.sj_patch.specs.inner.Noted.{token_text}
 use Rattle.sj_patch.proofs.Noting.{single-tree, notes-nothing, notes-whole}
 use Rattle.sj_patch.proofs.differences.Differences.replace.Goals as goal
 

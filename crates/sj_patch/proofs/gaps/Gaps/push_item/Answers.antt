@@ -1,6 +1,6 @@
 use Rattle.std.proofs.Common.{◌≡◌, [], ◌∷◌, ◌++◌, refl, sym, ap, ◌∙◌}
 use Rattle.std.specs.Vec.{vec_capacity}
-use Rattle.sj_patch.specs.Changed.{gaps_filled, gap_filled, item_step, items_filled}
+use Rattle.sj_patch.specs.inner.Changed.{gaps_filled, gap_filled, item_step, items_filled}
 use Rattle.sj_patch.specs.declared.gaps.Gap.TheVariants.{Item}
 use Rattle.sj_patch.proofs.Stepped.{stepped-last}
 use Rattle.sj_patch.proofs.gaps.Gaps.push_item.Goals as goal

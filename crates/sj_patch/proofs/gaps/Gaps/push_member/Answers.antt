@@ -1,6 +1,6 @@
 use Rattle.std.proofs.Common.{◌≡◌, [], ◌∷◌, ◌++◌, refl, sym, ap, ◌∙◌}
 use Rattle.sj_object.specs.Rooms.{places}
-use Rattle.sj_patch.specs.Changed.{gaps_filled, gap_filled, member_step, stepped}
+use Rattle.sj_patch.specs.inner.Changed.{gaps_filled, gap_filled, member_step, stepped}
 use Rattle.sj_patch.specs.declared.gaps.Gap.TheVariants.{Member}
 use Rattle.sj_patch.proofs.Stepped.{stepped-last}
 use Rattle.sj_patch.proofs.gaps.Gaps.push_member.Goals as goal

@@ -1,6 +1,6 @@
 use Rattle.std.proofs.Common.{◌≡◌, ◌++◌, length, sym, subst}
 use Rattle.std.specs.List.{prefix_len}
-use Rattle.sj_print.specs.Runs.{is_plain}
+use Rattle.sj_print.specs.inner.Runs.{is_plain}
 use Rattle.sj_print.specs.Outputs.{Appends}
 use Rattle.sj_print.proofs.Escapes.{escaped_all_plain}
 use Rattle.sj_print.proofs.Puts.{appends_escaped}

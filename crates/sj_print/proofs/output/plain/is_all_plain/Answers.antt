@@ -1,6 +1,6 @@
 use Rattle.std.proofs.Common.{refl, arith}
 use Rattle.std.proofs.lemmas.Bool.{OnTrue_from, eqb-true}
-use Rattle.sj_print.specs.Runs.{is_stop, is_plain}
+use Rattle.sj_print.specs.inner.Runs.{is_stop, is_plain}
 use Rattle.sj_print.proofs.Runs.{two_vectors}
 use Rattle.sj_print.proofs.output.plain.is_all_plain.Goals as goal
 

@@ -1,6 +1,6 @@
 use Rattle.std.proofs.Common.{◌≡◌, ◌+◌, ◌-◌, ◌≤◌, length, drop}
 use Rattle.std.specs.List.{prefix_len}
-use Rattle.sj_print.specs.Runs.{is_plain}
+use Rattle.sj_print.specs.inner.Runs.{is_plain}
 use Rattle.sj_print.proofs.output.plain.is_all_plain_far.Given as goal
 
 abbrev pub invariant-loop-i : goal.invariant-loop-i

@@ -1,6 +1,6 @@
 use Rattle.std.proofs.Common.{refl, sym, ap, ◌∙◌, arith}
 use lib.Count.{count_trailing_zeros}
-use Rattle.sj_print.specs.Runs.{is_stop, is_plain}
+use Rattle.sj_print.specs.inner.Runs.{is_stop, is_plain}
 use Rattle.sj_print.proofs.Runs.{run_bound, run_through, run_stops}
 use Rattle.sj_print.proofs.output.plain.plain_end.Goals as goal
 

@@ -1,6 +1,6 @@
 use Rattle.std.proofs.Common.{arith}
 use Rattle.std.proofs.lemmas.Simd.{zip2_splat, zip2_of_maps}
-use Rattle.sj_print.specs.Runs.{is_stop}
+use Rattle.sj_print.specs.inner.Runs.{is_stop}
 use Rattle.sj_print.proofs.Lanes.{masked}
 use Rattle.sj_print.proofs.output.plain.stops_4.Goals as goal
 

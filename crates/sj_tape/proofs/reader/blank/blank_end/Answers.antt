@@ -1,7 +1,7 @@
 use Rattle.std.proofs.Common.{sym, ap, ◌∙◌, arith}
 use lib.Count.{count_trailing_zeros}
-use Rattle.sj_text_core.specs.Parse.{is_space}
-use Rattle.sj_tape.specs.Run.{is_solid}
+use Rattle.sj_text_core.specs.inner.Parse.{is_space}
+use Rattle.sj_tape.specs.inner.Run.{is_solid}
 use Rattle.sj_print.proofs.Runs.{run_through, run_stops}
 use Rattle.sj_tape.proofs.Blanks.{not-not}
 use Rattle.sj_tape.proofs.reader.blank.blank_end.Goals as goal

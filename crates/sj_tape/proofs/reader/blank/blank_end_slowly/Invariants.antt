@@ -1,6 +1,6 @@
 use Rattle.std.proofs.Common.{◌≡◌, ◌+◌, ◌-◌, ◌≤◌, length, drop}
 use Rattle.std.specs.List.{prefix_len}
-use Rattle.sj_text_core.specs.Parse.{is_space}
+use Rattle.sj_text_core.specs.inner.Parse.{is_space}
 use Rattle.sj_tape.proofs.reader.blank.blank_end_slowly.Given as goal
 
 abbrev pub invariant-loop-at : goal.invariant-loop-at

@@ -1,5 +1,5 @@
 use Rattle.std.proofs.Common.{arith}
-use Rattle.sj_text_core.specs.Parse.{is_space}
+use Rattle.sj_text_core.specs.inner.Parse.{is_space}
 use Rattle.sj_print.proofs.Runs.{run_bound}
 use Rattle.sj_tape.proofs.Blanks.{solid_rest, space_rest, blank_rest}
 use Rattle.sj_tape.proofs.reader.blank.skip.Goals as goal

@@ -2,7 +2,7 @@ use Rattle.std.proofs.Common.{◌∙◌, ◌++◌, ◌-◌, map, take, replicate
 use lib.Count.{count_trailing_zeros}
 use Rattle.std.specs.Int.Digits.{number_from_digits}
 use Rattle.std.specs.Simd.Lanes.{mask_l}
-use Rattle.sj_tape.specs.Lanes.{is_other}
+use Rattle.sj_tape.specs.inner.Lanes.{is_other}
 use Rattle.sj_tape.proofs.Sixteens.{run_through_lanes, run_in_lanes, short_run_is}
 use Rattle.sj_tape.proofs.reader.digits.run.Goals as goal
 

@@ -1,6 +1,6 @@
 use Rattle.std.proofs.Common.{◌≡◌, ◌+◌, ◌-◌, ◌≤◌, length, drop}
 use Rattle.std.specs.List.{prefix_len}
-use Rattle.sj_print.specs.Runs.{is_plain}
+use Rattle.sj_print.specs.inner.Runs.{is_plain}
 use Rattle.sj_tape.proofs.reader.run.plain_end_slowly.Given as goal
 
 abbrev pub invariant-loop-at : goal.invariant-loop-at

@@ -1,6 +1,6 @@
 use Rattle.std.proofs.Common.{◌∙◌, ◌+◌, arith, sym, ap, subst, Some}
 use Rattle.std.specs.Prelude.{slice_range}
-use Rattle.sj_print.specs.Runs.{IsAllPlain}
+use Rattle.sj_print.specs.inner.Runs.{IsAllPlain}
 use Rattle.sj_tape.proofs.Overwrites.{head_utf8, head_is}
 use Rattle.sj_tape.proofs.Places.{place_control, place_end, so_far_none, so_far_quote}
 use Rattle.sj_tape.proofs.PlainRuns.{plain_so_far, run_is_plain, stop_is, control_is}

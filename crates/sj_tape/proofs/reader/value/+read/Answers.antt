@@ -3,7 +3,7 @@ use Rattle.std.proofs.lemmas.Result.{IfOk-weaker, err_from_is_err_and}
 use Rattle.sj_text_core.specs.Tree.{list, obj, items_from, members_from}
 use Rattle.sj_text_core.specs.Nodes.{flat, array, object}
 use Rattle.sj_tape.specs.Marks.{packed_marks}
-use Rattle.sj_text_core.specs.Parse.{value_at, parts_at, list_at, obj_at, member_at}
+use Rattle.sj_text_core.specs.inner.Parse.{value_at, parts_at, list_at, obj_at, member_at}
 use Rattle.sj_tape.proofs.Gives.{ends_drop, behind_quote, gives_by, list_is, obj_is, member_by, member_gives, member_errs, filled, empty}
 use Rattle.sj_tape.proofs.Parts.{fails, parts_none, parts_unseparated, last_turn, next_turn, item_flats, member_flats, member_flat, item_flats-push, member_flats-push}
 use Rattle.sj_tape.proofs.Values.{value_at_end, value_too_deep, value_too_deep_2, value_in_list, value_in_obj, value_scalar, count_is, nodes_set, flat_list_is, flat_obj_is}

@@ -1,7 +1,7 @@
 use Rattle.std.proofs.Common.{◌*◌, ◌+◌, ◌-◌, ◌≤◌, length}
-use Rattle.sj_tape.specs.Gives.{EndsUtf8}
+use Rattle.sj_tape.specs.inner.Gives.{EndsUtf8}
 use Rattle.sj_tape.specs.Marks.{packed_marks}
-use Rattle.sj_text_core.specs.Parse.{parts_at, value_at, member_at}
+use Rattle.sj_text_core.specs.inner.Parse.{parts_at, value_at, member_at}
 use Rattle.sj_tape.proofs.Parts.{Progress, item_flats, member_flats}
 use Rattle.sj_tape.proofs.reader.value.+read.Given as goal
 

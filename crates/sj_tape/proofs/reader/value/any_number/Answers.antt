@@ -1,5 +1,5 @@
 use Rattle.std.proofs.Common.{◌∙◌}
-use Rattle.sj_text_core.specs.Parse.{nothing_at}
+use Rattle.sj_text_core.specs.inner.Parse.{nothing_at}
 use Rattle.sj_tape.proofs.Gives.{ends_drop, static_gives, number_is}
 use Rattle.sj_tape.proofs.reader.value.any_number.Goals as goal
 

@@ -1,6 +1,6 @@
 use Rattle.std.proofs.Common.{◌∙◌, ℕ, List, MutBor}
 use Rattle.std.proofs.lemmas.Result.{IfOk-weaker}
-use Rattle.sj_text_core.specs.Parse.{nothing_at}
+use Rattle.sj_text_core.specs.inner.Parse.{nothing_at}
 use Rattle.sj_tape.proofs.Gives.{ends_drop, behind_quote, static_gives, text_gives, number_is}
 use Rattle.sj_tape.proofs.reader.value.text_or_number.Goals as goal
 

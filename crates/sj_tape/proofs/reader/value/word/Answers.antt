@@ -1,6 +1,6 @@
 use Rattle.std.proofs.Common.{◌∙◌, true, false}
 use Rattle.sj_text_core.specs.Tree.{null, boolean}
-use Rattle.sj_text_core.specs.Parse.{nothing_at}
+use Rattle.sj_text_core.specs.inner.Parse.{nothing_at}
 use Rattle.sj_tape.proofs.Scalars.{null_at, true_at, false_at, on_err}
 use Rattle.sj_tape.proofs.reader.value.word.Goals as goal
 

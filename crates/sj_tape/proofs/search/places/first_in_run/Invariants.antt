@@ -1,7 +1,7 @@
 use Rattle.std.proofs.Common.{◌≡◌, ◌+◌, ◌-◌, ◌≤◌, length}
 use Rattle.sj_text_core.specs.Find.{find_member}
 use Rattle.sj_text_core.specs.Repeats.{visited}
-use Rattle.sj_tape.specs.Ahead.{MembersAhead, members_from}
+use Rattle.sj_tape.specs.inner.Ahead.{MembersAhead, members_from}
 use Rattle.sj_tape.specs.Marks.{packed_marks}
 use Rattle.sj_tape.proofs.search.places.first_in_run.Given as goal
 

@@ -2,8 +2,8 @@ use Rattle.std.proofs.Common.{◌≡◌, ◌+◌, ◌-◌, ◌≤◌, drop, leng
 use Rattle.std.specs.Option.{option_or}
 use Rattle.sj_text_core.specs.Repeats.{find_last_member}
 use Rattle.sj_text_core.specs.Tree.{members_len}
-use Rattle.sj_tape.specs.Ahead.{MembersAhead, members_from, tree_from}
-use Rattle.sj_tape.specs.Fronts.{BeginsTree}
+use Rattle.sj_tape.specs.inner.Ahead.{MembersAhead, members_from, tree_from}
+use Rattle.sj_tape.specs.inner.Fronts.{BeginsTree}
 use Rattle.sj_tape.specs.Marks.{packed_marks}
 use Rattle.sj_tape.proofs.search.places.last_in_run.Given as goal
 

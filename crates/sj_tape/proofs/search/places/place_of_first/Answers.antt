@@ -3,7 +3,7 @@ use Rattle.std.proofs.lemmas.List.{length-map}
 use Rattle.sj_text_core.specs.Nodes.{nothing, width}
 use Rattle.sj_text_core.specs.Find.{find_member}
 use Rattle.sj_text_core.specs.Repeats.{visited}
-use Rattle.sj_tape.specs.Ahead.{MembersAhead, members_from}
+use Rattle.sj_tape.specs.inner.Ahead.{MembersAhead, members_from}
 use Rattle.sj_tape.specs.Marks.{packed_mark, packed_marks}
 use Rattle.sj_tape.proofs.Ahead.{NextAhead, next_ahead, one_text, find_pass, visit_pass, find_hit, visit_hit}
 use Rattle.sj_tape.proofs.search.places.place_of_first.Given.{Over}

@@ -4,8 +4,8 @@ use Rattle.std.proofs.lemmas.List.{length-map}
 use Rattle.sj_text_core.specs.Nodes.{nothing, width}
 use Rattle.sj_text_core.specs.Repeats.{find_last_member}
 use Rattle.sj_text_core.specs.Tree.{members_len}
-use Rattle.sj_tape.specs.Ahead.{MembersAhead, members_from, tree_from}
-use Rattle.sj_tape.specs.Fronts.{BeginsTree}
+use Rattle.sj_tape.specs.inner.Ahead.{MembersAhead, members_from, tree_from}
+use Rattle.sj_tape.specs.inner.Fronts.{BeginsTree}
 use Rattle.sj_tape.specs.Marks.{packed_mark, packed_marks}
 use Rattle.sj_tape.proofs.Ahead.{next_ahead, one_text, last_pass, later_holds}
 use Rattle.sj_tape.proofs.search.places.place_of_last.Goals as goal

@@ -4,9 +4,9 @@ use Rattle.sj_text_core.specs.Nodes.{Mark, AreMembers, nothing, width, members_i
 use Rattle.sj_text_core.specs.Find.{find_member}
 use Rattle.sj_text_core.specs.Repeats.{visited}
 use Rattle.sj_text_core.specs.Tree.{members_len}
-use Rattle.sj_tape.specs.Ahead.{MembersAhead, members_from}
+use Rattle.sj_tape.specs.inner.Ahead.{MembersAhead, members_from}
 use Rattle.sj_tape.specs.Marks.{packed_mark, packed_marks}
-use Rattle.sj_tape.specs.Tags.{member_at}
+use Rattle.sj_tape.specs.inner.Tags.{member_at}
 use Rattle.sj_tape.proofs.Ahead.{NextAhead, at_ahead, at_more, next_at, at_next, one_text, find_pass, visit_pass, find_hit, visit_hit}
 use Rattle.sj_tape.proofs.search.tagged.first_among.Goals as goal
 

@@ -1,9 +1,9 @@
 use Rattle.std.proofs.Common.{◌≡◌, ◌+◌}
 use Rattle.sj_text_core.specs.Find.{find_member}
 use Rattle.sj_text_core.specs.Repeats.{visited}
-use Rattle.sj_tape.specs.Ahead.{members_from}
+use Rattle.sj_tape.specs.inner.Ahead.{members_from}
 use Rattle.sj_tape.specs.Marks.{packed_marks}
-use Rattle.sj_tape.specs.Tags.{member_at}
+use Rattle.sj_tape.specs.inner.Tags.{member_at}
 use Rattle.sj_tape.proofs.search.tagged.first_among.Given as goal
 
 abbrev pub invariant-loop : goal.invariant-loop

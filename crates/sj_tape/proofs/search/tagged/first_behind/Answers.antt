@@ -1,5 +1,5 @@
 use Rattle.std.proofs.Common.{sym, subst}
-use Rattle.sj_tape.specs.Ahead.{MembersAhead}
+use Rattle.sj_tape.specs.inner.Ahead.{MembersAhead}
 use Rattle.sj_tape.specs.Marks.{packed_marks}
 use Rattle.sj_tape.proofs.Ahead.{at_ahead}
 use Rattle.sj_tape.proofs.search.tagged.first_behind.Goals as goal

@@ -1,9 +1,9 @@
 use Rattle.std.proofs.Common.{◌≡◌, ◌+◌, ◌-◌, take, drop, sym, ap, ◌∙◌, arith}
 use Rattle.sj_text_core.specs.Find.{find_member}
 use Rattle.sj_text_core.specs.Repeats.{visited}
-use Rattle.sj_tape.specs.Ahead.{members_from}
+use Rattle.sj_tape.specs.inner.Ahead.{members_from}
 use Rattle.sj_tape.specs.Marks.{packed_marks}
-use Rattle.sj_tape.specs.Tags.{member_at, has_tag}
+use Rattle.sj_tape.specs.inner.Tags.{member_at, has_tag}
 use Rattle.sj_tape.proofs.Tagged.{pass_some}
 use Rattle.sj_tape.proofs.Tagged.{Passes}
 use Rattle.sj_tape.proofs.search.tagged.first_in_block.Given.{Over}

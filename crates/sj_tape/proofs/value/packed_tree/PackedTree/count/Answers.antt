@@ -1,6 +1,6 @@
 use Rattle.std.proofs.Common.{◌≡◌, ◌+◌, ◌≤◌, ◌^◌, IfOk, OnOk, OnErr, subst}
 use Rattle.sj_tape.proofs.PackedCounts.{printed_len}
-use Rattle.sj_tape.specs.PackedTree.{packed_tree}
+use Rattle.sj_tape.specs.inner.PackedTree.{packed_tree}
 use Rattle.sj_tape.proofs.value.packed_tree.PackedTree.count.Goals as goal
 
 pub returns-else-pretty-clause-ok : goal.returns-else-pretty-clause-ok

@@ -2,7 +2,7 @@ use Rattle.std.proofs.Common.{refl, sym, ap, ◌∙◌}
 use Rattle.sj_text_core.specs.Nodes.{members_in}
 use Rattle.sj_tape.specs.Marks.{mark, packed_marks}
 use Rattle.sj_tape.specs.Parts.{items_in}
-use Rattle.sj_tape.specs.PackedTree.{packed_tree}
+use Rattle.sj_tape.specs.inner.PackedTree.{packed_tree}
 use Rattle.sj_tape.proofs.Containers.{array_behind, array_from, object_behind, object_from}
 use Rattle.sj_tape.proofs.value.packed_tree.PackedTreeParts.level.Goals as goal
 

@@ -1,7 +1,7 @@
 use Rattle.std.proofs.Common.{ap}
 use Rattle.sj_text_core.specs.Tree.{paired}
 use Rattle.sj_tape.specs.Marks.{packed_marks}
-use Rattle.sj_tape.specs.PackedKey.{packed_key}
+use Rattle.sj_tape.specs.inner.PackedKey.{packed_key}
 use Rattle.sj_tape.proofs.Splits.{next_member, split_text-are, BeginsTree-member}
 use Rattle.sj_tape.proofs.value.packed_tree.PackedTreeParts.next_member.Goals as goal
 

@@ -1,6 +1,6 @@
 -- Whitespace that a vector test passes over.
 use Rattle.std.specs.Prelude.{ℕ, Bool, not}
-use Rattle.sj_text_core.specs.Parse.{is_space}
+use Rattle.sj_text_core.specs.inner.Parse.{is_space}
 
 -- a byte that is no whitespace
 abbrev pub is_solid : ℕ → Bool

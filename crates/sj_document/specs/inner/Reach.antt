@@ -2,7 +2,7 @@
 use Rattle.std.specs.Prelude.{◌↔◌, ◌+◌, ◌<◌, ◌≤◌, ℕ, suc, max, Bool, true, false, List, [], ◌∷◌, length}
 use Rattle.std.specs.List.{sum_by}
 use Rattle.sj_text_core.specs.Tree.{Tree, items_from, members_from, items_depth, members_depth}
-use Rattle.sj_print.specs.Piles.{items_weight, members_weight}
+use Rattle.sj_print.specs.inner.Piles.{items_weight, members_weight}
 use Rattle.sj_document.specs.declared.value.within.Ahead.{Ahead}
 use Rattle.sj_document.specs.declared.value.within.Ahead.TheVariants as ahead
 

@@ -2,7 +2,7 @@
 use Rattle.std.specs.Prelude.{◌≡◌, ℕ, List, [], ◌∷◌, ◌++◌, length, Option, Some, IsUtf8}
 use Rattle.sj_text_core.specs.Tree.{Tree, items_from, members_from}
 use Rattle.sj_text_core.specs.Nodes.{Mark, string, flat, flat_items, flat_members}
-use Rattle.sj_text_core.specs.Parse.{Read}
+use Rattle.sj_text_core.specs.inner.Parse.{Read}
 
 -- the bytes end a text in UTF-8
 abbrev pub EndsUtf8 : List ℕ → Type 0

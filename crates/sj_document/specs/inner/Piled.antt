@@ -5,7 +5,7 @@ use Rattle.sj_text_core.specs.Tree.{Tree, list, obj, items_from, Members, no_mem
 use Rattle.sj_text_core.specs.Edits as members
 use Rattle.sj_object.specs.Entries.{Entry}
 use Rattle.sj_object.specs.Members.{entry_members}
-use Rattle.sj_print.specs.Piles.{weight, items_weight, members_weight}
+use Rattle.sj_print.specs.inner.Piles.{weight, items_weight, members_weight}
 use Rattle.sj_document.specs.Document.{tree}
 use Rattle.sj_document.specs.declared.value.Document.{Document}
 use Rattle.sj_document.specs.declared.value.piled.Begun.{Begun}

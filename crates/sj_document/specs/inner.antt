@@ -1,0 +1,3 @@
+pub mod Nodes
+pub mod Reach
+pub mod Piled

@@ -1,0 +1,3 @@
+pub mod Changed
+pub mod Filled
+pub mod Noted

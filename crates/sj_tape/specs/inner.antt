@@ -1,0 +1,10 @@
+pub mod Gives
+pub mod Run
+pub mod Lanes
+pub mod Places
+pub mod Tags
+pub mod Ahead
+pub mod Fronts
+pub mod PackedKey
+pub mod PackedTree
+pub mod Lookup
