@@ -10,13 +10,14 @@ use Rattle.sj_text_core.specs.Tree.{Tree, obj, items_len as items_count, items_f
 use Rattle.sj_text_core.specs.Find.{find_member}
 use Rattle.sj_text_core.specs.Keep.{is_seen}
 use Rattle.sj_text_core.specs.Same.{Same, SameItems}
-use Rattle.sj_text_core.specs.Agree.{SameFound}
+use Rattle.sj_text_core.specs.inner.Agree.{SameFound}
 use Rattle.sj_text_core.specs.Equal.{tree_eq}
 use Rattle.sj_text_core.proofs.Equal.{tree_eq-decides}
 use Rattle.sj_text_core.proofs.Equality.{found_from_at, at_from_found, none_on, same-sym}
 use Rattle.sj_text_core.proofs.Comparing.{by_either, absent_by, there_by}
 use Rattle.sj_text_core.proofs.Shapes.{same_items_len}
-use Rattle.sj_object.specs.Texts.{no_repeats, not_and, or_false, bytes_eq-sym}
+use Rattle.sj_object.specs.Texts.{no_repeats}
+use Rattle.sj_object.specs.inner.Texts.{not_and, or_false, bytes_eq-sym}
 use Rattle.sj_object.specs.Entries.{Entry, texts, entries_of}
 use Rattle.sj_object.specs.Edits.{lookup}
 use Rattle.sj_object.specs.Members.{entry_members}

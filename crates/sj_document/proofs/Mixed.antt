@@ -9,7 +9,8 @@ use Rattle.sj_text_core.specs.Agree.{texts, is_before}
 use Rattle.sj_text_core.proofs.Comparing.{found_first}
 use Rattle.sj_text_core.proofs.Shapes.{same_items_len, members_from-paired}
 use Rattle.sj_tape.proofs.Counted.{one_place}
-use Rattle.sj_object.specs.Texts.{no_repeats, not_and, or_of_false}
+use Rattle.sj_object.specs.Texts.{no_repeats}
+use Rattle.sj_object.specs.inner.Texts.{not_and, or_of_false}
 use Rattle.sj_object.specs.Entries.{Entry, texts as entry_texts}
 use Rattle.sj_object.specs.Edits.{lookup}
 use Rattle.sj_object.specs.Members.{entry_members}

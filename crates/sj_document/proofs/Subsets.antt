@@ -3,7 +3,8 @@ use Rattle.std.proofs.Common.{◌≡◌, ℕ, suc, ◌≤◌, Bool, true, false,
 use Rattle.std.specs.Bool.{if◌then◌else◌}
 use Rattle.std.proofs.lemmas.Slice.Eq.{bytes_eq-Decides}
 use Rattle.sj_text_core.specs.Keep.{is_seen}
-use Rattle.sj_object.specs.Texts.{no_repeats, not_and}
+use Rattle.sj_object.specs.Texts.{no_repeats}
+use Rattle.sj_object.specs.inner.Texts.{not_and}
 
 -- every text of the first stands in the second
 abbrev pub Within : List (List ℕ) → List (List ℕ) → Type 0

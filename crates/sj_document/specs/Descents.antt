@@ -1,36 +1,11 @@
 -- A part that was taken out of a tree along a path: what it stood in has, in its place, what that stood in in turn.
-use Rattle.std.specs.Prelude.{◌≡◌, ◌<◌, ◌≤◌, ℕ, zero, suc, List, [], length, slice_index_or, Option, Some, None, IsSome, ⊤, Result}
+use Rattle.std.specs.Prelude.{◌≡◌, ℕ, List, Some, None, Result}
 use Rattle.std.specs.Result.{MatchResult}
-use Rattle.sj_text_core.specs.Tree.{Tree, null}
-use Rattle.sj_text_core.specs.Paths.{Step, by_key, step_into, set_found, tree_at, set_at}
+use Rattle.sj_text_core.specs.Tree.{Tree}
+use Rattle.sj_text_core.specs.Paths.{Step, step_into, set_found}
 use Rattle.sj_document.specs.Document.{tree}
 use Rattle.sj_document.specs.declared.value.Document.{Document}
 
 -- what the step finds is answered, and other stands in its place; or it finds nothing, all stays, and other comes back
 abbrev pub Exchanged : {T : Type 0} → (T → List ℕ) → Step → Document T → Tree → Tree → Result (Document T) (Document T) → Type 0
 Exchanged t s other before after r = MatchResult r (λ part. (step_into s before ≡ Some (tree t part)) × (after ≡ set_found s (tree t other) before)) (λ back. (step_into s before ≡ None) × (after ≡ before) × (back ≡ other))
-
-abbrev pub or_null : Option Tree → Tree
-or_null None = null
-or_null (Some u) = u
-
-abbrev pub step_at : List Step → ℕ → Step
-step_at p d = slice_index_or p d (by_key [])
-
--- all put together again, where d steps of the path lead to cur
-abbrev pub plug : List Step → ℕ → Tree → Tree → Tree
-plug p zero up cur = cur
-plug p (suc d) up cur = plug p d (or_null (step_into (step_at p d) up)) (set_found (step_at p d) cur up)
-
--- what was taken apart along the first d steps of the path
-abbrev pub IsSpine : List Step → ℕ → Tree → Type 0
-IsSpine p zero up = ⊤
-IsSpine p (suc d) up = IsSome (step_into (step_at p d) up) × IsSpine p d (or_null (step_into (step_at p d) up))
-
--- Where a way down the path ends: at what stands at the path, in whose place anything may be put, or before a step that finds nothing. Nothing is lost.
-pub record Descended (p : List Step) (before cur up : Tree) (d : ℕ) : Type 0 where
-  pub within : d ≤ length p
-  pub spine : IsSpine p d up
-  pub whole : plug p d up cur ≡ before
-  pub reached : d ≡ length p → (tree_at p before ≡ Some cur) × ((n : Tree) → plug p d up n ≡ set_at p n before)
-  pub missed : d < length p → tree_at p before ≡ None

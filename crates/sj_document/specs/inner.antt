@@ -1,3 +1,4 @@
 pub mod Nodes
 pub mod Reach
 pub mod Piled
+pub mod Descents

@@ -9,10 +9,12 @@ use Rattle.sj_text_core.specs.Agree.{texts}
 use Rattle.sj_text_core.specs.Repeats.{find_member_by}
 use Rattle.sj_text_core.specs.declared.repeats.Repeats.{Repeats}
 use Rattle.sj_text_core.specs.declared.repeats.Repeats.TheVariants.{First, Last}
-use Rattle.sj_object.specs.Texts.{no_repeats, or_of_false, or_false, not_and, bytes_eq-sym}
+use Rattle.sj_object.specs.Texts.{no_repeats}
+use Rattle.sj_object.specs.inner.Texts.{or_of_false, or_false, not_and, bytes_eq-sym}
 use Rattle.sj_document.specs.SameWith.{SameIn, value_at}
 use Rattle.sj_document.proofs.Subsets.{Within, within_len, within_back}
-use Rattle.sj_lazy.specs.SameMap.{EachFound, SameEntries, HasKeys}
+use Rattle.sj_lazy.specs.SameMap.{EachFound, SameEntries}
+use Rattle.sj_lazy.specs.inner.SameMap.{HasKeys}
 
 abbrev pub names : {L X : Type 0} → (L → List ℕ) → List (L × X) → List (List ℕ)
 names text ps = map (λ (p : _ × _). text p.0) ps

@@ -6,6 +6,7 @@ pub mod Loans
 pub mod SameMap
 pub mod Rows
 pub mod Paths
+pub mod inner
 pub use Rattle.sj_text_core.specs.Tree
 pub use Rattle.sj_text_core.specs.Find
 pub use Rattle.sj_text_core.specs.Keep

@@ -1,6 +1,5 @@
 -- A lazy value compared with a map of std.
-use Rattle.std.specs.Prelude.{◌≡◌, ℕ, true, List, [], ◌∷◌, Option, Some, None, MatchOption, is_some}
-use Rattle.sj_text_core.specs.Keep.{is_seen}
+use Rattle.std.specs.Prelude.{ℕ, List, [], ◌∷◌, Option, Some, None, MatchOption}
 use Rattle.sj_text_core.specs.Tree.{Tree, Members}
 use Rattle.sj_text_core.specs.Repeats.{find_member_by}
 use Rattle.sj_text_core.specs.declared.repeats.Repeats.{Repeats}
@@ -16,10 +15,6 @@ module _ {D X L : Type 0} (R : D → X → Type 0) (text : L → List ℕ) (find
   -- each text is absent from both, or has the same in both
   abbrev pub SameEntries : List (L × X) → Type 0
   SameEntries ps = (k : List ℕ) → SameIn R (find k) (value_at text k ps)
-
--- each of the texts is that of a key of the map
-abbrev pub HasKeys : {L X : Type 0} → (L → List ℕ) → List (List ℕ) → List (L × X) → Type 0
-HasKeys text ks ps = (k : List ℕ) → is_seen k ks ≡ true → is_some (value_at text k ps) ≡ true
 
 -- the members that count, as lazy values are seen
 abbrev pub counted : Repeats → Members → List ℕ → Option Tree

@@ -5,7 +5,7 @@ use Rattle.sj_text_core.specs.Tree.{Tree, null, boolean, int, text, list, obj, M
 use Rattle.sj_text_core.specs.Find.{find_member}
 use Rattle.sj_text_core.specs.Keep.{IsSingle, HasSingle}
 use Rattle.sj_text_core.specs.Same.{Same}
-use Rattle.sj_text_core.specs.Agree.{SameFound}
+use Rattle.sj_text_core.specs.inner.Agree.{SameFound}
 use Rattle.sj_text_core.proofs.Equal.{tree_eq-decides}
 use Rattle.sj_text_core.proofs.Equality.{at_from_found, same-refl}
 use Rattle.sj_merge.specs.Merge.{is_null, target_members, merged, merged_members}

@@ -7,7 +7,8 @@ use Rattle.sj_text_core.specs.Edits.{put, cut}
 use Rattle.sj_text_core.specs.Keep.{HasSingle}
 use Rattle.sj_text_core.proofs.Last.{find-put}
 use Rattle.sj_text_core.proofs.Writes.{find-cut_other}
-use Rattle.sj_merge.specs.Merge.{is_null, merged, merged_members, merged_pair}
+use Rattle.sj_merge.specs.Merge.{is_null, merged, merged_members}
+use Rattle.sj_merge.specs.inner.Merge.{merged_pair}
 
 -- no later member has the text of one before it; of the values nothing is asked
 abbrev pub AreApart : Members → Type 0

@@ -5,7 +5,8 @@ use Rattle.sj_text_core.specs.Find.{find_member}
 use Rattle.sj_text_core.specs.Edits.{put, cut}
 use Rattle.sj_text_core.specs.Nulls.{as_nothing}
 use Rattle.sj_text_core.specs.Reads.{as_members}
-use Rattle.sj_merge.specs.Merge.{is_null, target_members, merged, merged_pair}
+use Rattle.sj_merge.specs.Merge.{is_null, target_members, merged}
+use Rattle.sj_merge.specs.inner.Merge.{merged_pair}
 
 -- a value that is no null goes to the text
 pub merged_pair-put : (k : List ℕ) (v : Tree) (ms : Members) → is_null v ≡ false → merged_pair k v ms ≡ put k (merged (find_member k ms) v) ms

@@ -7,7 +7,8 @@ ghost use Rattle.std.specs.Prelude.{◌≡◌, ◌≢◌, ℕ, List, Some, OnOk,
 ghost use Rattle.sj_text_core.specs.Tree.{obj};
 ghost use Rattle.sj_object.specs.Members.{entry_members};
 ghost use Rattle.sj_document.specs.Document.{tree};
-ghost use Rattle.sj_merge.specs.Merge.{merged, merged_members, merged_pair, target_members};
+ghost use Rattle.sj_merge.specs.Merge.{merged, merged_members, target_members};
+ghost use Rattle.sj_merge.specs.inner.Merge.{merged_pair};
 ghost use Rattle.sj_merge.specs.inner.Log.{finished, finished_one, undone, undone_one, in_object, Passes, Merges, Changes, ChangesValue};
 
 use crate::merging::{into_merged, new_object};

@@ -4,7 +4,8 @@ ghost use Rattle.std.specs.Prelude.{◌≡◌, Some, IfOk, OnOk};
 ghost use Rattle.sj_text_core.specs.Tree.{obj, no_members};
 ghost use Rattle.sj_object.specs.Members.{entry_members};
 ghost use Rattle.sj_document.specs.Document.{tree};
-ghost use Rattle.sj_merge.specs.Merge.{merged, merged_members, merged_pair, target_members};
+ghost use Rattle.sj_merge.specs.Merge.{merged, merged_members, target_members};
+ghost use Rattle.sj_merge.specs.inner.Merge.{merged_pair};
 
 use sj_document::{Document, Object};
 use sj_object::{HashMap, KeyText, ObjectHasher};

@@ -7,7 +7,8 @@ use Rattle.std.proofs.lemmas.Bool.Decides.{nat_tests}
 use Rattle.std.proofs.lemmas.List.{length-set, length_push, get_or_append_left, get_or_push, length-take-le, get_or-take, take_all, drop_all}
 use Rattle.std.proofs.Math.Seq.{take-suc}
 use Rattle.std.proofs.lemmas.List.Edits.{get_or-remove_below, get_or-remove_above, length-remove}
-use Rattle.sj_object.specs.Chains.{is_in, last_below, passed, lowered}
+use Rattle.sj_object.specs.Chains.{is_in, last_below}
+use Rattle.sj_object.specs.inner.Chains.{passed, lowered}
 use Rattle.sj_object.specs.Holes.{raised, raised_by, without, AreHoles, IsChained}
 use Rattle.sj_object.proofs.Chains.{last_le, last_in, last_out, last_same, last_before, last_after, passed_at, passed_other, passed_low, own_bucket, once}
 use Rattle.sj_object.proofs.Holes

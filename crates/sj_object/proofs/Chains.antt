@@ -7,7 +7,8 @@ use Rattle.std.proofs.lemmas.List.{take-append-drop, drop-take, get_or-drop, len
 use Rattle.std.proofs.Math.ListN.{replicate, get_or-map}
 use Rattle.std.proofs.Math.Seq.{take-append_seam, drop-append_seam}
 use Rattle.std.proofs.lemmas.List.Edits.{get_or-remove_below, get_or-remove_above, remove-append_right}
-use Rattle.sj_object.specs.Chains.{is_in, last_below, IsLinked, passed, lowered}
+use Rattle.sj_object.specs.Chains.{is_in, last_below}
+use Rattle.sj_object.specs.inner.Chains.{IsLinked, passed, lowered}
 
 module _ (n b : ℕ) where
   pub last_le : (hs : List ℕ) (k : ℕ) → last_below n b hs k ≤ k

@@ -18,7 +18,8 @@ use Rattle.sj_object.specs.Entries.{Entry, texts, entries_of}
 use Rattle.sj_object.specs.Chains.{is_in}
 use Rattle.sj_object.specs.declared.map.store.Store.{Store}
 use Rattle.sj_object.specs.declared.map.store.Store.TheVariants.{Plain, Hashed}
-use Rattle.sj_object.specs.Index.{NeedsHash, HasRoom, HasRoom-prop, buckets_for}
+use Rattle.sj_object.specs.Index.{NeedsHash, HasRoom, buckets_for}
+use Rattle.sj_object.specs.inner.Index.{HasRoom-prop}
 use Rattle.sj_object.specs.Stored.{pairs_of, IsIndexOf, buckets_of}
 use Rattle.sj_object.specs.Steps.{chain, walk, found_on}
 use Rattle.sj_object.proofs.Walked.{Agrees, count}

@@ -6,8 +6,9 @@ use Rattle.std.specs.List.{remove, copy_within}
 use Rattle.std.proofs.lemmas.Bool.Decides.{nat_tests}
 use Rattle.std.proofs.lemmas.List.Edits.{get_or-remove_below, get_or-remove_above, length-remove, remove-append_left, remove-append_right, length-paste, take-paste, drop-paste}
 use Rattle.std.proofs.lemmas.List.{drop-drop, length-drop, length-take-le, take-append-drop}
-use Rattle.sj_object.specs.Chains.{lowered, passed}
-use Rattle.sj_object.specs.Holes.{raised, raised_by, lowered_by, without, AreHoles, with_hole}
+use Rattle.sj_object.specs.inner.Chains.{lowered, passed}
+use Rattle.sj_object.specs.Holes.{raised, raised_by, without, AreHoles}
+use Rattle.sj_object.specs.inner.Holes.{lowered_by, with_hole}
 
 pub lowered_raised : (i p : ℕ) → lowered i (raised i p) ≡ p
 lowered_raised i p = grind (arith, nat_tests)

@@ -3,7 +3,8 @@ use Rattle.std.proofs.Common.{◌≡◌, ℕ, true, false, List, [], ◌∷◌, 
 use Rattle.std.specs.Bool.{if◌then◌else◌}
 use Rattle.sj_text_core.specs.Tree.{Tree, list, obj, Items, no_items, item, member}
 use Rattle.sj_text_core.specs.Keep.{is_seen, keep, keep_items, keep_members, IsKept}
-use Rattle.sj_object.specs.Texts.{no_repeats, or_false, or_of_false, not_and, bytes_eq-sym}
+use Rattle.sj_object.specs.Texts.{no_repeats}
+use Rattle.sj_object.specs.inner.Texts.{or_false, or_of_false, not_and, bytes_eq-sym}
 use Rattle.sj_object.specs.Entries.{Entry, texts}
 use Rattle.sj_object.specs.HashMap.{Contents}
 use Rattle.sj_object.specs.Members.{entry_members}

@@ -4,7 +4,8 @@ use Rattle.std.specs.List.{position_from, remove}
 use Rattle.std.specs.Bool.{if◌then◌else◌}
 use Rattle.sj_text_core.specs.Keep.{is_seen}
 use Rattle.std.proofs.lemmas.Slice.Eq.{bytes_eq-Decides}
-use Rattle.sj_object.specs.Texts.{no_repeats, or_false, not_and}
+use Rattle.sj_object.specs.Texts.{no_repeats}
+use Rattle.sj_object.specs.inner.Texts.{or_false, not_and}
 use Rattle.sj_object.specs.Steps.{found_on}
 use Rattle.sj_object.specs.Entries.{Entry, texts, entries_of}
 use Rattle.sj_object.specs.Edits.{lookup, set_value, put, cut, value_at, set_value_at}

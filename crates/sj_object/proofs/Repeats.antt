@@ -2,7 +2,8 @@
 use Rattle.std.proofs.Common.{◌≡◌, ℕ, zero, suc, take, Bool, true, false, List, [], ◌∷◌, ◌++◌, refl, ap, ◌∙◌, bytes_eq}
 use Rattle.std.specs.Bool.{if◌then◌else◌}
 use Rattle.sj_text_core.specs.Keep.{is_seen}
-use Rattle.sj_object.specs.Texts.{no_repeats, or_false, or_of_false, not_and, not_and_of, bytes_eq-sym}
+use Rattle.sj_object.specs.Texts.{no_repeats}
+use Rattle.sj_object.specs.inner.Texts.{or_false, or_of_false, not_and, not_and_of, bytes_eq-sym}
 use Rattle.sj_object.specs.Entries.{Entry, texts, entries_of}
 use Rattle.sj_object.specs.Edits.{cut}
 

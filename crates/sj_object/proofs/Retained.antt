@@ -4,7 +4,8 @@ use Rattle.std.specs.Bool.{if◌then◌else◌}
 use Rattle.std.proofs.lemmas.List.{append_assoc, append-nil}
 use Rattle.std.specs.Map.Calls.{RetainsPairs}
 use Rattle.sj_text_core.specs.Keep.{is_seen}
-use Rattle.sj_object.specs.Texts.{no_repeats, or_false, or_of_false, not_and, not_and_of}
+use Rattle.sj_object.specs.Texts.{no_repeats}
+use Rattle.sj_object.specs.inner.Texts.{or_false, or_of_false, not_and, not_and_of}
 use Rattle.sj_object.specs.Entries.{texts, entries_of}
 use Rattle.sj_object.proofs.Hashed.{hashes}
 

@@ -6,7 +6,7 @@ use Rattle.std.proofs.lemmas.Bool.Decides.{nat_tests}
 use Rattle.std.proofs.lemmas.List.{drop_all}
 use Rattle.std.proofs.lemmas.List.Sums.{sum_by-drop_more}
 use Rattle.sj_text_core.specs.Keep.{is_seen}
-use Rattle.sj_object.specs.Texts.{or_of_false}
+use Rattle.sj_object.specs.inner.Texts.{or_of_false}
 use Rattle.sj_object.specs.Chains.{is_in, last_below}
 use Rattle.sj_object.proofs.Chains.{last_le, last_again, place_in}
 

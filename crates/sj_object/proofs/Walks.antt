@@ -4,7 +4,8 @@ use Rattle.std.specs.Bool.{if◌then◌else◌}
 use Rattle.sj_text_core.specs.Tree.{Tree, Members, member}
 use Rattle.sj_text_core.specs.Edits as members
 use Rattle.sj_text_core.specs.Keep.{is_seen}
-use Rattle.sj_object.specs.Texts.{no_repeats, or_false, not_and, bytes_eq-sym}
+use Rattle.sj_object.specs.Texts.{no_repeats}
+use Rattle.sj_object.specs.inner.Texts.{or_false, not_and, bytes_eq-sym}
 use Rattle.sj_object.specs.Entries.{Entry, texts}
 use Rattle.sj_object.specs.Members.{entry_members}
 

@@ -3,7 +3,8 @@ use Rattle.std.specs.Prelude.{◌≡◌, ◌≤◌, ◌+◌, ℕ, zero, suc, Boo
 use Rattle.std.proofs.Common.{arith}
 use mathlib.Core.Path.{ap, ◌∙◌, sym, subst}
 use Rattle.sj_text_core.specs.Keep.{is_seen}
-use Rattle.sj_object.specs.Texts.{no_repeats, or_false, or_of_false, not_and, not_and_of, bytes_eq-sym}
+use Rattle.sj_object.specs.Texts.{no_repeats}
+use Rattle.sj_object.specs.inner.Texts.{or_false, or_of_false, not_and, not_and_of, bytes_eq-sym}
 use Rattle.sj_object.specs.Entries.{Entry, texts}
 use Rattle.sj_object.specs.HashMap.{Contents}
 use Rattle.sj_object.specs.Index.{buckets_for, HasRoom, HasRoom-more}

@@ -2,7 +2,8 @@
 use Rattle.std.specs.Prelude.{◌≡◌, ℕ, true, List, Option, length}
 use Rattle.sj_object.specs.Texts.{no_repeats}
 use Rattle.sj_object.specs.Entries.{Entry, texts}
-use Rattle.sj_object.specs.Index.{HasRoom, HasRoom-prop}
+use Rattle.sj_object.specs.Index.{HasRoom}
+use Rattle.sj_object.specs.inner.Index.{HasRoom-prop}
 use mathlib.Core.HLevel.{is_prop→PathP}
 use base.Stored.{Coded, coded×, coded_list, coded_ℕ, coded_bool, coded_via, Coded-set}
 use Rattle.std.specs.Coded.{coded_option}

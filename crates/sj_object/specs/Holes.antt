@@ -1,8 +1,7 @@
 -- Holes in a table, whose members were taken out: each is the position of its place, and they fall, so that the places in front of a hole are as they were. Only private clauses cite it, and the invariant of a map.
 use Rattle.std.specs.Prelude.{◌≡◌, ◌<◌, ◌≤◌, ◌%◌, ℕ, suc, List, [], ◌∷◌, length, slice_index, if◌then◌else◌, nat_le, ⊤}
 use Rattle.std.specs.List.{remove}
-use denote.Struct.Props.{props}
-use Rattle.sj_object.specs.Chains.{last_below, lowered}
+use Rattle.sj_object.specs.Chains.{last_below}
 
 -- the place that a place had before the member at position i was taken out
 abbrev pub raised : ℕ → ℕ → ℕ
@@ -13,11 +12,6 @@ abbrev pub raised_by : List ℕ → ℕ → ℕ
 raised_by [] p = p
 raised_by (q ∷ qs) p = raised q (raised_by qs p)
 
--- the place among the members that are there of a place in the table, which is no hole
-abbrev pub lowered_by : List ℕ → ℕ → ℕ
-lowered_by [] p = p
-lowered_by (q ∷ qs) p = lowered_by qs (lowered q p)
-
 -- what is there beside the holes
 abbrev pub without : {X : Type 0} → List ℕ → List X → List X
 without [] xs = xs
@@ -27,15 +21,6 @@ without (q ∷ qs) xs = without qs (remove xs q)
 abbrev pub AreHoles : ℕ → List ℕ → ℕ → Type 0
 AreHoles g [] n = ⊤
 AreHoles g (q ∷ qs) n = (g ≤ q) × ((q < n) × AreHoles g qs q)
-
-pub AreHoles-prop : (g : ℕ) (qs : List ℕ) (n : ℕ) → IsProp (AreHoles g qs n)
-AreHoles-prop g [] n = hlevel props
-AreHoles-prop g (q ∷ qs) n = hlevel (props, AreHoles-prop g qs q)
-
--- one more among them
-abbrev pub with_hole : ℕ → List ℕ → List ℕ
-with_hole s [] = s ∷ []
-with_hole s (q ∷ qs) = if nat_le s q then q ∷ with_hole s qs else s ∷ q ∷ qs
 
 -- the members that are there stand in their chains: a head for each bucket, and for each member the link to the next one, all as places in the table
 pub record IsChained (n : ℕ) (qs hs links heads : List ℕ) : Type 0 where

@@ -3,7 +3,6 @@ use Rattle.std.specs.Prelude.{◌≡◌, ◌+◌, ◌<◌, ◌≤◌, ◌*◌, �
 use Rattle.std.specs.Vec.{vec_capacity}
 use Rattle.std.proofs.Common.{arith}
 use Rattle.std.proofs.lemmas.Bool.Decides.{nat_tests}
-use denote.Struct.Props.{props}
 use Rattle.sj_object.specs.declared.map.index.Table.{Table}
 use Rattle.sj_object.specs.Holes.{without, AreHoles, IsChained}
 
@@ -41,10 +40,6 @@ buckets_for members (Some n) = if nat_le members n then Some n else Some (2 * n)
 abbrev pub HasRoom : ℕ → Option ℕ → Type 0
 HasRoom members None = members ≤ 32
 HasRoom members (Some n) = (0 < n) × (members ≤ n)
-
-pub HasRoom-prop : (members : ℕ) (o : Option ℕ) → IsProp (HasRoom members o)
-HasRoom-prop members None = hlevel props
-HasRoom-prop members (Some n) = hlevel props
 
 -- there is room for one member more, once there are buckets for it
 pub HasRoom-more : (n m : ℕ) (o : Option ℕ) → n ≤ m + 1 → HasRoom m o → HasRoom n (buckets_for n o)

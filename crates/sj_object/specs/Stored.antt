@@ -9,7 +9,7 @@ use Rattle.sj_object.specs.declared.map.members.Members.TheVariants.{Listed, Rin
 use Rattle.sj_object.specs.declared.map.store.Hashed.{Hashed as HashedOf}
 use Rattle.sj_object.specs.declared.map.store.Store.{Store}
 use Rattle.sj_object.specs.declared.map.store.Store.TheVariants.{Plain, Hashed}
-use Rattle.sj_object.specs.Holes.{AreHoles-prop}
+use Rattle.sj_object.specs.inner.Holes.{AreHoles-prop}
 use Rattle.sj_object.specs.Index.{IsTable, IsTableOf, hashes_in}
 
 module _ {K V : Type 0} where

@@ -3,7 +3,8 @@
 ghost use Rattle.std.specs.Prelude.{◌≡◌, ◌↔◌, [], length, true, None, IsTrue, IfOk};
 ghost use Rattle.sj_object.specs.Texts.{no_repeats};
 ghost use Rattle.sj_object.specs.Entries.{texts, keys, values, entries_of};
-ghost use Rattle.sj_object.specs.Index.{HasRoom, HasRoom-prop};
+ghost use Rattle.sj_object.specs.Index.{HasRoom};
+ghost use Rattle.sj_object.specs.inner.Index.{HasRoom-prop};
 ghost use Rattle.sj_object.specs.Stored.{pairs_of, buckets_of};
 
 mod chain;

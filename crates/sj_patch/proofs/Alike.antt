@@ -4,7 +4,7 @@ use Rattle.std.specs.List.{AllByRecursion}
 use Rattle.sj_text_core.specs.Tree.{Tree, list, obj, Items, items_len}
 use Rattle.sj_text_core.specs.Find.{find_member, nth_item}
 use Rattle.sj_text_core.specs.Same.{Same, SameItems}
-use Rattle.sj_text_core.specs.Agree.{SameFound}
+use Rattle.sj_text_core.specs.inner.Agree.{SameFound}
 use Rattle.sj_text_core.specs.Keep.{IsSingle, AreSingle}
 use Rattle.sj_text_core.specs.Equal.{tree_eq}
 use Rattle.sj_text_core.specs.Edits.{cut}

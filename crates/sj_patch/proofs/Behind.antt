@@ -5,7 +5,8 @@ use Rattle.sj_text_core.specs.Tree.{Items, item, items_from}
 use Rattle.sj_document.specs.Document.{tree}
 use Rattle.sj_document.specs.declared.value.Document.{Document}
 use Rattle.sj_patch.specs.Patch.{PlainOperation}
-use Rattle.sj_patch.specs.Operations.{onto_operations, operation_in, operations_from, of_item, IsFlawIn, IsFaultIn}
+use Rattle.sj_patch.specs.Operations.{onto_operations, operation_in, operations_from, IsFaultIn}
+use Rattle.sj_patch.specs.inner.Operations.{of_item, IsFlawIn}
 use Rattle.sj_text_core.specs.declared.patch_fault.ItemFault.{ItemFault}
 use Rattle.sj_text_core.specs.declared.patch_fault.PatchReadFault.{PatchReadFault}
 use Rattle.sj_text_core.specs.declared.patch_fault.PatchReadFault.TheVariants as fault

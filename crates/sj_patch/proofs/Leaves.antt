@@ -10,7 +10,8 @@ use Rattle.sj_document.specs.Document.{tree}
 use Rattle.sj_document.specs.declared.value.Document.{Document}
 use Rattle.sj_pointer.specs.Pointed.{token_into}
 use Rattle.sj_document.specs.Items.{insert_at, remove_at}
-use Rattle.sj_patch.specs.Patch.{or_missing, onwards, removed_in, removed_at, swapped_in, added_in, added_at, place_among}
+use Rattle.sj_patch.specs.Patch.{or_missing, onwards, removed_in, removed_at, added_in, added_at, place_among}
+use Rattle.sj_patch.specs.inner.Patch.{swapped_in}
 use Rattle.sj_patch.specs.inner.Changed.{Does, without_item, or_null}
 use Rattle.sj_text_core.specs.declared.patch_fault.OperationFault.TheVariants.{Missing, NoPlace}
 use Rattle.sj_patch.specs.declared.change.Change.TheVariants.{Put}

@@ -6,7 +6,7 @@ use Rattle.sj_text_core.specs.Tree.{Tree, obj, paired}
 use Rattle.sj_text_core.specs.Find.{find_member}
 use Rattle.sj_text_core.specs.Same.{Same}
 use Rattle.sj_text_core.specs.Keep.{IsSingle}
-use Rattle.sj_text_core.specs.Agree.{SameFound}
+use Rattle.sj_text_core.specs.inner.Agree.{SameFound}
 use Rattle.sj_text_core.proofs.Equality.{same-refl}
 use Rattle.sj_text_core.proofs.Shapes.{members_from-paired}
 use Rattle.sj_text_core.proofs.Comparing.{found, pointwise}

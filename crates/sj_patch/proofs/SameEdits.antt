@@ -4,7 +4,7 @@ use Rattle.std.proofs.lemmas.Slice.Eq.{bytes_eq-Decides}
 use Rattle.sj_text_core.specs.Tree.{Tree, Carrier, null, boolean, int, text, list, obj, Items, no_items, item, items_len, Members}
 use Rattle.sj_text_core.specs.Find.{find_member, nth, nth_item}
 use Rattle.sj_text_core.specs.Same.{Same, SameItems}
-use Rattle.sj_text_core.specs.Agree.{SameFound}
+use Rattle.sj_text_core.specs.inner.Agree.{SameFound}
 use Rattle.sj_text_core.specs.Keep.{HasSingle}
 use Rattle.sj_text_core.specs.Edits.{put, cut}
 use Rattle.sj_text_core.specs.Places.{place_of}

@@ -12,7 +12,6 @@ use Rattle.sj_text_core.specs.declared.patch_fault.ItemFault.{ItemFault}
 use Rattle.sj_text_core.specs.declared.patch_fault.ItemFault.TheVariants.{NotAnObject, Op, Path, From, Value}
 use Rattle.sj_text_core.specs.declared.patch_fault.PatchReadFault.{PatchReadFault}
 use Rattle.sj_text_core.specs.declared.patch_fault.PatchReadFault.TheVariants as fault
-use Rattle.sj_patch.specs.declared.error.Unread.{Unread}
 use Rattle.sj_patch.specs.declared.error.Unread.TheVariants as unread
 
 -- what was found, or else the flaw
@@ -94,16 +93,6 @@ operations_in (Some is) = operations_from 0 is
 -- the operations of a patch document, which is an array of them (section 3)
 abbrev pub patch_in : Tree → Result (List PlainOperation) PatchReadFault
 patch_in t = operations_in (as_items t)
-
--- what is wrong with an item; of want of memory nothing is said
-abbrev pub IsFlawIn : {A : Type 0} → Unread → Result A ItemFault → Type 0
-IsFlawIn unread.OutOfMemory r = Unit {0}
-IsFlawIn (unread.Flaw w) r = r ≡ Err w
-
--- the fault of the item with that number
-abbrev pub of_item : ℕ → Unread → PatchReadFault
-of_item n unread.OutOfMemory = fault.OutOfMemory
-of_item n (unread.Flaw w) = fault.Item n w
 
 -- why a document was not read; of want of memory nothing is said
 abbrev pub IsFaultIn : PatchReadFault → Result (List PlainOperation) PatchReadFault → Type 0

@@ -64,10 +64,6 @@ removed_in k (obj ms) = or_missing (option_map (λ _. obj (cut k ms)) (find_memb
 removed_in k (list is) = or_missing (removed_at (place_of k) is)
 removed_in k _ = Err Missing
 
--- section 4.3, in the container: the value in the place of what stands at the token
-abbrev pub swapped_in : Tree → List ℕ → Tree → Result Tree OperationFault
-swapped_in v k t = onwards (or_missing (token_into First k t)) (λ _. Ok (set_found (by_token k) v t))
-
 -- section 4.1: at the root "the specified value becomes the entire content of the target document"
 abbrev pub added : List (List ℕ) → Tree → Tree → Result Tree OperationFault
 added [] v t = Ok v

@@ -1,3 +1,5 @@
 pub mod Changed
 pub mod Filled
 pub mod Noted
+pub mod Operations
+pub mod Patch

@@ -1,7 +1,7 @@
 //! Why an operation was not done, and why an item of a patch document was not read.
 
 ghost use Rattle.std.specs.Prelude.{◌≡◌};
-ghost use Rattle.sj_patch.specs.Operations.{of_item};
+ghost use Rattle.sj_patch.specs.inner.Operations.{of_item};
 
 use sj_text_core::{ItemFault, OperationFault, PatchReadFault};
 use std::alloc::AllocError;

@@ -8,7 +8,8 @@ ghost use Rattle.sj_document.specs.Document.{tree};
 ghost use Rattle.sj_patch.specs.inner.Filled.{filled, filled_all, filled_in, value_or_null};
 ghost use Rattle.sj_patch.specs.Meant.{meant};
 ghost use Rattle.sj_patch.specs.Patch.{PlainOperation};
-ghost use Rattle.sj_patch.specs.Operations.{IsFaultIn, IsFlawIn, from_at, kind_of_item, operation_in, operation_of, operations_from, or_flaw, patch_in, tokens_at, value_at};
+ghost use Rattle.sj_patch.specs.Operations.{IsFaultIn, from_at, kind_of_item, operation_in, operation_of, operations_from, or_flaw, patch_in, tokens_at, value_at};
+ghost use Rattle.sj_patch.specs.inner.Operations.{IsFlawIn};
 
 use crate::error::Unread;
 use crate::operation::Operation;

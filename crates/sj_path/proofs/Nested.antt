@@ -14,7 +14,8 @@ use Rattle.sj_text_core.specs.declared.error.AccessError.TheVariants.{NotAnObjec
 use Rattle.sj_document.specs.Document.{with_member, why_of}
 use Rattle.sj_pointer.specs.Pointed.{token_into, pointed, set_pointed}
 use Rattle.sj_path.proofs.Ways.{set_further}
-use Rattle.sj_path.specs.Made.{nested, member_added, set_within, set_made, IsEndOf}
+use Rattle.sj_path.specs.Made.{nested, member_added, set_within, set_made}
+use Rattle.sj_path.specs.inner.Made.{IsEndOf}
 
 pub some_is : (t u : Tree) → Some t ≡ Some u → t ≡ u
 some_is t u e = cc

@@ -1,5 +1,6 @@
 pub mod Changes
 pub mod Made
+pub mod inner
 pub use Rattle.sj_text_core.specs.Places
 pub use Rattle.sj_text_core.specs.Paths
 pub use Rattle.sj_pointer.specs.Syntax

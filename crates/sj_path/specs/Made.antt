@@ -1,8 +1,7 @@
 -- A tree with a value put where tokens lead, and objects made where something is missing on the way.
-use Rattle.std.specs.Prelude.{◌≡◌, ℕ, Bool, List, [], ◌∷◌, Option, Some, None, is_some, option_map}
+use Rattle.std.specs.Prelude.{ℕ, List, [], ◌∷◌, Option, Some, None, option_map}
 use Rattle.sj_text_core.specs.Tree.{Tree, obj, member, no_members}
 use Rattle.sj_text_core.specs.Edits.{put}
-use Rattle.sj_text_core.specs.Reads.{as_members}
 use Rattle.sj_text_core.specs.Paths.{by_token, set_found}
 use Rattle.sj_text_core.specs.declared.repeats.Repeats.TheVariants.{First}
 use Rattle.sj_pointer.specs.Pointed.{token_into}
@@ -26,8 +25,3 @@ set_within None k f u t = member_added k u t
 abbrev pub set_made : List (List ℕ) → Tree → Tree → Option Tree
 set_made [] u t = Some u
 set_made (k ∷ ks) u t = set_within (token_into First k t) k (set_made ks u) (nested ks u) t
-
--- nothing is left of the tokens, or the first that is left finds nothing in u; is tells whether u is an object
-abbrev pub IsEndOf : List (List ℕ) → Tree → Bool → Type 0
-IsEndOf [] u is = Unit {0}
-IsEndOf (k ∷ ks) u is = (token_into First k u ≡ None) × (is ≡ is_some (as_members u))

@@ -4,7 +4,8 @@ ghost use Rattle.std.specs.Prelude.{◌≡◌, ◌++◌, Some, None, IfOk, IfErr
 ghost use Rattle.sj_text_core.specs.Tree.{Tree, null, obj, member, no_members};
 ghost use Rattle.sj_document.specs.Document.{tree, why_of};
 ghost use Rattle.sj_pointer.specs.Pointed.{pointed};
-ghost use Rattle.sj_path.specs.Made.{nested, set_made, IsEndOf};
+ghost use Rattle.sj_path.specs.Made.{nested, set_made};
+ghost use Rattle.sj_path.specs.inner.Made.{IsEndOf};
 
 use crate::edits::InsertMember;
 use crate::walk::step;

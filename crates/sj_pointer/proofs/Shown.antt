@@ -6,7 +6,8 @@ use Rattle.std.proofs.lemmas.List.{map-append, take-map, take_more, length-map, 
 use Rattle.std.proofs.lemmas.Grind.{flat_map-append}
 use Rattle.std.proofs.lemmas.Slice.Eq.{bytes_eq-Decides, slice_eq-Decides, starts_is}
 use lib.Pointwise.{pointwise}
-use Rattle.sj_pointer.specs.Shown.{part_text, tildes_text, token_text, pointer_text}
+use Rattle.sj_pointer.specs.Shown.{part_text, token_text, pointer_text}
+use Rattle.sj_pointer.specs.inner.Shown.{tildes_text}
 use Rattle.sj_pointer.proofs.Texts.{Lacks, lacks_first, lacks_rest}
 
 -- a run without a tilde stays

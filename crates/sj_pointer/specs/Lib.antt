@@ -4,5 +4,6 @@ pub mod Spelled
 pub mod Shown
 pub mod Pointed
 pub mod Laws
+pub mod inner
 pub use Rattle.sj_text_core.specs.Places
 pub use Rattle.sj_text_core.specs.Paths

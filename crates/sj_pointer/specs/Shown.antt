@@ -6,10 +6,6 @@ use Rattle.std.specs.List.{flat_map}
 abbrev pub part_text : ℕ → List ℕ
 part_text c = if c == 126 then 126 ∷ 48 ∷ [] else (if c == 47 then 126 ∷ 49 ∷ [] else c ∷ [])
 
--- a text with each tilde escaped, and no slash
-abbrev pub tildes_text : List ℕ → List ℕ
-tildes_text k = flat_map (λ c. if c == 126 then 126 ∷ 48 ∷ [] else c ∷ []) k
-
 -- a token, escaped
 abbrev pub token_text : List ℕ → List ℕ
 token_text k = flat_map part_text k

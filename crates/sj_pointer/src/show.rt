@@ -1,7 +1,8 @@
 //! The text that writes a pointer.
 
 ghost use Rattle.std.specs.Fmt.{WritesOnOk};
-ghost use Rattle.sj_pointer.specs.Shown.{tildes_text, token_text};
+ghost use Rattle.sj_pointer.specs.Shown.{token_text};
+ghost use Rattle.sj_pointer.specs.inner.Shown.{tildes_text};
 
 use crate::tokens::Pointer;
 use std::fmt;

@@ -3,7 +3,8 @@ use Rattle.std.proofs.Common.{◌≡◌, Bool, true, false, ℕ, ◌+◌, ◌-�
 use Rattle.sj_text_core.specs.Tree.{Tree, list, obj, Items, no_items, item, Members, no_members, member}
 use Rattle.sj_text_core.specs.Print.{escaped, quoted, compact, compact_items, compact_members, pretty, pretty_items, pretty_members, new_line}
 use Rattle.sj_print.proofs.Utf8.{IsUtf8-line}
-use Rattle.sj_print.specs.Layouts.{laid, laid_items, laid_members, items_end, members_end, deeper, gap, colon}
+use Rattle.sj_print.specs.Layouts.{laid, deeper, gap}
+use Rattle.sj_print.specs.inner.Layouts.{laid_items, laid_members, items_end, members_end, colon}
 use Rattle.sj_print.specs.inner.Piles.{items_mark, members_mark, items_laid, members_laid}
 use Rattle.sj_print.specs.Outputs.{Appends, AppendsText, HoldsText, Lays}
 use Rattle.sj_print.specs.declared.layout.Layout.TheVariants.{Compact, Pretty}

@@ -4,7 +4,8 @@ use Rattle.std.proofs.lemmas.Bool.{false≢true}
 use Rattle.std.proofs.lemmas.List.Sums.{sum_by_push}
 use Rattle.sj_text_core.specs.Tree.{Tree, list, obj, no_items, no_members, items_from, members_from}
 use Rattle.sj_print.specs.Layouts.{IsLayout, deeper, laid, gap}
-use Rattle.sj_print.specs.Outputs.{AppendsText, HoldsText, Lays, Towards}
+use Rattle.sj_print.specs.Outputs.{AppendsText, HoldsText, Lays}
+use Rattle.sj_print.specs.inner.Outputs.{Towards}
 use Rattle.sj_print.specs.inner.Piles.{items_laid, members_laid, ahead_tree, ahead_laid, open_laid, open_weight, left, inner, AreLaid, rest, PilesUp}
 use Rattle.sj_print.specs.declared.layout.Layout.{Layout}
 use Rattle.sj_print.specs.declared.print.Ahead.{Ahead}

@@ -4,7 +4,8 @@ use Rattle.std.proofs.lemmas.List.Sums.{sum_by-append}
 use Rattle.sj_text_core.specs.Tree.{Tree, null, boolean, int, text, list, obj, Items, no_items, item, items_len, Members, no_members, member, members_len}
 use Rattle.sj_text_core.specs.Nodes.{Mark, string, array, object, flat, flat_items, flat_members}
 use Rattle.sj_text_core.specs.Print.{quoted, compact, compact_items, compact_members}
-use Rattle.sj_print.specs.Printed.{frame_len, mark_len, marks_len}
+use Rattle.sj_print.specs.Printed.{frame_len}
+use Rattle.sj_print.specs.inner.Printed.{mark_len, marks_len}
 
 -- one node, and others
 marks_len-cons : (m : Mark) (ns : List Mark) → marks_len (m ∷ ns) ≡ mark_len m + marks_len ns

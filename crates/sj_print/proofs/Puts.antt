@@ -3,7 +3,8 @@ use Rattle.std.proofs.Common.{◌≡◌, ℕ, List, [], ◌++◌, IsUtf8, flat_m
 use Rattle.std.proofs.lemmas.Str.{IsUtf8-append}
 use Rattle.sj_text_core.specs.Print.{escaped}
 use Rattle.sj_print.proofs.Utf8.{IsUtf8-escaped}
-use Rattle.sj_print.specs.Outputs.{Appends, AppendsText, Towards}
+use Rattle.sj_print.specs.Outputs.{Appends, AppendsText}
+use Rattle.sj_print.specs.inner.Outputs.{Towards}
 
 module _ {S O : Type 0} (holds : S → O → List ℕ → Type 0) where
   pub appends_nothing : (a : O) → Appends holds a a []

@@ -2,8 +2,10 @@
 use Rattle.std.proofs.Common.{◌≡◌, true, false, ℕ, List, [], ◌∷◌, ◌++◌, Option, Some, None, refl, sym, ap, ◌∙◌, append_assoc}
 use Rattle.sj_text_core.specs.Tree.{Tree, list, obj, Items, no_items, item, Members, no_members, member}
 use Rattle.sj_text_core.specs.Print.{quoted}
-use Rattle.sj_print.specs.Layouts.{laid, laid_items, laid_members, items_end, members_end, deeper, gap, colon}
-use Rattle.sj_print.specs.Outputs.{Appends, Towards}
+use Rattle.sj_print.specs.Layouts.{laid, deeper, gap}
+use Rattle.sj_print.specs.inner.Layouts.{laid_items, laid_members, items_end, members_end, colon}
+use Rattle.sj_print.specs.Outputs.{Appends}
+use Rattle.sj_print.specs.inner.Outputs.{Towards}
 use Rattle.sj_print.proofs.Puts.{begin, step, end}
 use Rattle.sj_print.proofs.Layouts.{laid-list, laid-no_items, laid-no_members, items_laid-item, members_laid-member}
 

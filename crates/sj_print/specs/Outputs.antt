@@ -1,13 +1,7 @@
 -- What an output holds, and what a call appends to it.
-use Rattle.std.specs.Prelude.{◌≡◌, ℕ, List, ◌++◌, Option, IsUtf8}
+use Rattle.std.specs.Prelude.{ℕ, List, ◌++◌, Option, IsUtf8}
 use Rattle.sj_print.specs.Layouts.{IsLayout}
 use Rattle.sj_print.specs.declared.layout.Layout.{Layout}
-
--- what was put, with the rest makes the whole. Only private clauses cite it.
-pub record Towards {S O : Type 0} (holds : S → O → List ℕ → Type 0) (old new : O) (rest whole : List ℕ) : Type 0 where
-  pub done : List ℕ
-  pub put : (start : S) (b : List ℕ) → holds start old b → holds start new (b ++ done)
-  pub makes : done ++ rest ≡ whole
 
 module _ {S O : Type 0} (holds : S → O → List ℕ → Type 0) where
   -- the bytes were put behind what the output holds

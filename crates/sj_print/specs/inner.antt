@@ -1,2 +1,5 @@
 pub mod Piles
 pub mod Runs
+pub mod Layouts
+pub mod Outputs
+pub mod Printed

@@ -4,7 +4,8 @@
 ghost use Rattle.std.specs.Prelude.{◌≡◌, ◌+◌, ◌≤◌, ◌<◌, [], ◌∷◌, ◌++◌, flat_map, vec_len, vec_capacity};
 ghost use Rattle.sj_text_core.specs.Print.{escaped, quoted};
 ghost use Rattle.sj_text_core.specs.Tree.{list, obj, no_items, no_members, items_from, members_from};
-ghost use Rattle.sj_print.specs.Layouts.{laid, gap, colon};
+ghost use Rattle.sj_print.specs.Layouts.{laid, gap};
+ghost use Rattle.sj_print.specs.inner.Layouts.{colon};
 ghost use Rattle.sj_print.specs.Outputs.{AppendsText, Lays};
 ghost use Rattle.sj_print.specs.inner.Piles.{ahead_tree, items_mark, members_mark, items_laid, members_laid, open_laid, open_weight, weight, items_weight, members_weight, left, PilesUp};
 

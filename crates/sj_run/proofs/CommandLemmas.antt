@@ -1,7 +1,7 @@
 -- What commands of lines leave.
 use Rattle.std.proofs.Common.{◌≡◌, ◌∙◌, List, [], ◌∷◌, ◌++◌, ℕ, sym, ap, subst, append_assoc}
 use Rattle.sj_text_core.specs.Tree.{Tree}
-use Rattle.sj_run.specs.Answered.{Answers, AnswersLine, PassesOne, PassesLine}
+use Rattle.sj_run.specs.inner.Answered.{Answers, AnswersLine, PassesOne, PassesLine}
 use Rattle.sj_text_core.specs.declared.repeats.Repeats.{Repeats}
 use Rattle.sj_run.specs.Repeats.{answer_by}
 use Rattle.sj_run.specs.Shown.{reply_text}

@@ -11,7 +11,7 @@ use Rattle.sj_object.specs.Entries.{Entry}
 use Rattle.sj_object.specs.Members.{entry_members}
 use Rattle.sj_document.specs.Document.{tree}
 use Rattle.sj_document.specs.declared.value.Document.{Document}
-use Rattle.sj_run.specs.Answered.{IsBegunBy}
+use Rattle.sj_run.specs.inner.Answered.{IsBegunBy}
 use Rattle.sj_run.specs.Shown.{more_texts, text_array}
 
 module _ {T : Type 0} (t : T → List ℕ) where

@@ -16,7 +16,8 @@ use Rattle.sj_text_core.specs.Repeats.{keep_by}
 use Rattle.sj_text_core.specs.declared.repeats.Repeats.{Repeats}
 use Rattle.sj_text_core.specs.declared.repeats.Repeats.TheVariants.{First}
 use Rattle.sj_run.specs.Repeats.{answer_by, replies_by, part_after, start_by}
-use Rattle.sj_run.specs.Answered.{ReadsTree, AnswersLine, AnswersText, AnswersLines, IsBegunBy, PassesLine, PassesText, PassesLines}
+use Rattle.sj_run.specs.Answered.{AnswersLines, PassesLines}
+use Rattle.sj_run.specs.inner.Answered.{ReadsTree, AnswersLine, AnswersText, IsBegunBy, PassesLine, PassesText}
 use Rattle.sj_run.specs.Replies.{PlainReply}
 use Rattle.sj_run.specs.Shown.{reply_text, shown, shown_all}
 use Rattle.sj_run.specs.Session.{IsAnsweredBy, PassesAllBy, fault_of}

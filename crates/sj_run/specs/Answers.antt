@@ -91,11 +91,6 @@ abbrev pub replies_of : Tree → List PlainCommand → List PlainReply
 replies_of t [] = []
 replies_of t (c ∷ cs) = (answer t c).1 ∷ replies_of (answer t c).0 cs
 
--- the last tree
-abbrev pub tree_after : Tree → List PlainCommand → Tree
-tree_after t [] = t
-tree_after t (c ∷ cs) = tree_after (answer t c).0 cs
-
 -- the tree that a document of the form means as read
 abbrev pub start : Form → Tree → Tree
 start form.Owned t = keep t

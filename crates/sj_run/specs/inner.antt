@@ -1,3 +1,5 @@
 pub mod Asked
 pub mod Found
 pub mod Changed
+pub mod Answered
+pub mod Answers

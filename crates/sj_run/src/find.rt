@@ -3,7 +3,7 @@
 ghost use Rattle.std.specs.Prelude.{◌≡◌, ◌↔◌, ◌+◌, ◌^◌, ◌≤◌, map, option_map, length, IfOk, IfSome, OnOk, OnErr, IsErrOf};
 ghost use Rattle.sj_text_core.specs.Paths.{step_into_by, token_into_by, tree_at_by};
 ghost use Rattle.sj_run.specs.Answers.{is_in, IsLong};
-ghost use Rattle.sj_run.specs.Answered.{Answers, IsBegunBy, PassesOne};
+ghost use Rattle.sj_run.specs.inner.Answered.{Answers, IsBegunBy, PassesOne};
 ghost use Rattle.sj_run.specs.inner.Asked.{read_meant};
 ghost use Rattle.sj_commands.specs.Commands as command;
 ghost use Rattle.sj_run.specs.inner.Found.{found_meant};

@@ -1,5 +1,5 @@
 -- What is kept of a line.
-use Rattle.std.specs.Prelude.{ℕ, List, Bool, true, false, Option, Some, None, ⊤}
+use Rattle.std.specs.Prelude.{ℕ, List, Bool, true, false, Option, Some, None}
 use Rattle.sj_stream.specs.declared.line_reader.Kept.{Kept}
 use Rattle.sj_stream.specs.declared.line_reader.Kept.TheVariants.{Off, Text, Refused}
 
@@ -14,8 +14,3 @@ abbrev pub kept_text : Kept → Option (List ℕ)
 kept_text Off = None
 kept_text (Text v) = Some v.items
 kept_text (Refused v) = None
-
-abbrev pub IsRefused : Kept → Type 0
-IsRefused Off = ⊥
-IsRefused (Text v) = ⊥
-IsRefused (Refused v) = ⊤

@@ -2,7 +2,8 @@
 
 ghost use Rattle.std.specs.Prelude.{◌≡◌, ◌≢◌, ◌↔◌, ◌⊎◌, None, Some, IfSome, IsTrue, IsUtf8, true, false, option_map};
 ghost use Rattle.sj_stream.specs.Places.{IsPlaceOf, IsPlaced};
-ghost use Rattle.sj_stream.specs.Kept.{IsRefused, keeps, kept_text};
+ghost use Rattle.sj_stream.specs.Kept.{keeps, kept_text};
+ghost use Rattle.sj_stream.specs.inner.Kept.{IsRefused};
 
 use crate::unread::{Place, Unread, place_in};
 use sj_lines::Line;

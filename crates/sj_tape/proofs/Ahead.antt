@@ -5,7 +5,8 @@ use Rattle.sj_text_core.specs.Tree.{Tree, Members, member, members_len}
 use Rattle.sj_text_core.specs.Find.{find_member}
 use Rattle.std.specs.Option.{option_or, IfSome}
 use Rattle.sj_text_core.specs.Repeats.{visited, find_last_member}
-use Rattle.sj_text_core.specs.Nodes.{Mark, nothing, string, width, AreMembers, members_in}
+use Rattle.sj_text_core.specs.Nodes.{Mark, nothing, string, width, members_in}
+use Rattle.sj_text_core.specs.inner.Nodes.{AreMembers}
 use Rattle.sj_text_core.specs.declared.repeats.Repeats.{Repeats}
 use Rattle.sj_tape.specs.inner.Ahead.{MembersAhead, members_from, tree_from, part_from}
 use Rattle.sj_tape.specs.inner.Fronts.{BeginsTree}

@@ -5,7 +5,8 @@ use Rattle.sj_text_core.specs.Tree.{Tree, null, boolean, int, text, list, obj, I
 use Rattle.sj_text_core.specs.Find.{find_member}
 use Rattle.sj_text_core.specs.Keep.{is_seen}
 use Rattle.sj_text_core.specs.Same.{Same}
-use Rattle.sj_text_core.specs.Agree.{HasTexts, Agree, is_before, texts}
+use Rattle.sj_text_core.specs.Agree.{is_before, texts}
+use Rattle.sj_text_core.specs.inner.Agree.{HasTexts, Agree}
 use Rattle.sj_text_core.proofs.Comparing.{by_either, not_found, not_there, agree_repeat, agree_found, agree_in_step, texts_in_step, not_same_absent, same_first, same_first_in_step, all_agree, same_in_step, not_same_extra}
 use Rattle.sj_text_core.proofs.Shapes.{members_from-paired}
 use Rattle.sj_tape.specs.Value.{as_scalar}

@@ -1,11 +1,13 @@
 -- The parts of an array's and an object's nodes.
 use Rattle.std.proofs.Common.{◌≡◌, ℕ, Some, List, ◌∷◌, drop, get_or, refl, sym, ap, ◌∙◌}
 use Rattle.sj_text_core.specs.Tree.{Tree, null, boolean, int, text, list, obj, Items, items_len, items_from, listed, Members, members_len, members_from, paired}
-use Rattle.sj_text_core.specs.Nodes.{Mark, nothing, array, object, flat, flat_items, flat_members, tree_of, members_in, AreMembers, IsPreorder}
+use Rattle.sj_text_core.specs.Nodes.{Mark, nothing, array, object, flat, flat_items, flat_members, tree_of, members_in, IsPreorder}
+use Rattle.sj_text_core.specs.inner.Nodes.{AreMembers}
 use Rattle.sj_text_core.specs.Reads.{as_items, as_members}
 use Rattle.sj_text_core.proofs.Shapes.{items_from-listed, members_from-paired, list_is, obj_is}
-use Rattle.sj_tape.specs.Marks.{array_len, object_len}
-use Rattle.sj_tape.specs.Parts.{items_in, AreItemNodes}
+use Rattle.sj_tape.specs.inner.Marks.{array_len, object_len}
+use Rattle.sj_tape.specs.Parts.{items_in}
+use Rattle.sj_tape.specs.inner.Parts.{AreItemNodes}
 use Rattle.sj_tape.proofs.Splits.{items_in-flat, members_in-flat, AreItemNodes-flat, AreMembers-flat}
 
 -- what stands behind an array's node

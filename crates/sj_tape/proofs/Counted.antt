@@ -8,7 +8,8 @@ use Rattle.sj_text_core.specs.Find.{find_member}
 use Rattle.sj_text_core.specs.Reads.{as_items, as_members}
 use Rattle.sj_text_core.specs.Keep.{is_seen}
 use Rattle.sj_text_core.specs.Same.{Same, SameItems}
-use Rattle.sj_text_core.specs.Agree.{SameFound, HasTexts, texts}
+use Rattle.sj_text_core.specs.Agree.{texts}
+use Rattle.sj_text_core.specs.inner.Agree.{SameFound, HasTexts}
 use Rattle.sj_text_core.specs.Repeats.{SameBy, by_first, keep_last, keep_last_items, keep_last_values, put_all, find_last_member, find_member_by}
 use Rattle.sj_text_core.specs.declared.repeats.Repeats.{Repeats}
 use Rattle.sj_text_core.specs.declared.repeats.Repeats.TheVariants.{First, Last}

@@ -10,7 +10,8 @@ use Rattle.sj_text_core.specs.Find.{nth_item}
 use Rattle.sj_text_core.proofs.Shapes.{items_from-listed}
 use Rattle.sj_text_core.specs.Nodes.{Mark, nothing, width, flat_items, tree_of, IsPreorder}
 use Rattle.sj_tape.specs.inner.Fronts.{BeginsTree}
-use Rattle.sj_tape.specs.Parts.{items_in, AreItemNodes, ItemsFrom}
+use Rattle.sj_tape.specs.Parts.{items_in}
+use Rattle.sj_tape.specs.inner.Parts.{AreItemNodes, ItemsFrom}
 use Rattle.sj_tape.specs.inner.Places.{ArePlaces, item_at}
 use Rattle.sj_tape.proofs.Compared.{length-listed}
 use Rattle.sj_tape.proofs.Splits.{some_width, first_width, BeginsTree-items, items_len-le, next_item, slice_get-listed}

@@ -5,7 +5,8 @@ use Rattle.std.proofs.Math.Seq.{get_or-append_seam}
 use Rattle.std.proofs.lemmas.Bool.{cases_lt}
 use Rattle.sj_text_core.proofs.Shapes.{members_from-paired}
 use Rattle.sj_text_core.specs.Tree.{Tree, members_len, members_from, paired}
-use Rattle.sj_text_core.specs.Nodes.{Mark, nothing, string, width, flat_members, AreMembers, members_in, tree_of}
+use Rattle.sj_text_core.specs.Nodes.{Mark, nothing, string, width, flat_members, members_in, tree_of}
+use Rattle.sj_text_core.specs.inner.Nodes.{AreMembers}
 use Rattle.sj_tape.specs.inner.Tags.{MembersFrom, AreTags, AreMemberPlaces, member_at, key_tag}
 use Rattle.sj_tape.proofs.Compared.{length-paired}
 use Rattle.sj_tape.proofs.Splits.{first_width, first_member, next_member, members_len-le, BeginsTree-member}

@@ -2,10 +2,12 @@
 use Rattle.std.proofs.Common.{◌≡◌, Some, ℕ, zero, suc, ◌+◌, ◌<◌, ◌≤◌, List, [], ◌∷◌, length, take, drop, get_or, sym, ap, ◌∙◌, subst, arith}
 use Rattle.std.proofs.lemmas.List.{get_or-drop, get_or-take, drop-drop}
 use Rattle.sj_text_core.specs.Tree.{items_len, members_len}
-use Rattle.sj_text_core.specs.Nodes.{Mark, nothing, width, members_in, AreMembers, IsPreorder}
+use Rattle.sj_text_core.specs.Nodes.{Mark, nothing, width, members_in, IsPreorder}
+use Rattle.sj_text_core.specs.inner.Nodes.{AreMembers}
 use Rattle.sj_tape.specs.inner.Fronts.{BeginsTree, AllBegin}
-use Rattle.sj_tape.specs.Marks.{array_len, object_len}
-use Rattle.sj_tape.specs.Parts.{AreItemNodes, items_in}
+use Rattle.sj_tape.specs.inner.Marks.{array_len, object_len}
+use Rattle.sj_tape.specs.Parts.{items_in}
+use Rattle.sj_tape.specs.inner.Parts.{AreItemNodes}
 use Rattle.sj_tape.proofs.Containers.{array_of, object_of}
 use Rattle.sj_tape.proofs.Preorders.{AllBegin-preorder}
 use Rattle.sj_tape.proofs.Splits.{tree_at, some_width}

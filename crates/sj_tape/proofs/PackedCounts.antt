@@ -10,7 +10,8 @@ use Rattle.sj_text_core.specs.Scalars.{static_tree}
 use Rattle.sj_text_core.specs.Tree.{Tree}
 use Rattle.sj_text_core.specs.declared.static_node.StaticNode.{StaticNode}
 use Rattle.sj_text_core.specs.declared.static_node.StaticNode.TheVariants.{Null, Bool as Truth, I64, U64, I128, U128}
-use Rattle.sj_print.specs.Printed.{mark_len, marks_len, Counts}
+use Rattle.sj_print.specs.Printed.{Counts}
+use Rattle.sj_print.specs.inner.Printed.{mark_len, marks_len}
 use Rattle.sj_print.specs.Layouts.{laid, top}
 use Rattle.sj_print.specs.Outputs.{AppendsText}
 use Rattle.sj_print.specs.declared.output.count.Count.{Count}

@@ -3,14 +3,17 @@ use Rattle.std.proofs.Common.{◌≡◌, ℕ, zero, suc, ◌+◌, ◌<◌, ◌�
 use Rattle.std.proofs.lemmas.Bool.Decides.{nat_tests}
 use Rattle.std.proofs.lemmas.List.{take_at, append_cancel_left, get_or-drop, drop-take, drop-drop, length-drop, take-append-drop}
 use Rattle.sj_text_core.specs.Tree.{Tree, null, boolean, int, text, list, obj, Items, no_items, item, items_len, Members, no_members, member, members_len, listed}
-use Rattle.sj_text_core.specs.Nodes.{Mark, nothing, truth, number, string, array, object, flat, flat_items, flat_members, trees_of, tree_of, first_tree, items_of, members_of, members_in, AreMembers, IsPreorder, width}
+use Rattle.sj_text_core.specs.Nodes.{Mark, nothing, truth, number, string, array, object, flat, flat_items, flat_members, trees_of, tree_of, first_tree, items_of, members_of, members_in, IsPreorder, width}
+use Rattle.sj_text_core.specs.inner.Nodes.{AreMembers}
 use Rattle.sj_text_core.specs.inner.Flat.{texts_and_values, trees_of-flat, trees_of-flat_members}
 use Rattle.std.specs.Prelude.{slice_get}
 use Rattle.sj_text_core.specs.Find.{nth_item}
 use Rattle.sj_text_core.specs.Code.{tree_of-flat}
-use Rattle.sj_tape.specs.Marks.{split_text, text_in}
+use Rattle.sj_tape.specs.Marks.{text_in}
+use Rattle.sj_tape.specs.inner.Marks.{split_text}
 use Rattle.sj_tape.specs.inner.Fronts.{BeginsTree}
-use Rattle.sj_tape.specs.Parts.{items_in, AreItemNodes}
+use Rattle.sj_tape.specs.Parts.{items_in}
+use Rattle.sj_tape.specs.inner.Parts.{AreItemNodes}
 
 -- the first tree of nodes, and what stands behind it, are theirs alone
 pub flat-append : (t u : Tree) (x y : List Mark) → flat t ++ x ≡ flat u ++ y → (t ≡ u) × (x ≡ y)

@@ -6,7 +6,8 @@ use Rattle.std.proofs.lemmas.Slice.Eq.{bytes_eq-Decides}
 use Rattle.sj_text_core.specs.Find.{find_member}
 use Rattle.sj_text_core.specs.Repeats.{visited}
 use Rattle.sj_text_core.specs.Tree.{members_len}
-use Rattle.sj_text_core.specs.Nodes.{Mark, AreMembers, members_in}
+use Rattle.sj_text_core.specs.Nodes.{Mark, members_in}
+use Rattle.sj_text_core.specs.inner.Nodes.{AreMembers}
 use Rattle.sj_tape.specs.inner.Ahead.{members_from}
 use Rattle.sj_tape.specs.inner.Tags.{AreTags, member_at, key_tag, tag, has_tag}
 use Rattle.sj_tape.proofs.Ahead.{next_at, at_next, find_pass, visit_pass}

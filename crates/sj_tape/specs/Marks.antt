@@ -1,5 +1,5 @@
 -- What nodes mean.
-use Rattle.std.specs.Prelude.{pos, ℕ, ◌+◌, ◌*◌, ◌^◌, List, ◌∷◌, map, Option, Some, None}
+use Rattle.std.specs.Prelude.{pos, ℕ, ◌+◌, ◌*◌, ◌^◌, List, map, Option, Some, None}
 use Rattle.std.specs.Int.{w128, cast_signed}
 use Rattle.sj_text_core.specs.Tree.{i64, u64, i128, u128}
 use Rattle.sj_text_core.specs.Nodes.{Mark, nothing, truth, number, string, array, object}
@@ -48,18 +48,3 @@ packed_marks ns = map packed_mark ns
 abbrev pub text_in : Mark → Option (List ℕ)
 text_in (string s) = Some s
 text_in _ = None
-
--- how many items an array has, by its node
-abbrev pub array_len : Mark → Option ℕ
-array_len (array len count) = Some len
-array_len _ = None
-
--- how many members an object has, by its node
-abbrev pub object_len : Mark → Option ℕ
-object_len (object len count) = Some len
-object_len _ = None
-
--- the text that nodes begin with, and the others
-abbrev pub split_text : List Mark → Option (List ℕ × List Mark)
-split_text (string s ∷ ns) = Some (s, ns)
-split_text _ = None

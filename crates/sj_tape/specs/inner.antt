@@ -8,3 +8,5 @@ pub mod Fronts
 pub mod PackedKey
 pub mod PackedTree
 pub mod Lookup
+pub mod Marks
+pub mod Parts

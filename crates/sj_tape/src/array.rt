@@ -5,7 +5,8 @@ ghost use Rattle.std.specs.Coded.{Coded-set, coded_list};
 ghost use Rattle.sj_text_core.specs.Code.{mark_code};
 ghost use Rattle.sj_text_core.specs.Tree.{items_len};
 ghost use Rattle.sj_tape.specs.Stretches.{nodes_in};
-ghost use Rattle.sj_tape.specs.Parts.{AreItemNodes, items_in};
+ghost use Rattle.sj_tape.specs.Parts.{items_in};
+ghost use Rattle.sj_tape.specs.inner.Parts.{AreItemNodes};
 
 use crate::nodes::Nodes;
 use crate::value::Value;
@@ -28,7 +29,7 @@ impl<'t, 'i> Array<'t, 'i> {
     ghost use Rattle.std.specs.Prelude.{◌<◌, map, IfSome};
     ghost use Rattle.sj_tape.specs.Value.{tree, choice};
     ghost use Rattle.sj_tape.specs.Items.{items, items_ahead, parts_ahead, array_choice};
-    ghost use Rattle.sj_tape.specs.Parts.{ItemsFrom};
+    ghost use Rattle.sj_tape.specs.inner.Parts.{ItemsFrom};
 
     /// The array with so many items, whose nodes are these.
     #[inline(always)]

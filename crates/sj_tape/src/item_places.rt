@@ -4,7 +4,8 @@ ghost use Rattle.std.specs.Prelude.{◌≡◌, ◌+◌, ◌<◌, ◌≤◌, ◌^
 ghost use Rattle.sj_text_core.specs.Nodes.{IsPreorder};
 ghost use Rattle.sj_text_core.specs.Tree.{items_len};
 ghost use Rattle.sj_tape.specs.Marks.{packed_marks};
-ghost use Rattle.sj_tape.specs.Parts.{AreItemNodes, ItemsFrom, items_in};
+ghost use Rattle.sj_tape.specs.Parts.{items_in};
+ghost use Rattle.sj_tape.specs.inner.Parts.{AreItemNodes, ItemsFrom};
 ghost use Rattle.sj_tape.specs.inner.Places.{AllPlaced, ArePlaces, IsPlaced};
 
 use crate::kept::{Kept, between, kept_at, pass_run};

@@ -3,8 +3,10 @@
 ghost use Rattle.std.specs.Prelude.{◌≡◌, ◌+◌, ◌<◌, ◌≤◌, ◌^◌, length, get_or, map, take, drop, option_map};
 ghost use Rattle.sj_text_core.specs.Nodes.{Mark, nothing, width};
 ghost use Rattle.sj_text_core.specs.Tree.{items_len};
-ghost use Rattle.sj_tape.specs.Marks.{mark, array_len, object_len, text_in};
-ghost use Rattle.sj_tape.specs.Parts.{AreItemNodes, ItemsFrom, items_in};
+ghost use Rattle.sj_tape.specs.Marks.{mark, text_in};
+ghost use Rattle.sj_tape.specs.inner.Marks.{array_len, object_len};
+ghost use Rattle.sj_tape.specs.Parts.{items_in};
+ghost use Rattle.sj_tape.specs.inner.Parts.{AreItemNodes, ItemsFrom};
 
 use crate::node::Node;
 

@@ -1,7 +1,8 @@
 //! Tags of the keys of large objects, so that a look-up passes most members unseen.
 
 ghost use Rattle.std.specs.Prelude.{◌≡◌, ◌+◌, ◌<◌, ◌≤◌, length, get_or, drop, take, IfSome};
-ghost use Rattle.sj_text_core.specs.Nodes.{AreMembers, IsPreorder, members_in, nothing, width as node_width};
+ghost use Rattle.sj_text_core.specs.Nodes.{IsPreorder, members_in, nothing, width as node_width};
+ghost use Rattle.sj_text_core.specs.inner.Nodes.{AreMembers};
 ghost use Rattle.sj_text_core.specs.Tree.{members_len};
 ghost use Rattle.sj_tape.specs.Marks.{packed_marks};
 ghost use Rattle.sj_tape.specs.inner.Tags.{AllTagged, AreTags, IsTagged, MembersFrom, key_tag};

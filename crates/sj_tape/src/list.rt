@@ -5,7 +5,8 @@ ghost use Rattle.std.specs.Option.{ForSome};
 ghost use Rattle.sj_text_core.specs.Nodes.{IsPreorder};
 ghost use Rattle.sj_text_core.specs.Tree.{items_len};
 ghost use Rattle.sj_tape.specs.Marks.{packed_marks};
-ghost use Rattle.sj_tape.specs.Parts.{AreItemNodes, ItemsFrom, items_in};
+ghost use Rattle.sj_tape.specs.Parts.{items_in};
+ghost use Rattle.sj_tape.specs.inner.Parts.{AreItemNodes, ItemsFrom};
 ghost use Rattle.sj_tape.specs.inner.Places.{AllPlaced};
 ghost use Rattle.sj_tape.specs.inner.Tags.{AllTagged, IsTagged};
 

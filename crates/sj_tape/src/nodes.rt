@@ -27,11 +27,13 @@ pub struct Nodes<'t, 'i> {
 impl<'t, 'i> Nodes<'t, 'i> {
     ghost use Rattle.std.specs.Prelude.{◌≡◌, ◌∷◌, [], nat_eq, get_or, take, drop, IfNone, IfSome, option_map};
     ghost use Rattle.sj_text_core.specs.Nodes.{nothing, width};
-    ghost use Rattle.sj_tape.specs.Marks.{mark, packed_marks, array_len, object_len, text_in};
+    ghost use Rattle.sj_tape.specs.Marks.{mark, packed_marks, text_in};
+    ghost use Rattle.sj_tape.specs.inner.Marks.{array_len, object_len};
     ghost use Rattle.sj_tape.specs.Stretches.{nodes_in};
     ghost use Rattle.sj_tape.specs.Whole.{list_nodes};
     ghost use Rattle.sj_text_core.specs.Tree.{items_len};
-    ghost use Rattle.sj_tape.specs.Parts.{AreItemNodes, ItemsFrom, items_in};
+    ghost use Rattle.sj_tape.specs.Parts.{items_in};
+    ghost use Rattle.sj_tape.specs.inner.Parts.{AreItemNodes, ItemsFrom};
     ghost use Rattle.sj_tape.specs.inner.Tags.{IsTagged};
 
     /// The one node of a null.

@@ -3,7 +3,8 @@
 ghost use Rattle.std.specs.Prelude.{◌≡◌};
 ghost use Rattle.std.specs.Coded.{Coded-set, coded_list};
 ghost use Rattle.sj_text_core.specs.Code.{mark_code};
-ghost use Rattle.sj_text_core.specs.Nodes.{AreMembers, members_in};
+ghost use Rattle.sj_text_core.specs.Nodes.{members_in};
+ghost use Rattle.sj_text_core.specs.inner.Nodes.{AreMembers};
 ghost use Rattle.sj_text_core.specs.Tree.{members_len};
 ghost use Rattle.sj_tape.specs.Stretches.{nodes_in};
 

@@ -2,7 +2,8 @@
 
 ghost use Rattle.std.specs.Prelude.{◌≡◌, ◌+◌, ◌<◌, ◌≤◌, bytes_eq, drop, length, option_map, IfSome};
 ghost use Rattle.sj_text_core.specs.Find.{find_member};
-ghost use Rattle.sj_text_core.specs.Nodes.{AreMembers, members_in};
+ghost use Rattle.sj_text_core.specs.Nodes.{members_in};
+ghost use Rattle.sj_text_core.specs.inner.Nodes.{AreMembers};
 ghost use Rattle.sj_text_core.specs.Repeats.{find_last_member, find_member_by, visited, visited_by};
 ghost use Rattle.sj_text_core.specs.Tree.{members_len};
 ghost use Rattle.sj_tape.specs.inner.Ahead.{part_from, tree_from};

@@ -6,7 +6,8 @@ use Rattle.sj_text_core.specs.Tree.{Tree, obj, members_from}
 use Rattle.sj_text_core.specs.Find.{find_member}
 use Rattle.sj_text_core.specs.Keep.{is_seen}
 use Rattle.sj_text_core.specs.Same.{Same}
-use Rattle.sj_text_core.specs.Agree.{SameFound, texts, is_before, Agree}
+use Rattle.sj_text_core.specs.Agree.{texts, is_before}
+use Rattle.sj_text_core.specs.inner.Agree.{SameFound, Agree}
 use Rattle.sj_text_core.proofs.Equality.{found_from_at, at_from_found}
 
 abbrev Pairs : Type 0

@@ -4,7 +4,7 @@ use Rattle.std.specs.Prelude.{MatchBool, MatchOption, if◌then◌else◌}
 use Rattle.sj_text_core.specs.Tree.{Tree, null, boolean, int, text, list, obj, Items, no_items, item, Members, no_members, member}
 use Rattle.sj_text_core.specs.Find.{find_member}
 use Rattle.sj_text_core.specs.Same.{Same, SameItems, SameAt}
-use Rattle.sj_text_core.specs.Agree.{SameFound}
+use Rattle.sj_text_core.specs.inner.Agree.{SameFound}
 
 at_by : (b : Bool) (t : Tree) (P : Type 0) (r f : Option Tree) → (P → SameFound r f) → MatchBool b (MatchOption f ⊥ (λ u. Same t u)) P → SameFound (if b then Some t else r) f
 at_by true t P r f g h = h

@@ -73,10 +73,6 @@ IsPreorder ns = ns ≡ flat (tree_of ns)
 abbrev pub members_in : List Mark → Members
 members_in ns = members_of (length ns) (trees_of ns)
 
--- the nodes are those of an object's members
-abbrev pub AreMembers : List Mark → Type 0
-AreMembers ns = ns ≡ flat_members (members_in ns)
-
 -- how many nodes a tree with that first node has
 abbrev pub width : Mark → ℕ
 width nothing = 1

@@ -1,5 +1,5 @@
 -- The value of a scalar, whatever carries it.
-use Rattle.std.proofs.Common.{◌≡◌, ℕ, ℤ, pos, negsuc, Bool, true, false, Option, Some, None, refl, ap, suc}
+use Rattle.std.proofs.Common.{◌≡◌, ℤ, pos, Bool, true, false, refl, ap}
 use Rattle.std.specs.Bool.{Decides, beq}
 use Rattle.std.specs.Ordering.{int_eq}
 use Rattle.std.specs.Cmp.{IsEquivalence, decided, booleans_Decides, signed_Decides}
@@ -35,17 +35,3 @@ value_eq-decides _ _ = (λ e. cc, λ e. cc)
 
 pub value_eq-equivalence : IsEquivalence value_eq
 value_eq-equivalence = decided value_eq value_eq-decides
-
--- the sign and the size of a number
-abbrev pub sign_and_size : ℤ → Bool × ℕ
-sign_and_size (pos n) = (false, n)
-sign_and_size (negsuc n) = (true, suc n)
-
--- the number, where there is one
-abbrev pub number_in : StaticNode → Option ℤ
-number_in Null = None
-number_in (Truth b) = None
-number_in (I64 n) = Some n
-number_in (U64 n) = Some (pos n)
-number_in (I128 n) = Some n
-number_in (U128 n) = Some (pos n)

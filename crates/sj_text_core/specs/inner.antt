@@ -1,2 +1,5 @@
 pub mod Parse
 pub mod Flat
+pub mod Agree
+pub mod Nodes
+pub mod ScalarValues

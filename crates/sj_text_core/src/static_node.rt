@@ -21,7 +21,7 @@ impl StaticNode {
     ghost use Rattle.std.specs.Prelude.{◌≡◌, option_map, Some};
     ghost use Rattle.sj_text_core.specs.Print.{compact};
     ghost use Rattle.sj_text_core.specs.Scalars.{static_tree};
-    ghost use Rattle.sj_text_core.specs.ScalarValues.{number_in, sign_and_size};
+    ghost use Rattle.sj_text_core.specs.inner.ScalarValues.{number_in, sign_and_size};
 
     /// `null`, `true`, `false`, or the number in decimal, with its digits in the buffer.
     #[inline(always)]

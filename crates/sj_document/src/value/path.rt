@@ -7,7 +7,8 @@ ghost use Rattle.std.specs.Prelude.{◌≡◌, ◌≤◌, Some, None, IfOk, IfEr
 ghost use Rattle.sj_text_core.specs.Paths.{Step, by_key, tree_at, set_at};
 ghost use Rattle.sj_document.specs.declared.value.Document.{Document as DocumentOf};
 ghost use Rattle.sj_document.specs.Document.{tree};
-ghost use Rattle.sj_document.specs.Descents.{plug, IsSpine, Descended, Exchanged};
+ghost use Rattle.sj_document.specs.Descents.{Exchanged};
+ghost use Rattle.sj_document.specs.inner.Descents.{plug, IsSpine, Descended};
 
 use crate::value::Document;
 use crate::value::change::{Change, Replace};

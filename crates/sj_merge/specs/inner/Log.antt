@@ -7,7 +7,8 @@ use Rattle.sj_text_core.specs.Tree.{Tree, obj, Members, no_members, member}
 use Rattle.sj_text_core.specs.Find.{find_member}
 use Rattle.sj_text_core.specs.Edits.{put, cut}
 use Rattle.sj_document.specs.Document.{tree}
-use Rattle.sj_merge.specs.Merge.{merged, merged_members, merged_pair}
+use Rattle.sj_merge.specs.Merge.{merged, merged_members}
+use Rattle.sj_merge.specs.inner.Merge.{merged_pair}
 use Rattle.sj_merge.specs.declared.in_place.Logged.{Logged, fold-Logged}
 use Rattle.sj_merge.specs.declared.in_place.Logged.TheOpen.{Logged-F}
 

@@ -5,7 +5,7 @@
 //! they are forgotten: a chain ends at those that left at the front, and passes the others over.
 
 ghost use Rattle.std.specs.Prelude.{◌≡◌, ◌+◌, ◌<◌, ◌%◌, ◌^◌, [], ◌∷◌, ◌++◌, length};
-ghost use Rattle.sj_object.specs.Chains.{IsLinked};
+ghost use Rattle.sj_object.specs.inner.Chains.{IsLinked};
 ghost use Rattle.sj_object.specs.Holes.{raised_by, without, AreHoles, IsChained};
 
 use super::holes::raise;

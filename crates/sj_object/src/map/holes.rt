@@ -6,7 +6,8 @@
 ghost use Rattle.std.specs.Prelude.{◌≡◌, ◌+◌, ◌-◌, ◌<◌, ◌≤◌, ◌^◌, ℕ, length, drop};
 ghost use Rattle.std.specs.List.{copy_within};
 ghost use Rattle.std.specs.Vec.{vec_capacity};
-ghost use Rattle.sj_object.specs.Holes.{raised_by, lowered_by, without, with_hole, AreHoles};
+ghost use Rattle.sj_object.specs.Holes.{raised_by, without, AreHoles};
+ghost use Rattle.sj_object.specs.inner.Holes.{lowered_by, with_hole};
 
 /// How many a table has at most.
 pub const HOLES: usize = 8;

@@ -13,7 +13,8 @@ use Rattle.sj_pointer.specs.Pointed.{token_into, pointed, set_pointed}
 use Rattle.sj_document.specs.Document.{tree}
 use Rattle.sj_document.specs.declared.value.Document.{Document}
 use Rattle.sj_document.specs.Items.{insert_at, remove_at}
-use Rattle.sj_patch.specs.Patch.{within, onwards, added_in, added, removed_in, removed, swapped_in, or_missing}
+use Rattle.sj_patch.specs.Patch.{within, onwards, added_in, added, removed_in, removed, or_missing}
+use Rattle.sj_patch.specs.inner.Patch.{swapped_in}
 use Rattle.sj_text_core.specs.declared.patch_fault.OperationFault.{OperationFault}
 use Rattle.sj_text_core.specs.declared.patch_fault.OperationFault.TheVariants.{Missing, Whole}
 use Rattle.sj_patch.specs.declared.error.Refusal.{Refusal}

@@ -3,7 +3,8 @@ use Rattle.std.proofs.Common.{◌≡◌, ℤ, true, false, [], ◌∷◌, length
 use Rattle.std.specs.Fmt.{signed_decimal}
 use Rattle.sj_text_core.specs.Tree.{i64}
 use Rattle.sj_text_core.specs.Nodes.{nothing, truth, number, string, array, object}
-use Rattle.sj_print.specs.Printed.{frame_len, mark_len, marks_len}
+use Rattle.sj_print.specs.Printed.{frame_len}
+use Rattle.sj_print.specs.inner.Printed.{mark_len, marks_len}
 
 -- no comma in an empty container, and none in one with one part
 frame-none : frame_len 0 ≡ 2

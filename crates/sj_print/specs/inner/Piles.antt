@@ -2,8 +2,10 @@
 use Rattle.std.specs.Prelude.{ℕ, suc, ◌+◌, ◌≤◌, Bool, true, false, List, [], ◌∷◌, ◌++◌, Option}
 use Rattle.std.specs.List.{sum_by}
 use Rattle.sj_text_core.specs.Tree.{Tree, null, boolean, int, text, list, obj, Items, no_items, item, items_from, Members, no_members, member, members_from}
-use Rattle.sj_print.specs.Layouts.{IsLayout, deeper, laid, items_end, members_end}
-use Rattle.sj_print.specs.Outputs.{HoldsText, Towards}
+use Rattle.sj_print.specs.Layouts.{IsLayout, deeper, laid}
+use Rattle.sj_print.specs.inner.Layouts.{items_end, members_end}
+use Rattle.sj_print.specs.Outputs.{HoldsText}
+use Rattle.sj_print.specs.inner.Outputs.{Towards}
 use Rattle.sj_print.specs.declared.layout.Layout.{Layout}
 use Rattle.sj_print.specs.declared.print.Ahead.{Ahead}
 use Rattle.sj_print.specs.declared.print.Ahead.TheVariants as ahead

@@ -4,7 +4,7 @@ ghost use Rattle.std.specs.Prelude.{◌≡◌, ◌↔◌, ◌+◌, ◌^◌, ◌�
 ghost use Rattle.std.specs.Cow.{cow_str_bytes};
 ghost use Rattle.sj_lazy.specs.Value.{part as lazy_part};
 ghost use Rattle.sj_run.specs.Answers.{IsLong};
-ghost use Rattle.sj_run.specs.Answered.{Answers, IsBegunBy, PassesOne};
+ghost use Rattle.sj_run.specs.inner.Answered.{Answers, IsBegunBy, PassesOne};
 ghost use Rattle.sj_run.specs.inner.Asked.{read_meant, write_meant};
 ghost use Rattle.sj_run.specs.inner.Changed.{changed_meant};
 ghost use Rattle.sj_commands.specs.Commands as command;

@@ -2,7 +2,8 @@
 //! text of its own first.
 
 ghost use Rattle.std.specs.Prelude.{◌≡◌, ◌+◌, ◌^◌, ◌≤◌, length, OnOk, OnErr, IsErrOf};
-ghost use Rattle.sj_run.specs.Answered.{Answers, AnswersLine, AnswersLines, IsBegunBy, PassesOne, PassesLine, PassesLines};
+ghost use Rattle.sj_run.specs.Answered.{AnswersLines, PassesLines};
+ghost use Rattle.sj_run.specs.inner.Answered.{Answers, AnswersLine, IsBegunBy, PassesOne, PassesLine};
 ghost use Rattle.sj_commands.specs.Lines.{full_lines, line_texts};
 ghost use Rattle.sj_commands.specs.Meant.{command_meant};
 

@@ -3,7 +3,7 @@
 ghost use Rattle.std.specs.Prelude.{◌≡◌, ◌≢◌, ◌↔◌, IfOk, OnOk, OnErr, IsErrOf, IsUtf8, Err, length};
 ghost use Rattle.sj_text_core.specs.Grammar.{IsReadable, Spells};
 ghost use Rattle.sj_text_core.specs.Tree.{IsWithin};
-ghost use Rattle.sj_run.specs.Answered.{ReadsTree, AnswersText, PassesText};
+ghost use Rattle.sj_run.specs.inner.Answered.{ReadsTree, AnswersText, PassesText};
 ghost use Rattle.sj_run.specs.declared.sessions.Form.TheVariants as form;
 
 use crate::document::{BorrowedDoc, LazyDoc, OwnedDoc, Way};

@@ -2,7 +2,8 @@
 use Rattle.std.specs.Prelude.{ℕ, ◌+◌, ◌≤◌, List, get_or, take, drop, length}
 use Rattle.sj_text_core.specs.Tree.{Tree, Members}
 use Rattle.sj_text_core.specs.declared.repeats.Repeats.{Repeats}
-use Rattle.sj_text_core.specs.Nodes.{Mark, nothing, width, tree_of, AreMembers, members_in}
+use Rattle.sj_text_core.specs.Nodes.{Mark, nothing, width, tree_of, members_in}
+use Rattle.sj_text_core.specs.inner.Nodes.{AreMembers}
 
 -- the members whose nodes are those from the place on
 abbrev pub members_from : List Mark → ℕ → Members

@@ -3,7 +3,8 @@ use Rattle.std.specs.Prelude.{◌≡◌, ◌==◌, ◌||◌, ℕ, zero, suc, ◌
 use Rattle.std.specs.Int.{from_le_bytes, w32, w64}
 use Rattle.sj_text_core.specs.Hash.{hash}
 use Rattle.sj_text_core.specs.Tree.{paired, members_len}
-use Rattle.sj_text_core.specs.Nodes.{Mark, nothing, truth, number, string, array, object, width, AreMembers, members_in}
+use Rattle.sj_text_core.specs.Nodes.{Mark, nothing, truth, number, string, array, object, width, members_in}
+use Rattle.sj_text_core.specs.inner.Nodes.{AreMembers}
 use Rattle.sj_tape.specs.declared.key_tags.KeyTags.{KeyTags}
 
 -- the eight bytes at a position as one number

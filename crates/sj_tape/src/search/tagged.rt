@@ -3,7 +3,8 @@
 
 ghost use Rattle.std.specs.Prelude.{◌≡◌, ◌+◌, ◌<◌, ◌≤◌, ◌*◌, Some, drop, length, min, option_map, IfNone, IfSome, IfOk, IfErr};
 ghost use Rattle.sj_text_core.specs.Find.{find_member};
-ghost use Rattle.sj_text_core.specs.Nodes.{AreMembers, members_in};
+ghost use Rattle.sj_text_core.specs.Nodes.{members_in};
+ghost use Rattle.sj_text_core.specs.inner.Nodes.{AreMembers};
 ghost use Rattle.sj_text_core.specs.Repeats.{visited};
 ghost use Rattle.sj_text_core.specs.Tree.{members_len};
 ghost use Rattle.sj_tape.specs.inner.Ahead.{members_from, tree_from};

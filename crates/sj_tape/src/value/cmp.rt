@@ -1,7 +1,8 @@
 //! Whether two parts of tapes are the same document. Nothing is built, and no memory is taken.
 
 ghost use Rattle.std.specs.Prelude.{◌≡◌, ◌↔◌, IsTrue, None, take};
-ghost use Rattle.sj_text_core.specs.Agree.{Agree, HasTexts, texts};
+ghost use Rattle.sj_text_core.specs.Agree.{texts};
+ghost use Rattle.sj_text_core.specs.inner.Agree.{Agree, HasTexts};
 ghost use Rattle.sj_text_core.specs.Reads.{as_items, as_members};
 ghost use Rattle.sj_text_core.specs.Repeats.{SameBy};
 ghost use Rattle.sj_text_core.specs.Same.{Same};

@@ -3,7 +3,8 @@
 ghost use Rattle.std.specs.Prelude.{◌≡◌, ◌+◌, ◌^◌, ◌≤◌, length, IfOk, IfErr, OnOk, OnErr, IfSome, IfNone};
 ghost use Rattle.sj_text_core.specs.Print.{quoted};
 ghost use Rattle.sj_print.specs.Layouts.{laid, top};
-ghost use Rattle.sj_print.specs.Printed.{mark_len, marks_len, Counts};
+ghost use Rattle.sj_print.specs.Printed.{Counts};
+ghost use Rattle.sj_print.specs.inner.Printed.{mark_len, marks_len};
 ghost use Rattle.sj_tape.specs.Marks.{packed_mark, packed_marks};
 ghost use Rattle.sj_tape.specs.inner.PackedTree.{packed_tree};
 

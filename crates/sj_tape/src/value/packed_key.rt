@@ -1,7 +1,8 @@
 //! Keys in packed nodes.
 
 ghost use Rattle.std.specs.Prelude.{◌≡◌, option_map};
-ghost use Rattle.sj_tape.specs.Marks.{packed_mark, packed_marks, split_text, text_in};
+ghost use Rattle.sj_tape.specs.Marks.{packed_mark, packed_marks, text_in};
+ghost use Rattle.sj_tape.specs.inner.Marks.{split_text};
 ghost use Rattle.sj_tape.specs.inner.PackedKey.{packed_key};
 
 use crate::packed::Packed;

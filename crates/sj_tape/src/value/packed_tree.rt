@@ -3,10 +3,11 @@
 ghost use Rattle.std.specs.Prelude.{◌≡◌, ◌++◌, IfSome};
 ghost use Rattle.std.specs.Coded.{Coded-set, coded_list};
 ghost use Rattle.sj_text_core.specs.Code.{mark_code};
-ghost use Rattle.sj_text_core.specs.Nodes.{AreMembers, IsPreorder};
+ghost use Rattle.sj_text_core.specs.Nodes.{IsPreorder};
+ghost use Rattle.sj_text_core.specs.inner.Nodes.{AreMembers};
 ghost use Rattle.sj_tape.specs.inner.Fronts.{BeginsTree};
 ghost use Rattle.sj_tape.specs.Marks.{packed_marks};
-ghost use Rattle.sj_tape.specs.Parts.{AreItemNodes};
+ghost use Rattle.sj_tape.specs.inner.Parts.{AreItemNodes};
 
 use super::Value;
 use super::packed_key::{PackedKey, split_key};

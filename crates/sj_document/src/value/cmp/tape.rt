@@ -2,7 +2,8 @@
 //! taken.
 
 ghost use Rattle.std.specs.Prelude.{◌≡◌, ◌↔◌, IsTrue, map, take};
-ghost use Rattle.sj_text_core.specs.Agree.{Agree, HasTexts, texts};
+ghost use Rattle.sj_text_core.specs.Agree.{texts};
+ghost use Rattle.sj_text_core.specs.inner.Agree.{Agree, HasTexts};
 ghost use Rattle.sj_text_core.specs.Repeats.{SameBy};
 ghost use Rattle.sj_text_core.specs.Same.{Same};
 ghost use Rattle.sj_text_core.specs.Tree.{list, obj, items_from, paired};

@@ -4,7 +4,8 @@ use Rattle.sj_text_core.specs.Tree.{obj, no_members, members_depth}
 use Rattle.sj_text_core.specs.Find.{find_member}
 use Rattle.sj_text_core.specs.Edits as members
 use Rattle.sj_text_core.specs.Keep.{is_seen}
-use Rattle.sj_object.specs.Texts.{no_repeats, not_and}
+use Rattle.sj_object.specs.Texts.{no_repeats}
+use Rattle.sj_object.specs.inner.Texts.{not_and}
 use Rattle.sj_object.specs.Entries.{entries_of, texts}
 use Rattle.sj_object.specs.Members.{entry_members}
 use Rattle.sj_object.proofs.Shown.{lookup-entry_members, entry_members-set_value, entry_members-put}

@@ -4,7 +4,7 @@ use Rattle.std.proofs.lemmas.List.{take_rest}
 use Rattle.sj_text_core.specs.declared.repeats.Repeats.TheVariants.{First}
 use Rattle.sj_document.specs.Document.{tree}
 use Rattle.sj_pointer.specs.Pointed.{token_into, pointed}
-use Rattle.sj_path.specs.Made.{IsEndOf}
+use Rattle.sj_path.specs.inner.Made.{IsEndOf}
 use Rattle.sj_path.proofs.Nested.{found_once_more, ends_here}
 use Rattle.sj_path.proofs.made.split_found.Goals as goal
 

@@ -2,7 +2,7 @@ use Rattle.std.proofs.Common.{◌≡◌, ℕ, List, ◌++◌, length}
 use denote.Text.{Utf8}
 use denote.Shadow.{shadow}
 use Rattle.std.specs.Fmt.{HasWritten, IsPlainFormatter}
-use Rattle.sj_pointer.specs.Shown.{tildes_text}
+use Rattle.sj_pointer.specs.inner.Shown.{tildes_text}
 use Rattle.sj_pointer.proofs.show.write_part.Given as goal
 
 abbrev pub invariant-loop-plain : goal.invariant-loop-plain

@@ -1,7 +1,7 @@
 use Rattle.std.proofs.Common.{◌∷◌, [], ◌++◌, Some, None, rules, sym, ap, ◌∙◌, lit<}
 use Rattle.std.proofs.lemmas.Str.Pattern.{split_parts}
 use Rattle.std.proofs.Output.{has_written_append, has_written_of_eq}
-use Rattle.sj_pointer.specs.Shown.{tildes_text}
+use Rattle.sj_pointer.specs.inner.Shown.{tildes_text}
 use Rattle.sj_pointer.proofs.Shown.{token_whole, one_slash}
 use Rattle.sj_pointer.proofs.show.write_token.Goals as goal
 

@@ -1,7 +1,8 @@
 use Rattle.std.proofs.Common.{◌≡◌, true, false, [], ◌∷◌, ◌++◌, refl, sym, ap, ◌∙◌, subst, arith, rules}
 use Rattle.sj_text_core.specs.Print.{quoted}
 use Rattle.sj_text_core.specs.Tree.{list, obj, items_from, members_from}
-use Rattle.sj_print.specs.Layouts.{laid, deeper, gap, colon}
+use Rattle.sj_print.specs.Layouts.{laid, deeper, gap}
+use Rattle.sj_print.specs.inner.Layouts.{colon}
 use Rattle.sj_print.specs.Outputs.{AppendsText, HoldsText}
 use Rattle.sj_print.specs.inner.Piles.{items_mark, members_mark, items_weight, members_weight, items_laid, members_laid, ahead_tree, left, PilesUp}
 use Rattle.sj_print.specs.declared.print.Ahead.TheVariants as ahead

@@ -1,7 +1,9 @@
 use Rattle.std.proofs.Common.{ℕ, ◌≤◌, ◌+◌, ◌-◌, ◌*◌, Option, length}
 use Rattle.sj_text_core.specs.Tree.{list, obj, items_from, members_from}
-use Rattle.sj_print.specs.Layouts.{IsLayout, laid, items_end, members_end}
-use Rattle.sj_print.specs.Outputs.{HoldsText, Towards}
+use Rattle.sj_print.specs.Layouts.{IsLayout, laid}
+use Rattle.sj_print.specs.inner.Layouts.{items_end, members_end}
+use Rattle.sj_print.specs.Outputs.{HoldsText}
+use Rattle.sj_print.specs.inner.Outputs.{Towards}
 use Rattle.sj_print.specs.inner.Piles.{weight, items_weight, members_weight, ahead_tree, ahead_weight, left, rest, inner, AreLaid, open_weight}
 use Rattle.sj_print.proofs.print.+print.Given as goal
 

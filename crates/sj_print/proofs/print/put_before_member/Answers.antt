@@ -1,6 +1,7 @@
 use Rattle.std.proofs.Common.{◌∷◌, ◌++◌, sym, subst}
 use Rattle.sj_text_core.specs.Print.{quoted}
-use Rattle.sj_print.specs.Layouts.{gap, colon}
+use Rattle.sj_print.specs.Layouts.{gap}
+use Rattle.sj_print.specs.inner.Layouts.{colon}
 use Rattle.sj_print.specs.Outputs.{AppendsText}
 use Rattle.sj_print.specs.inner.Piles.{members_mark}
 use Rattle.sj_print.proofs.print.put_before_member.Goals as goal

@@ -1,6 +1,7 @@
 use Rattle.std.proofs.Common.{◌++◌, sym, subst}
 use Rattle.sj_text_core.specs.Print.{quoted}
-use Rattle.sj_print.specs.Layouts.{gap, colon}
+use Rattle.sj_print.specs.Layouts.{gap}
+use Rattle.sj_print.specs.inner.Layouts.{colon}
 use Rattle.sj_print.specs.Outputs.{Lays}
 use Rattle.sj_print.proofs.Layouts.{lays_key_compact, lays_key_pretty}
 use Rattle.sj_print.proofs.print.put_key.Goals as goal

@@ -2,8 +2,10 @@ use Rattle.std.proofs.Common.{rules, ◌≡◌, Some, ◌+◌, ◌<◌, ◌^◌,
 use Rattle.std.proofs.lemmas.List.{length-map}
 use Rattle.sj_text_core.specs.Nodes.{width}
 use Rattle.sj_text_core.specs.Tree.{items_len}
-use Rattle.sj_tape.specs.Marks.{packed_mark, packed_marks, array_len}
-use Rattle.sj_tape.specs.Parts.{AreItemNodes, items_in}
+use Rattle.sj_tape.specs.Marks.{packed_mark, packed_marks}
+use Rattle.sj_tape.specs.inner.Marks.{array_len}
+use Rattle.sj_tape.specs.Parts.{items_in}
+use Rattle.sj_tape.specs.inner.Parts.{AreItemNodes}
 use Rattle.sj_tape.proofs.Nested.{tree_in, array_there}
 use Rattle.sj_tape.proofs.item_places.array_at.Goals as goal
 

@@ -2,7 +2,8 @@ use Rattle.std.proofs.Common.{rules, ◌≡◌, ◌-◌, ◌*◌, ◌<◌, ◌�
 use Rattle.std.proofs.lemmas.Grind.{get_or_default_zero}
 use Rattle.sj_text_core.specs.Tree.{items_len}
 use Rattle.sj_tape.specs.Marks.{packed_marks}
-use Rattle.sj_tape.specs.Parts.{ItemsFrom, items_in}
+use Rattle.sj_tape.specs.Parts.{items_in}
+use Rattle.sj_tape.specs.inner.Parts.{ItemsFrom}
 use Rattle.sj_tape.specs.inner.Places.{IsPlaced, item_at}
 use Rattle.sj_tape.proofs.ItemPlaces.{item_from}
 use Rattle.sj_tape.proofs.item_places.place_before.Goals as goal

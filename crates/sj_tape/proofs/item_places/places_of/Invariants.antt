@@ -1,5 +1,5 @@
 use Rattle.std.proofs.Common.{◌≡◌, ◌*◌, ◌-◌, map, length, min}
-use Rattle.sj_tape.specs.Parts.{ItemsFrom}
+use Rattle.sj_tape.specs.inner.Parts.{ItemsFrom}
 use Rattle.sj_tape.specs.inner.Places.{ArePlaces}
 use Rattle.sj_tape.proofs.item_places.places_of.Given as goal
 

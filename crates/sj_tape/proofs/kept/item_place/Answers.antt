@@ -1,5 +1,5 @@
 use Rattle.std.proofs.Common.{◌≡◌, map, arith, subst}
-use Rattle.sj_tape.specs.Parts.{ItemsFrom}
+use Rattle.sj_tape.specs.inner.Parts.{ItemsFrom}
 use Rattle.sj_tape.proofs.kept.item_place.Goals as goal
 
 pub returns : goal.returns

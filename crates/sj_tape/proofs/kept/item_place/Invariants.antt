@@ -1,5 +1,5 @@
 use Rattle.std.specs.Prelude.{◌-◌, ◌≤◌, map}
-use Rattle.sj_tape.specs.Parts.{ItemsFrom}
+use Rattle.sj_tape.specs.inner.Parts.{ItemsFrom}
 use Rattle.sj_tape.proofs.kept.item_place.Given as goal
 
 abbrev pub invariant-loop-passed : goal.invariant-loop-passed

@@ -1,7 +1,7 @@
 use Rattle.std.proofs.Common.{rules, ◌≡◌, ◌+◌, ◌<◌, ◌^◌, map, arith, sym, subst}
 use Rattle.std.proofs.lemmas.List.{length-map}
 use Rattle.sj_text_core.specs.Nodes.{width}
-use Rattle.sj_tape.specs.Parts.{ItemsFrom}
+use Rattle.sj_tape.specs.inner.Parts.{ItemsFrom}
 use Rattle.sj_tape.proofs.ItemPlaces.{next_place, next_node}
 use Rattle.sj_tape.proofs.kept.pass_run.Goals as goal
 

@@ -1,5 +1,5 @@
 use Rattle.std.specs.Prelude.{map}
-use Rattle.sj_tape.specs.Parts.{ItemsFrom}
+use Rattle.sj_tape.specs.inner.Parts.{ItemsFrom}
 use Rattle.sj_tape.proofs.kept.pass_run.Given as goal
 
 abbrev pub invariant-loop-count : goal.invariant-loop-count

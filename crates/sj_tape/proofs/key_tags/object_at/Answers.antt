@@ -1,8 +1,10 @@
 use Rattle.std.proofs.Common.{rules, ◌≡◌, Some, ◌+◌, ◌<◌, ◌^◌, length, refl, sym, ap, subst, ◌∙◌, arith}
 use Rattle.std.proofs.lemmas.List.{length-map}
-use Rattle.sj_text_core.specs.Nodes.{AreMembers, members_in, width}
+use Rattle.sj_text_core.specs.Nodes.{members_in, width}
+use Rattle.sj_text_core.specs.inner.Nodes.{AreMembers}
 use Rattle.sj_text_core.specs.Tree.{members_len}
-use Rattle.sj_tape.specs.Marks.{packed_mark, packed_marks, object_len}
+use Rattle.sj_tape.specs.Marks.{packed_mark, packed_marks}
+use Rattle.sj_tape.specs.inner.Marks.{object_len}
 use Rattle.sj_tape.proofs.Nested.{tree_in, object_there}
 use Rattle.sj_tape.proofs.key_tags.object_at.Goals as goal
 

@@ -1,7 +1,7 @@
 use Rattle.std.proofs.Common.{◌≡◌, ◌<◌, ◌-◌, ℕ, suc, length, map, Some, sym, ap, ◌∙◌, subst, arith, rules}
 use Rattle.sj_text_core.specs.Paths.{step_into, set_found}
 use Rattle.sj_document.specs.Document.{tree}
-use Rattle.sj_document.specs.Descents.{plug, IsSpine}
+use Rattle.sj_document.specs.inner.Descents.{plug, IsSpine}
 use Rattle.sj_document.proofs.Descents.{climbed, spine_climbed, no_spine, step_is}
 use Rattle.sj_document.proofs.value.path.climb.Goals as goal
 

@@ -1,6 +1,6 @@
 use Rattle.std.proofs.Common.{◌≡◌, ◌≤◌, length, map}
 use Rattle.sj_document.specs.Document.{tree}
-use Rattle.sj_document.specs.Descents.{plug, IsSpine}
+use Rattle.sj_document.specs.inner.Descents.{plug, IsSpine}
 use Rattle.sj_document.proofs.value.path.climb.Given as goal
 
 abbrev pub invariant-loop-left : goal.invariant-loop-left

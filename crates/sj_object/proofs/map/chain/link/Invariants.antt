@@ -1,5 +1,5 @@
 use Rattle.std.proofs.Common.{◌^◌}
-use Rattle.sj_object.specs.Chains.{IsLinked}
+use Rattle.sj_object.specs.inner.Chains.{IsLinked}
 use Rattle.sj_object.proofs.map.chain.link.Given as goal
 
 abbrev pub invariant-loop-i : goal.invariant-loop-i

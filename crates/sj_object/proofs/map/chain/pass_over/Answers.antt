@@ -1,7 +1,8 @@
 use Rattle.std.proofs.Common.{◌≡◌, ℕ, zero, suc, ◌+◌, ◌-◌, ◌<◌, ◌≤◌, ◌%◌, ◌^◌, List, length, get_or, refl, sym, ap, ◌∙◌, arith, add-one, subst}
 use Rattle.std.proofs.lemmas.Nat.{pow_pos}
 use Rattle.sj_object.specs.Chains.{last_below}
-use Rattle.sj_object.specs.Holes.{raised_by, lowered_by, without, AreHoles, IsChained}
+use Rattle.sj_object.specs.Holes.{raised_by, without, AreHoles, IsChained}
+use Rattle.sj_object.specs.inner.Holes.{lowered_by}
 use Rattle.sj_object.proofs.Chains.{IsAbove, last_le, above_start, above_next}
 use Rattle.sj_object.proofs.Holes.{lowered_raised_by, raised_by_less, raised_by_ge, raised_by-within, length-without, get_or-without}
 use Rattle.sj_object.proofs.Chained.{IsChained-head, IsChained-link}

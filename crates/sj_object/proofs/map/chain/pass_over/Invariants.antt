@@ -1,5 +1,6 @@
 use Rattle.std.proofs.Common.{◌≡◌, ◌<◌, ◌≤◌, ◌^◌, length}
-use Rattle.sj_object.specs.Holes.{raised_by, lowered_by, without}
+use Rattle.sj_object.specs.Holes.{raised_by, without}
+use Rattle.sj_object.specs.inner.Holes.{lowered_by}
 use Rattle.sj_object.proofs.Chains.{IsAbove}
 use Rattle.sj_object.proofs.map.chain.pass_over.Given as goal
 

@@ -1,7 +1,8 @@
 use Rattle.std.proofs.Common.{◌≡◌, ◌+◌, ◌-◌, ◌<◌, ◌≤◌, ◌^◌, ℕ, suc, List, ◌∷◌, length, drop, get_or, arith, refl, sym, ap, ◌∙◌, add-one, subst}
 use Rattle.std.proofs.Math.Seq.{drop-cons}
 use Rattle.std.proofs.lemmas.List.{length-drop}
-use Rattle.sj_object.specs.Holes.{lowered_by, AreHoles}
+use Rattle.sj_object.specs.Holes.{AreHoles}
+use Rattle.sj_object.specs.inner.Holes.{lowered_by}
 use Rattle.sj_object.proofs.Holes.{AreHoles-drop, lowered_by-past, lowered_low}
 use Rattle.sj_object.proofs.map.holes.pass.Goals as goal
 

@@ -1,5 +1,5 @@
 use Rattle.std.proofs.Common.{◌≡◌, ◌-◌, ◌≤◌, ℕ, length, drop}
-use Rattle.sj_object.specs.Holes.{lowered_by}
+use Rattle.sj_object.specs.inner.Holes.{lowered_by}
 use Rattle.sj_object.proofs.map.holes.pass.Given as goal
 
 abbrev pub invariant-loop-passed : goal.invariant-loop-passed

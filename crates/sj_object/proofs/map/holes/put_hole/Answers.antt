@@ -5,7 +5,7 @@ use Rattle.std.specs.Bool.{if◌then◌else◌}
 use Rattle.std.proofs.Math.Seq.{drop-cons, take-suc}
 use Rattle.std.proofs.lemmas.Bool.Decides.{nat_tests}
 use Rattle.std.proofs.lemmas.List.{get_or_default, drop_all}
-use Rattle.sj_object.specs.Holes.{with_hole}
+use Rattle.sj_object.specs.inner.Holes.{with_hole}
 use Rattle.sj_object.proofs.map.holes.put_hole.Goals as goal
 use Rattle.sj_object.proofs.map.holes.put_hole.Goals.{then-loop-i-test+else-hole-index, else-loop-i-test}
 

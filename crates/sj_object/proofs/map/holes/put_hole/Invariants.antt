@@ -1,5 +1,5 @@
 use Rattle.std.proofs.Common.{◌≡◌, ◌-◌, ◌≤◌, ◌++◌, length, take, drop}
-use Rattle.sj_object.specs.Holes.{with_hole}
+use Rattle.sj_object.specs.inner.Holes.{with_hole}
 use Rattle.sj_object.proofs.map.holes.put_hole.Given as goal
 
 abbrev pub invariant-loop-i : goal.invariant-loop-i

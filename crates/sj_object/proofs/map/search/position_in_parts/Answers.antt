@@ -8,7 +8,8 @@ use Rattle.sj_object.specs.Steps.{walk}
 use Rattle.sj_object.specs.Index.{hashes_beside, hashes_in, IsTable}
 use Rattle.sj_object.specs.declared.map.index.Table.{Table}
 use Rattle.sj_object.specs.Chains.{last_below}
-use Rattle.sj_object.specs.Holes.{raised_by, lowered_by, AreHoles}
+use Rattle.sj_object.specs.Holes.{raised_by, AreHoles}
+use Rattle.sj_object.specs.inner.Holes.{lowered_by}
 use Rattle.sj_object.proofs.Chains.{last_le, last_dropped}
 use Rattle.sj_object.proofs.Holes.{AreHoles-any, AreHoles-more, lowered_raised_by, raised_by_ge, raised_by_less, raised_by-first, raised_by-within, get_or-without}
 use Rattle.sj_object.proofs.Tables.{length-beside}

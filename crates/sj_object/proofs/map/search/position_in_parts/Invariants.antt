@@ -1,6 +1,7 @@
 use Rattle.std.proofs.Common.{◌≡◌, ◌+◌, ◌-◌, ◌%◌, ◌≤◌, ◌^◌, ◌++◌, ℕ, drop, length}
 use Rattle.sj_object.specs.Entries.{texts, entries_of}
-use Rattle.sj_object.specs.Holes.{raised_by, lowered_by}
+use Rattle.sj_object.specs.Holes.{raised_by}
+use Rattle.sj_object.specs.inner.Holes.{lowered_by}
 use Rattle.sj_object.specs.Index.{hashes_in}
 use Rattle.sj_object.proofs.Walked.{IsAt, count}
 use Rattle.sj_object.proofs.map.search.position_in_parts.Given as goal

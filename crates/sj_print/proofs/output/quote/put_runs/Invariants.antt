@@ -1,6 +1,6 @@
 use Rattle.std.proofs.Common.{◌≤◌, ◌-◌, ◌++◌, length, drop, flat_map}
 use Rattle.sj_text_core.specs.Print.{escaped}
-use Rattle.sj_print.specs.Outputs.{Towards}
+use Rattle.sj_print.specs.inner.Outputs.{Towards}
 use Rattle.sj_print.proofs.output.quote.put_runs.Given as goal
 
 abbrev pub invariant-loop-out : goal.invariant-loop-out

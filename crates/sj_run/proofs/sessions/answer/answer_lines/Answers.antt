@@ -1,6 +1,7 @@
 use Rattle.std.proofs.Common.{ℕ, ◌+◌, List, drop, take, length, arith, rules, subst, sym, ap, ◌∙◌}
 use Rattle.std.proofs.lemmas.List.{length-drop, drop-drop}
-use Rattle.sj_run.specs.Answered.{AnswersLine, PassesLine, PassesLines}
+use Rattle.sj_run.specs.Answered.{PassesLines}
+use Rattle.sj_run.specs.inner.Answered.{AnswersLine, PassesLine}
 use Rattle.sj_commands.specs.Lines.{full_lines, line_texts}
 use Rattle.sj_commands.proofs.LineLemmas.{line_at}
 use Rattle.sj_run.proofs.SessionLemmas.{TextAt, text_at, text_ahead, text-none, text-some, told-more, told-passed, passes_first, passes_more, line_taken, behind_line, begun_more, grown, written_length, part_length}

@@ -1,6 +1,7 @@
 use Rattle.std.proofs.Common.{rules, ◌≡◌, ◌+◌, ◌<◌, ◌^◌, List, ℕ, true, false, bytes_eq, get_or, length, sym, ap, ◌∙◌, subst, arith}
 use Rattle.std.proofs.lemmas.List.{length-map}
-use Rattle.sj_text_core.specs.Nodes.{Mark, AreMembers, nothing, width, members_in}
+use Rattle.sj_text_core.specs.Nodes.{Mark, nothing, width, members_in}
+use Rattle.sj_text_core.specs.inner.Nodes.{AreMembers}
 use Rattle.sj_text_core.specs.Find.{find_member}
 use Rattle.sj_text_core.specs.Repeats.{visited}
 use Rattle.sj_text_core.specs.Tree.{members_len}

@@ -1,7 +1,8 @@
 use Rattle.std.proofs.Common.{◌≡◌, ℕ, ◌+◌, ◌<◌, ◌^◌, ◌↔◌, List, map, refl, sym, ap, ◌∙◌, arith, rules, length, IsTrue}
 use Rattle.std.proofs.lemmas.List.{drop-map}
 use Rattle.sj_text_core.specs.Tree.{Tree, items_depth, items_from, listed, paired}
-use Rattle.sj_text_core.specs.Agree.{HasTexts, texts}
+use Rattle.sj_text_core.specs.Agree.{texts}
+use Rattle.sj_text_core.specs.inner.Agree.{HasTexts}
 use Rattle.sj_text_core.specs.Keep.{is_seen}
 use Rattle.sj_text_core.specs.Repeats.{by_first, keep_last}
 use Rattle.sj_text_core.specs.declared.repeats.Repeats.TheVariants.{Last}

@@ -1,5 +1,6 @@
 use Rattle.std.proofs.Common.{◌≡◌, ℕ, List, true, drop}
-use Rattle.sj_text_core.specs.Agree.{HasTexts, texts}
+use Rattle.sj_text_core.specs.Agree.{texts}
+use Rattle.sj_text_core.specs.inner.Agree.{HasTexts}
 use Rattle.sj_text_core.specs.Keep.{is_seen}
 use Rattle.sj_tape.specs.Members.{members, keys_ahead}
 use Rattle.sj_text_core.specs.Tree.{paired}

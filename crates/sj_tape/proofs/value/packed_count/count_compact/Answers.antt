@@ -1,6 +1,6 @@
 use Rattle.std.proofs.Common.{rules, ◌+◌, ◌^◌, ◌≤◌, take_all, ap, arith}
 use Rattle.std.proofs.lemmas.List.{length-map}
-use Rattle.sj_print.specs.Printed.{mark_len, marks_len}
+use Rattle.sj_print.specs.inner.Printed.{mark_len, marks_len}
 use Rattle.sj_tape.specs.Marks.{packed_mark, packed_marks}
 use Rattle.sj_tape.proofs.PackedCounts.{marks_len_more, marks_len_within}
 use Rattle.sj_tape.proofs.value.packed_count.count_compact.Goals as goal

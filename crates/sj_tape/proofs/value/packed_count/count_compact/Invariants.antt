@@ -1,5 +1,5 @@
 use Rattle.std.proofs.Common.{◌≡◌, ◌+◌, ◌^◌, ◌≤◌, take}
-use Rattle.sj_print.specs.Printed.{marks_len}
+use Rattle.sj_print.specs.inner.Printed.{marks_len}
 use Rattle.sj_tape.specs.Marks.{packed_marks}
 use Rattle.sj_tape.proofs.value.packed_count.count_compact.Given as goal
 

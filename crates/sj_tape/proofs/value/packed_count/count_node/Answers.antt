@@ -1,5 +1,5 @@
 use Rattle.std.proofs.Common.{sym, ap, ◌∙◌}
-use Rattle.sj_print.specs.Printed.{mark_len}
+use Rattle.sj_print.specs.inner.Printed.{mark_len}
 use Rattle.sj_tape.specs.Marks.{mark}
 use Rattle.sj_tape.proofs.PackedCounts.{static_len, counts_text}
 use Rattle.sj_tape.proofs.value.packed_count.count_node.Goals as goal

@@ -1,7 +1,8 @@
 use Rattle.std.proofs.Common.{◌≡◌, ℕ, ◌+◌, ◌<◌, ◌^◌, ◌↔◌, List, map, refl, sym, ap, ◌∙◌, arith, rules, length, IsTrue, bytes_eq}
 use Rattle.std.proofs.lemmas.List.{drop-map}
 use Rattle.sj_text_core.specs.Tree.{Tree, list, obj, items_depth, items_from, listed, paired}
-use Rattle.sj_text_core.specs.Agree.{HasTexts, texts}
+use Rattle.sj_text_core.specs.Agree.{texts}
+use Rattle.sj_text_core.specs.inner.Agree.{HasTexts}
 use Rattle.sj_text_core.specs.Keep.{is_seen}
 use Rattle.sj_text_core.specs.Repeats.{keep_last, keep_last_items}
 use Rattle.sj_text_core.specs.declared.repeats.Repeats.TheVariants.{First, Last}

@@ -1,6 +1,7 @@
 use Rattle.std.proofs.Common.{◌≡◌, ◌+◌, ◌<◌, ◌^◌, ◌↔◌, refl, sym, ap, ◌∙◌, arith, rules, length, map, IsTrue, bytes_eq}
 use Rattle.sj_text_core.specs.Tree.{list, obj, items_depth, items_from, paired}
-use Rattle.sj_text_core.specs.Agree.{HasTexts, is_before}
+use Rattle.sj_text_core.specs.Agree.{is_before}
+use Rattle.sj_text_core.specs.inner.Agree.{HasTexts}
 use Rattle.sj_text_core.proofs.Shapes.{items_from-listed, list_is, obj_is}
 use Rattle.sj_tape.specs.Items.{items, items_ahead}
 use Rattle.sj_tape.specs.Members.{members, members_ahead}

@@ -1,6 +1,7 @@
 use Rattle.std.proofs.Common.{◌≡◌, ◌≤◌, ◌+◌, ◌*◌, drop, take, length, map}
 use Rattle.sj_text_core.specs.Tree.{depth, items_depth, members_depth, items_from, paired}
-use Rattle.sj_text_core.specs.Agree.{Agree, texts}
+use Rattle.sj_text_core.specs.Agree.{texts}
+use Rattle.sj_text_core.specs.inner.Agree.{Agree}
 use Rattle.sj_text_core.specs.Same.{SameItems}
 use Rattle.sj_tape.specs.Items.{items, items_ahead}
 use Rattle.sj_tape.specs.Members.{members, members_ahead}

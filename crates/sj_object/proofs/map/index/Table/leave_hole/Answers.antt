@@ -4,7 +4,8 @@ use Rattle.std.proofs.lemmas.List.{length-drop}
 use Rattle.std.proofs.lemmas.List.Edits.{length-remove}
 use Rattle.sj_object.specs.Index.{IsTable, hashes_beside}
 use Rattle.sj_object.specs.declared.map.index.Table.{Table}
-use Rattle.sj_object.specs.Holes.{raised_by, AreHoles, without, with_hole, IsChained}
+use Rattle.sj_object.specs.Holes.{raised_by, AreHoles, without, IsChained}
+use Rattle.sj_object.specs.inner.Holes.{with_hole}
 use Rattle.sj_object.proofs.Chains.{drop-remove, refilled}
 use Rattle.sj_object.proofs.Holes.{AreHoles-any, AreHoles-with, raised_by-last, raised_by-with, raised_by-within, raised_by_ge, without-last, without-with, length-with_hole}
 use Rattle.sj_object.proofs.Chained.{IsChained-same}
