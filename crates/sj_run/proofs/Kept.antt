@@ -8,11 +8,11 @@ use Rattle.sj_text_core.specs.Paths.{Step}
 use Rattle.sj_document.specs.Document.{tree}
 use Rattle.sj_document.specs.declared.value.Document.{Document}
 use Rattle.sj_document.proofs.Kept.{tree_kept}
-use Rattle.sj_run.specs.Answers.{answer, edit, edit_found, changed, old_or_nothing, IsLong}
+use Rattle.sj_run.specs.Answers.{edit, edit_found, changed, old_or_nothing, IsLong}
 use Rattle.sj_run.specs.inner.Changed.{changed_meant, Edits}
 use Rattle.sj_commands.specs.Commands.{PlainCommand, Write, write, insert, remove, push, pop, put}
 use Rattle.sj_text_core.specs.declared.repeats.Repeats.{Repeats}
-use Rattle.sj_run.specs.Repeats.{answer_by}
+use Rattle.sj_run.specs.Repeats.{answer_by, answer}
 use Rattle.sj_run.specs.Run.{Leaves}
 use Rattle.sj_run.specs.declared.change.Changed.{Changed}
 

@@ -1,5 +1,4 @@
 mod Series
-mod Firsts
 mod rows
 mod SessionLemmas
 mod CommandLemmas

@@ -1,18 +1,15 @@
--- What commands answer on one plain tree, and the tree that they leave.
+-- What reads answer on one plain tree, and what writes answer and leave.
 use Rattle.std.specs.Prelude.{ℕ, ◌^◌, ◌≤◌, Bool, length, List, [], ◌∷◌, Option, Some, None, is_some}
 use Rattle.sj_text_core.specs.Tree.{Tree, null, boolean, int, text, list, obj, Members, items_len, members_len, keys_of}
 use Rattle.sj_text_core.specs.Find.{find, find_member}
-use Rattle.sj_text_core.specs.Keep.{keep}
 use Rattle.sj_text_core.specs.Edits.{put as put_member, cut, push as push_item, front, last}
 use Rattle.sj_text_core.specs.Paths.{Step, tree_at, set_at}
 use Rattle.sj_text_core.specs.Print.{compact, pretty}
 use Rattle.sj_text_core.specs.Reads.{kind_of, as_signed, as_unsigned, as_text, as_members}
-use Rattle.sj_commands.specs.Commands.{Width, signed, unsigned, Read, Write, PlainCommand, read, write, bad}
+use Rattle.sj_commands.specs.Commands.{Width, signed, unsigned, Read, Write}
 use Rattle.sj_commands.specs.Commands as command
 use Rattle.sj_run.specs.Replies.{PlainReply}
 use Rattle.sj_run.specs.Replies as reply
-use Rattle.sj_run.specs.declared.sessions.Form.{Form}
-use Rattle.sj_run.specs.declared.sessions.Form.TheVariants as form
 
 -- whether the tree is a whole number in the type's range, whatever its carrier
 abbrev pub is_in : Width → Tree → Bool
@@ -71,28 +68,7 @@ edit_found (Some u) p w t = (set_at p (changed w u).0 t, (changed w u).1)
 abbrev pub edit : List Step → Write → Tree → Tree × PlainReply
 edit p w t = edit_found (tree_at p t) p w t
 
-abbrev pub read_found : Option Tree → Read → PlainReply
-read_found None r = reply.missing
-read_found (Some u) r = reply_to r u
-
--- The tree after a command, and the reply. A write goes to the first member of each key alone, also where it is refused.
-abbrev pub answer : Tree → PlainCommand → Tree × PlainReply
-answer t (read p r) = (t, read_found (tree_at p t) r)
-answer t (write p w) = edit p w (keep t)
-answer t bad = (t, reply.bad_command)
-
 -- a print past 2^64-1 bytes
 abbrev pub IsLong : PlainReply → Type 0
 IsLong (reply.printed s) = 2 ^ 64 ≤ length s
 IsLong r = ⊥
-
--- the replies to commands in order
-abbrev pub replies_of : Tree → List PlainCommand → List PlainReply
-replies_of t [] = []
-replies_of t (c ∷ cs) = (answer t c).1 ∷ replies_of (answer t c).0 cs
-
--- the tree that a document of the form means as read
-abbrev pub start : Form → Tree → Tree
-start form.Owned t = keep t
-start form.Borrowed t = keep t
-start form.Lazy t = t

@@ -1,5 +1,5 @@
--- What commands answer on a tree where the first or the last member of a text counts (RFC 8259, section 4, leaves repeats open).
--- With the choice First each word here is the one of Answers.
+-- What commands answer on one plain tree, and the tree that they leave, where the first or the last member of a text counts
+-- (RFC 8259, section 4, leaves repeats open).
 use Rattle.std.specs.Prelude.{List, [], ◌∷◌, Option, Some, None, is_some}
 use Rattle.sj_text_core.specs.Tree.{Tree}
 use Rattle.sj_text_core.specs.Paths.{tree_at_by}
@@ -44,3 +44,13 @@ abbrev pub start_by : Repeats → Form → Tree → Repeats × Tree
 start_by c form.Owned t = (First, keep_by c t)
 start_by c form.Borrowed t = (First, keep_by c t)
 start_by c form.Lazy t = (c, t)
+
+-- ---- where the first member of a text counts
+
+-- The tree after a command, and the reply. A write goes to the first member of each key alone, also where it is refused.
+abbrev pub answer : Tree → PlainCommand → Tree × PlainReply
+answer t c = ((answer_by (First, t) c).0.1, (answer_by (First, t) c).1)
+
+-- the replies to commands in order
+abbrev pub replies_of : Tree → List PlainCommand → List PlainReply
+replies_of t cs = replies_by (First, t) cs

@@ -2,4 +2,3 @@ pub mod Asked
 pub mod Found
 pub mod Changed
 pub mod Answered
-pub mod Answers

@@ -4,7 +4,8 @@ ghost use Rattle.std.specs.Prelude.{◌≡◌, [], map, IfOk, OnOk, OnErr};
 ghost use Rattle.sj_document.specs.Document.{tree};
 ghost use Rattle.sj_commands.specs.Commands as command;
 ghost use Rattle.sj_run.specs.inner.Asked.{write_meant};
-ghost use Rattle.sj_run.specs.Answers.{answer, IsLong};
+ghost use Rattle.sj_run.specs.Answers.{IsLong};
+ghost use Rattle.sj_run.specs.Repeats.{answer};
 ghost use Rattle.sj_run.specs.inner.Changed.{changed_meant, Edits};
 ghost use Rattle.sj_commands.specs.Meant.{step_meant};
 

@@ -2,7 +2,8 @@
 use Rattle.std.proofs.Common.{◌≡◌, pos, negsuc, true, false, [], ◌∷◌, refl, codes}
 use Rattle.sj_text_core.specs.Tree.{i64, u64, i128, u128, null, boolean, int, text, list, obj, no_items, no_members, member}
 use Rattle.sj_commands.specs.Commands.{signed, unsigned, read, kind, str, keys}
-use Rattle.sj_run.specs.Answers.{is_in, replies_of}
+use Rattle.sj_run.specs.Answers.{is_in}
+use Rattle.sj_run.specs.Repeats.{replies_of}
 use Rattle.sj_run.specs.Shown.{shown_all}
 
 -- the last number in range and the first past it, at both ends
