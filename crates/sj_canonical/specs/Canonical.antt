@@ -1,6 +1,6 @@
 -- The canonical form of a tree (RFC 8785). Its compact print is the canonical text: the escapes of that print are those of
 -- section 3.2.2.2, and a number is printed as its digits, also past 2 ^ 53.
-use Rattle.std.specs.Prelude.{◌≡◌, ℕ, List, if◌then◌else◌, Bool, false, flat_map}
+use Rattle.std.specs.Prelude.{◌≡◌, ℕ, List, if◌then◌else◌, Bool, false, flat_map, ⊤}
 use Rattle.std.specs.Char.Escape.{encode_utf16}
 use Rattle.std.specs.Cmp.Lexicographic.{slice_cmp}
 use Rattle.std.specs.Ordering.{is_lt, nat_cmp}
@@ -46,23 +46,23 @@ canonical_by c t = canonical (keep_by c t)
 
 -- no text stands before this one
 abbrev pub NoneBefore : List ℕ → Members → Type 0
-NoneBefore k no_members = Unit {0}
+NoneBefore k no_members = ⊤
 NoneBefore k (member l t ms) = (is_before l k ≡ false) × NoneBefore k ms
 
 -- in every object, at every depth, no text stands before one in front of it
 abbrev mutual
   pub IsOrdered : Tree → Type 0
-  IsOrdered null = Unit {0}
-  IsOrdered (boolean b) = Unit {0}
-  IsOrdered (int n c) = Unit {0}
-  IsOrdered (text s) = Unit {0}
+  IsOrdered null = ⊤
+  IsOrdered (boolean b) = ⊤
+  IsOrdered (int n c) = ⊤
+  IsOrdered (text s) = ⊤
   IsOrdered (list is) = AreOrdered is
   IsOrdered (obj ms) = HasOrder ms
 
   pub AreOrdered : Items → Type 0
-  AreOrdered no_items = Unit {0}
+  AreOrdered no_items = ⊤
   AreOrdered (item t is) = IsOrdered t × AreOrdered is
 
   pub HasOrder : Members → Type 0
-  HasOrder no_members = Unit {0}
+  HasOrder no_members = ⊤
   HasOrder (member k t ms) = NoneBefore k ms × IsOrdered t × HasOrder ms

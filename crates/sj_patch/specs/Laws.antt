@@ -1,5 +1,5 @@
 -- What holds of patches.
-use Rattle.std.specs.Prelude.{◌≡◌, ◌≢◌, ◌+◌, ℕ, false, List, [], ◌∷◌, ◌++◌, length, Result, Ok, Err}
+use Rattle.std.specs.Prelude.{◌≡◌, ◌≢◌, ◌+◌, ℕ, false, List, [], ◌∷◌, ◌++◌, length, Result, Ok, Err, ⊤}
 use Rattle.std.specs.List.{AllByRecursion}
 use Rattle.sj_text_core.specs.Tree.{Tree}
 use Rattle.sj_text_core.specs.Same.{Same}
@@ -39,7 +39,7 @@ MoveIsRemoveAdd = (from to : List (List ℕ)) (t : Tree) → (begins from to ≡
 abbrev pub HasSingleValue : PlainOperation → Type 0
 HasSingleValue (add ks v) = IsSingle v
 HasSingleValue (replace ks v) = IsSingle v
-HasSingleValue _ = Unit {0}
+HasSingleValue _ = ⊤
 
 -- of trees that are the same the same operations make trees that are the same, or they have one fault. Where a text names two members, a remove would show the second; documents have none such
 abbrev pub PatchedSame : Type 0

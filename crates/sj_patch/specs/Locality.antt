@@ -1,5 +1,5 @@
 -- Operations on what stands at a pointer.
-use Rattle.std.specs.Prelude.{◌≡◌, ◌≢◌, ℕ, List, [], ◌∷◌, ◌++◌, map, Some, None, Ok, Err, if◌then◌else◌}
+use Rattle.std.specs.Prelude.{◌≡◌, ◌≢◌, ℕ, List, [], ◌∷◌, ◌++◌, map, Some, None, Ok, Err, if◌then◌else◌, ⊤}
 use Rattle.std.specs.List.{AllByRecursion}
 use Rattle.sj_text_core.specs.Tree.{Tree}
 use Rattle.sj_pointer.specs.Pointed.{pointed, set_pointed}
@@ -21,11 +21,11 @@ under ks (test p v) = test (ks ++ p) v
 abbrev pub IsBelow : PlainOperation → Type 0
 IsBelow (add p v) = p ≢ []
 IsBelow (remove p) = p ≢ []
-IsBelow (replace p v) = Unit {0}
+IsBelow (replace p v) = ⊤
 -- what is moved from the root to the root stays
 IsBelow (move from to) = to ≡ [] → from ≡ []
 IsBelow (copy from to) = to ≢ []
-IsBelow (test p v) = Unit {0}
+IsBelow (test p v) = ⊤
 
 -- where ks find u, operations with ks in front of their pointers do to the tree what they do without ks to u, put back at ks; the first that fails has the same number and reason
 abbrev pub PatchIsLocal : Type 0

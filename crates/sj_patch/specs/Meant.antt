@@ -1,5 +1,5 @@
 -- The operations and the faults of the code, as the definitions have them.
-use Rattle.std.specs.Prelude.{◌≡◌, ℕ, List, Result, Err}
+use Rattle.std.specs.Prelude.{◌≡◌, ℕ, List, Result, Err, ⊤}
 use Rattle.sj_text_core.specs.Tree.{Tree}
 use Rattle.sj_document.specs.Document.{tree}
 use Rattle.sj_patch.specs.Patch.{PlainOperation, add, remove, replace, move, copy, test}
@@ -11,7 +11,7 @@ use Rattle.sj_patch.specs.declared.operation.Operation.TheVariants as operation
 
 -- which operation has no result, and why; of want of memory nothing is said
 abbrev pub Faults : PatchFault → Result Tree (ℕ × OperationFault) → Type 0
-Faults fault.OutOfMemory r = Unit {0}
+Faults fault.OutOfMemory r = ⊤
 Faults (fault.Failed i w) r = r ≡ Err (i, w)
 
 module _ {T : Type 0} (t : T → List ℕ) where

@@ -1,5 +1,5 @@
 -- Which operations a patch document lists (RFC 6902, sections 3 and 4), and what is wrong where it is none.
-use Rattle.std.specs.Prelude.{◌≡◌, ℕ, suc, ◌&&◌, List, [], ◌∷◌, Option, Some, None, Result, Ok, Err, option_and_then, if◌then◌else◌, bytes_eq, codes}
+use Rattle.std.specs.Prelude.{◌≡◌, ℕ, suc, ◌&&◌, List, [], ◌∷◌, Option, Some, None, Result, Ok, Err, option_and_then, if◌then◌else◌, bytes_eq, codes, ⊤}
 use Rattle.sj_text_core.specs.Tree.{Tree, Items, no_items, item}
 use Rattle.sj_text_core.specs.Find.{find}
 use Rattle.sj_text_core.specs.Reads.{as_items, as_members, as_text, member_as}
@@ -96,6 +96,6 @@ patch_in t = operations_in (as_items t)
 
 -- why a document was not read; of want of memory nothing is said
 abbrev pub IsFaultIn : PatchReadFault → Result (List PlainOperation) PatchReadFault → Type 0
-IsFaultIn fault.OutOfMemory r = Unit {0}
+IsFaultIn fault.OutOfMemory r = ⊤
 IsFaultIn (fault.Item n w) r = r ≡ Err (fault.Item n w)
 IsFaultIn fault.NotAnArray r = r ≡ Err fault.NotAnArray

@@ -1,5 +1,5 @@
 -- A tree of which what a pointer finds is changed.
-use Rattle.std.specs.Prelude.{◌≡◌, ℕ, List, Option, Some, None, Result, IfOk, IfErr, IsOk, IsSome, OnOk, OnErr, option_map}
+use Rattle.std.specs.Prelude.{◌≡◌, ℕ, List, Option, Some, None, Result, IfOk, IfErr, IsOk, IsSome, OnOk, OnErr, option_map, ⊤}
 use Rattle.sj_text_core.specs.Tree.{Tree}
 use Rattle.sj_text_core.specs.Find.{find}
 use Rattle.sj_text_core.specs.Reads.{as_items, as_members}
@@ -36,7 +36,7 @@ module _ {T : Type 0} (t : T → List ℕ) where
     pub kind : IfErr r (λ e. (e ≡ NotAnObject) × (as_members before ≡ None))
     pub object : OnOk r (IsSome (as_members before))
 
-  pub record Pushes (u : Document T) (before after : Tree) (r : Result (Unit {0}) (Refused AccessError (Document T))) : Type 0 where
+  pub record Pushes (u : Document T) (before after : Tree) (r : Result ⊤ (Refused AccessError (Document T))) : Type 0 where
     pub made : OnOk r (after ≡ with_item (tree t u) before)
     pub refused : OnErr r (after ≡ before)
     pub returned : IfErr r (λ e. e.value ≡ u)

@@ -1,5 +1,5 @@
 -- Both prints of a tree, by one word.
-use Rattle.std.specs.Prelude.{◌≡◌, Bool, true, false, ℕ, ◌+◌, ◌-◌, ◌*◌, ◌^◌, min, List, [], Option, Some, None}
+use Rattle.std.specs.Prelude.{◌≡◌, Bool, true, false, ℕ, ◌+◌, ◌-◌, ◌*◌, ◌^◌, min, List, [], Option, Some, None, ⊤}
 use Rattle.sj_text_core.specs.Tree.{Tree}
 use Rattle.sj_text_core.specs.Print.{compact, pretty, new_line}
 use Rattle.sj_print.specs.declared.layout.Layout.{Layout}
@@ -21,7 +21,7 @@ gap (Some level) = new_line level
 
 -- the layout of the code is this one
 abbrev pub IsLayout : Layout → Option ℕ → Type 0
-IsLayout Compact None = Unit {0}
+IsLayout Compact None = ⊤
 IsLayout Compact (Some level) = ⊥
 IsLayout (Pretty spaces) None = ⊥
 IsLayout (Pretty spaces) (Some level) = spaces ≡ min (2 * level) (2 ^ 64 - 1)

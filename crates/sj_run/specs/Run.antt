@@ -1,5 +1,5 @@
 -- What a refused command leaves, and what a run that is refused has answered.
-use Rattle.std.specs.Prelude.{◌≡◌, ◌⊎◌, List, ◌∷◌, ◌++◌}
+use Rattle.std.specs.Prelude.{◌≡◌, ◌⊎◌, List, ◌∷◌, ◌++◌, ⊤}
 use Rattle.sj_text_core.specs.Repeats.{keep_by}
 use Rattle.sj_text_core.specs.Tree.{Tree}
 use Rattle.sj_text_core.specs.declared.repeats.Repeats.{Repeats}
@@ -22,7 +22,7 @@ Leaves d bad u = u ≡ d
 -- why a command is refused: too long only where its reply is a print past 2^64-1 bytes
 abbrev pub MayRefuse : Repeats × Tree → PlainCommand → Why → Type 0
 MayRefuse d c TooLong = IsLong (answer_by d c).1
-MayRefuse d c OutOfMemory = Unit {0}
+MayRefuse d c OutOfMemory = ⊤
 
 -- The commands before the refused one were answered, and that one leaves what a refused command leaves.
 pub record Faults (d : Repeats × Tree) (cs : List PlainCommand) (replies : List PlainReply) (why : Why) (after : Repeats × Tree) : Type 0 where

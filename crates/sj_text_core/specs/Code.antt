@@ -1,5 +1,5 @@
 -- A tree is stored as its preorder.
-use Rattle.std.specs.Prelude.{◌≡◌, ◌⊎◌, ℕ, zero, suc, ℤ, Bool, List, [], refl}
+use Rattle.std.specs.Prelude.{◌≡◌, ◌⊎◌, ℕ, zero, suc, ℤ, Bool, List, [], refl, ⊤}
 use Rattle.std.proofs.Common.{inl, inr, ap, ◌∙◌, sym, append-nil}
 use Rattle.std.specs.Coded.{Coded, code_by, coded×, coded⊎, coded_ℕ, coded_ℤ, coded_bool, coded_list}
 use base.Stored.{coded_unit}
@@ -29,7 +29,7 @@ abbrev pub carrier_code : Coded Carrier
 carrier_code = code_by ℕ coded_ℕ carrier_number numbered_carrier numbered-carrier_number
 
 abbrev Parts : Type 0
-Parts = Unit {0} ⊎ (Bool ⊎ ((ℤ × Carrier) ⊎ (List ℕ ⊎ ((ℕ × ℕ) ⊎ (ℕ × ℕ)))))
+Parts = ⊤ ⊎ (Bool ⊎ ((ℤ × Carrier) ⊎ (List ℕ ⊎ ((ℕ × ℕ) ⊎ (ℕ × ℕ)))))
 
 abbrev parts_of : Mark → Parts
 parts_of nothing = inl tt

@@ -1,5 +1,5 @@
 -- The tree with the first member of each text alone (RFC 8259, section 4, leaves repeats open).
-use Rattle.std.specs.Prelude.{◌≡◌, ℕ, Bool, List, [], ◌∷◌, if◌then◌else◌, None, bytes_eq}
+use Rattle.std.specs.Prelude.{◌≡◌, ℕ, Bool, List, [], ◌∷◌, if◌then◌else◌, None, bytes_eq, ⊤}
 use Rattle.std.specs.List.{list_any}
 use Rattle.sj_text_core.specs.Tree.{Tree, null, boolean, int, text, list, obj, Items, no_items, item, Members, no_members, member}
 use Rattle.sj_text_core.specs.Find.{find_member}
@@ -31,20 +31,20 @@ abbrev mutual
 -- in every object, at every depth, each text names one member
 abbrev mutual
   pub IsSingle : Tree → Type 0
-  IsSingle null = Unit {0}
-  IsSingle (boolean b) = Unit {0}
-  IsSingle (int n c) = Unit {0}
-  IsSingle (text s) = Unit {0}
+  IsSingle null = ⊤
+  IsSingle (boolean b) = ⊤
+  IsSingle (int n c) = ⊤
+  IsSingle (text s) = ⊤
   IsSingle (list is) = AreSingle is
   IsSingle (obj ms) = HasSingle ms
 
   pub AreSingle : Items → Type 0
-  AreSingle no_items = Unit {0}
+  AreSingle no_items = ⊤
   AreSingle (item t is) = IsSingle t × AreSingle is
 
   -- no later member has the text of one before it
   pub HasSingle : Members → Type 0
-  HasSingle no_members = Unit {0}
+  HasSingle no_members = ⊤
   HasSingle (member k t ms) = (find_member k ms ≡ None) × IsSingle t × HasSingle ms
 
 -- keeping drops nothing

@@ -1,6 +1,6 @@
 -- The tree that a text spells, a tape lists and a document holds (RFC 8259, section 3).
 -- An object keeps its members in order, and a text may name several of them (section 4).
-use Rattle.std.specs.Prelude.{ℕ, suc, max, ◌≤◌, ◌^◌, ℤ, pos, neg_ℤ, ◌≤ℤ◌, ◌<ℤ◌, Bool, List, [], ◌∷◌, IsUtf8}
+use Rattle.std.specs.Prelude.{ℕ, suc, max, ◌≤◌, ◌^◌, ℤ, pos, neg_ℤ, ◌≤ℤ◌, ◌<ℤ◌, Bool, List, [], ◌∷◌, IsUtf8, ⊤}
 
 -- the range of whole numbers that a number is carried in
 pub data Carrier : Type 0 where
@@ -59,19 +59,19 @@ Carries u128 n = (pos 0 ≤ℤ n) × (n <ℤ pos (2 ^ 128))
 -- texts are UTF-8 (section 8.1), and numbers lie in their carrier's range
 abbrev mutual
   pub IsProper : Tree → Type 0
-  IsProper null = Unit {0}
-  IsProper (boolean b) = Unit {0}
+  IsProper null = ⊤
+  IsProper (boolean b) = ⊤
   IsProper (int n c) = Carries c n
   IsProper (text s) = IsUtf8 s
   IsProper (list is) = AreProper is
   IsProper (obj ms) = HasProper ms
 
   pub AreProper : Items → Type 0
-  AreProper no_items = Unit {0}
+  AreProper no_items = ⊤
   AreProper (item t is) = IsProper t × AreProper is
 
   pub HasProper : Members → Type 0
-  HasProper no_members = Unit {0}
+  HasProper no_members = ⊤
   HasProper (member k t ms) = IsUtf8 k × IsProper t × HasProper ms
 
 -- how many lists and objects stand inside one another (section 9)

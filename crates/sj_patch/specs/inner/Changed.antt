@@ -1,5 +1,5 @@
 -- What a change in a document makes, and what undoes it. Only private clauses cite it.
-use Rattle.std.specs.Prelude.{◌≡◌, ◌<◌, ◌&&◌, ℕ, zero, suc, Bool, true, false, not, List, [], ◌∷◌, map, string_bytes, Option, Some, option_map, unwrap_or, Result, Ok, Err, MatchOption, nat_le, nat_lt}
+use Rattle.std.specs.Prelude.{◌≡◌, ◌<◌, ◌&&◌, ℕ, zero, suc, Bool, true, false, not, List, [], ◌∷◌, map, string_bytes, Option, Some, option_map, unwrap_or, Result, Ok, Err, MatchOption, nat_le, nat_lt, ⊤}
 use Rattle.std.specs.Option.{is_some}
 use Rattle.std.specs.Vec.{vec_len, vec_capacity}
 use Rattle.std.specs.Result.{MatchResult}
@@ -169,15 +169,15 @@ module _ {T : Type 0} (t : T → List ℕ) where
 
   -- whether a change may want memory
   abbrev pub Wants : Change T → Type 0
-  Wants (change.Put v) = Unit {0}
-  Wants change.Take = Unit {0}
+  Wants (change.Put v) = ⊤
+  Wants change.Take = ⊤
   Wants (change.Swap v) = ⊥
   Wants (change.Undo r v) = ⊥
 
   abbrev pub IsNoUndo : Change T → Type 0
-  IsNoUndo (change.Put v) = Unit {0}
-  IsNoUndo change.Take = Unit {0}
-  IsNoUndo (change.Swap v) = Unit {0}
+  IsNoUndo (change.Put v) = ⊤
+  IsNoUndo change.Take = ⊤
+  IsNoUndo (change.Swap v) = ⊤
   IsNoUndo (change.Undo r v) = ⊥
 
   -- what is asked of an undo is asked of those of changes, and not of those of undos
@@ -185,13 +185,13 @@ module _ {T : Type 0} (t : T → List ℕ) where
   Undoes (change.Put v) Reverts = Reverts
   Undoes change.Take Reverts = Reverts
   Undoes (change.Swap v) Reverts = Reverts
-  Undoes (change.Undo r v) Reverts = Unit {0}
+  Undoes (change.Undo r v) Reverts = ⊤
 
   -- what undoes a put takes the value out; a removal and an undo answer what they took out
   abbrev pub Answers : Change T → List (List ℕ) → Tree → Tree → Done T → Type 0
   Answers (change.Put v) ks before after done = taken_at done.undo ks after ≡ tree t v
   Answers change.Take ks before after done = pointed ks before ≡ Some (tree t done.taken)
-  Answers (change.Swap v) ks before after done = Unit {0}
+  Answers (change.Swap v) ks before after done = ⊤
   Answers (change.Undo r v) ks before after done = tree t done.taken ≡ taken_at r ks before
 
   -- what a change at tokens made: the tree afterwards, and an undo that gives the tree back
@@ -208,9 +208,9 @@ module _ {T : Type 0} (t : T → List ℕ) where
   -- a refusal hands back what was to be put
   abbrev pub Returns : Change T → Document T → Type 0
   Returns (change.Put v) back = back ≡ v
-  Returns change.Take back = Unit {0}
-  Returns (change.Swap v) back = Unit {0}
-  Returns (change.Undo r v) back = Unit {0}
+  Returns change.Take back = ⊤
+  Returns (change.Swap v) back = ⊤
+  Returns (change.Undo r v) back = ⊤
 
   abbrev pub ChangesOrReturns : Change T → List (List ℕ) → Tree → Tree → Result (Done T) (Refused Refusal (Document T)) → Type 0
   ChangesOrReturns c ks before after r =
@@ -254,8 +254,8 @@ module _ {T : Type 0} (t : T → List ℕ) where
 
   -- the gap is of their kind
   abbrev pub IsGapOf : Gaps T → Gap T → Type 0
-  IsGapOf (gaps.Members room taken) (gap.Member i k v) = Unit {0}
-  IsGapOf (gaps.Items room taken) (gap.Item i v) = Unit {0}
+  IsGapOf (gaps.Members room taken) (gap.Member i k v) = ⊤
+  IsGapOf (gaps.Items room taken) (gap.Item i v) = ⊤
   IsGapOf _ _ = ⊥
 
   -- they do in a container what the reversal does alone

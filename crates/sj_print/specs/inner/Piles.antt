@@ -1,5 +1,5 @@
 -- What is still to be printed of containers that stand open. Only private clauses cite it.
-use Rattle.std.specs.Prelude.{ℕ, suc, ◌+◌, ◌≤◌, Bool, true, false, List, [], ◌∷◌, ◌++◌, Option}
+use Rattle.std.specs.Prelude.{ℕ, suc, ◌+◌, ◌≤◌, Bool, true, false, List, [], ◌∷◌, ◌++◌, Option, ⊤}
 use Rattle.std.specs.List.{sum_by}
 use Rattle.sj_text_core.specs.Tree.{Tree, null, boolean, int, text, list, obj, Items, no_items, item, items_from, Members, no_members, member, members_from}
 use Rattle.sj_print.specs.Layouts.{IsLayout, deeper, laid}
@@ -56,7 +56,7 @@ inner s (e ∷ pile) = inner (deeper s) pile
 
 -- each has the layout of its level
 abbrev pub AreLaid : {I M : Type 0} → Option ℕ → List (Open I M) → Type 0
-AreLaid s [] = Unit {0}
+AreLaid s [] = ⊤
 AreLaid s (e ∷ pile) = IsLayout e.layout s × AreLaid (deeper s) pile
 
 module _ {I M : Type 0} (items : I → List Tree) (members : M → List (List ℕ × Tree)) where

@@ -1,5 +1,5 @@
 -- What nodes begin with.
-use Rattle.std.specs.Prelude.{◌≡◌, ℕ, List, [], ◌∷◌, ◌++◌, length}
+use Rattle.std.specs.Prelude.{◌≡◌, ℕ, List, [], ◌∷◌, ◌++◌, length, ⊤}
 use Rattle.sj_text_core.specs.Tree.{Tree, Items, items_len, Members, members_len}
 use Rattle.sj_text_core.specs.Nodes.{Mark, string, flat, flat_items, flat_members}
 
@@ -11,7 +11,7 @@ pub record BeginsTree (ns : List Mark) : Type 0 where
 
 -- a tree begins at every node
 abbrev pub AllBegin : List Mark → Type 0
-AllBegin [] = Unit {0}
+AllBegin [] = ⊤
 AllBegin (m ∷ ns) = BeginsTree (m ∷ ns) × AllBegin ns
 
 -- so many items in so many nodes, and others
