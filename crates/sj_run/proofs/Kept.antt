@@ -4,6 +4,7 @@ use Rattle.std.specs.declared.alloc.AllocError.{AllocError}
 use Rattle.sj_text_core.specs.Tree.{Tree, null, boolean, int, text, list, obj}
 use Rattle.sj_text_core.specs.Edits.{last}
 use Rattle.sj_text_core.specs.Find.{find_member}
+use Rattle.sj_text_core.specs.Keep.{keep}
 use Rattle.sj_text_core.specs.Paths.{Step}
 use Rattle.sj_document.specs.Document.{tree}
 use Rattle.sj_document.specs.declared.value.Document.{Document}
@@ -12,19 +13,19 @@ use Rattle.sj_run.specs.Answers.{edit, edit_found, changed, old_or_nothing, IsLo
 use Rattle.sj_run.specs.inner.Changed.{changed_meant, Edits}
 use Rattle.sj_commands.specs.Commands.{PlainCommand, Write, write, insert, remove, push, pop, put}
 use Rattle.sj_text_core.specs.declared.repeats.Repeats.{Repeats}
-use Rattle.sj_run.specs.Repeats.{answer_by, answer}
+use Rattle.sj_run.specs.Repeats.{answer_by}
 use Rattle.sj_run.specs.Run.{Leaves}
 use Rattle.sj_run.specs.declared.change.Changed.{Changed}
 
 module _ {T : Type 0} (t : T → List ℕ) (p : List Step) (w : Write) (v : Document T) (u : Tree) where
-  kept : edit p w (tree t v) ≡ answer (tree t v) (write p w)
+  kept : edit p w (tree t v) ≡ edit p w (keep (tree t v))
   kept = ap (edit p w) (sym (tree_kept t v))
 
-  pub kept_reply : (r : Result (Changed T) AllocError) → Edits t p w (tree t v) u r → IfOk r (λ x. changed_meant t x ≡ (answer (tree t v) (write p w)).1)
+  pub kept_reply : (r : Result (Changed T) AllocError) → Edits t p w (tree t v) u r → IfOk r (λ x. changed_meant t x ≡ (edit p w (keep (tree t v))).1)
   kept_reply (Ok x) h = ap (λ q. q.1) (h ∙ kept)
   kept_reply (Err x) h = tt
 
-  pub kept_after : (r : Result (Changed T) AllocError) → Edits t p w (tree t v) u r → OnOk r (u ≡ (answer (tree t v) (write p w)).0)
+  pub kept_after : (r : Result (Changed T) AllocError) → Edits t p w (tree t v) u r → OnOk r (u ≡ (edit p w (keep (tree t v))).0)
   kept_after (Ok x) h = ap (λ q. q.0) (h ∙ kept)
   kept_after (Err x) h = tt
 
@@ -71,7 +72,7 @@ short_found (Some u) p w t h = short_changed w u h
 pub short_edit : (p : List Step) (w : Write) (t : Tree) → IsLong (edit p w t).1 → ⊥
 short_edit p w t h = short_found _ p w t h
 
-pub short_write : (p : List Step) (w : Write) (t : Tree) → IsLong (answer t (write p w)).1 → ⊥
+pub short_write : (p : List Step) (w : Write) (t : Tree) → IsLong (edit p w (keep t)).1 → ⊥
 short_write p w t h = short_edit p w _ h
 
 -- what a write that was made leaves, where its reply was refused

@@ -44,13 +44,3 @@ abbrev pub start_by : Repeats → Form → Tree → Repeats × Tree
 start_by c form.Owned t = (First, keep_by c t)
 start_by c form.Borrowed t = (First, keep_by c t)
 start_by c form.Lazy t = (c, t)
-
--- ---- where the first member of a text counts
-
--- The tree after a command, and the reply. A write goes to the first member of each key alone, also where it is refused.
-abbrev pub answer : Tree → PlainCommand → Tree × PlainReply
-answer t c = ((answer_by (First, t) c).0.1, (answer_by (First, t) c).1)
-
--- the replies to commands in order
-abbrev pub replies_of : Tree → List PlainCommand → List PlainReply
-replies_of t cs = replies_by (First, t) cs

@@ -1,11 +1,11 @@
 //! Writes at a value.
 
 ghost use Rattle.std.specs.Prelude.{◌≡◌, [], map, IfOk, OnOk, OnErr};
+ghost use Rattle.sj_text_core.specs.Keep.{keep};
 ghost use Rattle.sj_document.specs.Document.{tree};
 ghost use Rattle.sj_commands.specs.Commands as command;
 ghost use Rattle.sj_run.specs.inner.Asked.{write_meant};
-ghost use Rattle.sj_run.specs.Answers.{IsLong};
-ghost use Rattle.sj_run.specs.Repeats.{answer};
+ghost use Rattle.sj_run.specs.Answers.{edit as edited, IsLong};
 ghost use Rattle.sj_run.specs.inner.Changed.{changed_meant, Edits};
 ghost use Rattle.sj_commands.specs.Meant.{step_meant};
 
@@ -122,10 +122,10 @@ pub(crate) fn change_at<T: KeyText + Drop>(
 ) -> Result<Changed<T>, AllocError>
 where
     Way: Inserts<T>,
-    ensures reply { IfOk result (λ changed. changed_meant T.text_of changed ≡ (answer (tree T.text_of value.old) (command.write (map step_meant path.now) (write_meant T.text_of write))).1) }
-    ensures after { OnOk result (tree T.text_of value.new ≡ (answer (tree T.text_of value.old) (command.write (map step_meant path.now) (write_meant T.text_of write))).0) }
+    ensures reply { IfOk result (λ changed. changed_meant T.text_of changed ≡ (edited (map step_meant path.now) (write_meant T.text_of write) (keep (tree T.text_of value.old))).1) }
+    ensures after { OnOk result (tree T.text_of value.new ≡ (edited (map step_meant path.now) (write_meant T.text_of write) (keep (tree T.text_of value.old))).0) }
     ensures refused { OnErr result (tree T.text_of value.new ≡ tree T.text_of value.old) }
-    ensures short { ¬ (IsLong (answer (tree T.text_of value.old) (command.write (map step_meant path.now) (write_meant T.text_of write))).1) }
+    ensures short { ¬ (IsLong (edited (map step_meant path.now) (write_meant T.text_of write) (keep (tree T.text_of value.old))).1) }
 {
     edit_at(value, way, path, write)
 }

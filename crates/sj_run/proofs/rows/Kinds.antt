@@ -3,7 +3,8 @@ use Rattle.std.proofs.Common.{◌≡◌, pos, negsuc, true, false, [], ◌∷◌
 use Rattle.sj_text_core.specs.Tree.{i64, u64, i128, u128, null, boolean, int, text, list, obj, no_items, no_members, member}
 use Rattle.sj_commands.specs.Commands.{signed, unsigned, read, kind, str, keys}
 use Rattle.sj_run.specs.Answers.{is_in}
-use Rattle.sj_run.specs.Repeats.{replies_of}
+use Rattle.sj_text_core.specs.declared.repeats.Repeats.TheVariants.{First}
+use Rattle.sj_run.specs.Repeats.{replies_by}
 use Rattle.sj_run.specs.Shown.{shown_all}
 
 -- the last number in range and the first past it, at both ends
@@ -114,39 +115,39 @@ is_in-text : is_in (unsigned 8) (text (codes "1")) ≡ false
 is_in-text = refl
 
 -- each kind's name
-shown-null : shown_all (replies_of null (read [] kind ∷ [])) ≡ codes "Null\n"
+shown-null : shown_all (replies_by (First, null) (read [] kind ∷ [])) ≡ codes "Null\n"
 shown-null = refl
 
-shown-truth : shown_all (replies_of (boolean true) (read [] kind ∷ [])) ≡ codes "Bool\n"
+shown-truth : shown_all (replies_by (First, (boolean true)) (read [] kind ∷ [])) ≡ codes "Bool\n"
 shown-truth = refl
 
-shown-i64 : shown_all (replies_of (int (pos 0) i64) (read [] kind ∷ [])) ≡ codes "I64\n"
+shown-i64 : shown_all (replies_by (First, (int (pos 0) i64)) (read [] kind ∷ [])) ≡ codes "I64\n"
 shown-i64 = refl
 
-shown-u64 : shown_all (replies_of (int (pos 0) u64) (read [] kind ∷ [])) ≡ codes "U64\n"
+shown-u64 : shown_all (replies_by (First, (int (pos 0) u64)) (read [] kind ∷ [])) ≡ codes "U64\n"
 shown-u64 = refl
 
-shown-i128 : shown_all (replies_of (int (pos 0) i128) (read [] kind ∷ [])) ≡ codes "I128\n"
+shown-i128 : shown_all (replies_by (First, (int (pos 0) i128)) (read [] kind ∷ [])) ≡ codes "I128\n"
 shown-i128 = refl
 
-shown-u128 : shown_all (replies_of (int (pos 0) u128) (read [] kind ∷ [])) ≡ codes "U128\n"
+shown-u128 : shown_all (replies_by (First, (int (pos 0) u128)) (read [] kind ∷ [])) ≡ codes "U128\n"
 shown-u128 = refl
 
-shown-text : shown_all (replies_of (text []) (read [] kind ∷ [])) ≡ codes "String\n"
+shown-text : shown_all (replies_by (First, (text [])) (read [] kind ∷ [])) ≡ codes "String\n"
 shown-text = refl
 
-shown-list : shown_all (replies_of (list no_items) (read [] kind ∷ [])) ≡ codes "Array\n"
+shown-list : shown_all (replies_by (First, (list no_items)) (read [] kind ∷ [])) ≡ codes "Array\n"
 shown-list = refl
 
-shown-object : shown_all (replies_of (obj no_members) (read [] kind ∷ [])) ≡ codes "Object\n"
+shown-object : shown_all (replies_by (First, (obj no_members)) (read [] kind ∷ [])) ≡ codes "Object\n"
 shown-object = refl
 
 -- the empty text and the empty key
-shown-no_text : shown_all (replies_of (text []) (read [] str ∷ [])) ≡ codes "\"\"\n"
+shown-no_text : shown_all (replies_by (First, (text [])) (read [] str ∷ [])) ≡ codes "\"\"\n"
 shown-no_text = refl
 
-shown-no_key : shown_all (replies_of (obj (member [] null no_members)) (read [] keys ∷ [])) ≡ codes "[\"\"]\n"
+shown-no_key : shown_all (replies_by (First, (obj (member [] null no_members))) (read [] keys ∷ [])) ≡ codes "[\"\"]\n"
 shown-no_key = refl
 
-shown-no_keys : shown_all (replies_of (obj no_members) (read [] keys ∷ [])) ≡ codes "[]\n"
+shown-no_keys : shown_all (replies_by (First, (obj no_members)) (read [] keys ∷ [])) ≡ codes "[]\n"
 shown-no_keys = refl
