@@ -26,6 +26,7 @@ class Module:
 
     def __init__(self):
         self.brought, self.named, self.defined, self.parts = {}, {}, {}, {}
+        self.opened = []  # what its definitions are given, by lines that open a module
 
     def bring(self, base, names, alias):
         if names is None:
@@ -48,6 +49,7 @@ def module_of(path):
             module.bring(*use.groups())
             continue
         if re.match(r"(abbrev )?mutual$|module\b", text):
+            module.opened.append(text)
             inside = None
             continue
         if inside is not None and depth > inside:
@@ -141,9 +143,19 @@ def closure(start):
             continue
         seen.add(item)
         if base is not None:
-            for line in MODULES[base].defined[name]:
+            for line in MODULES[base].defined[name] + MODULES[base].opened:
                 left += behind(MODULES[base], line.split("--")[0], base)
     return seen
+
+
+def misplaced():
+    """The words outside of specs/inner that no public clause cites, but lemmas, and what the logic asks of a type's form."""
+    found = closure(cited("all"))
+    for base, module in sorted(MODULES.items()):
+        if ".specs.inner." not in base and ".specs.formers." not in base:
+            for name, lines in module.defined.items():
+                if (base, name) not in found and not is_lemma(name, lines):
+                    yield f"{base.replace('.specs.', '/specs/')}.antt: {name}"
 
 
 def cited(wanted):
@@ -195,6 +207,9 @@ def main():
               for line in p.read_text().split("\n") if re.search(r"\bunsafe \{", line.split("//")[0])]
     print(f"{len(blocks)} unsafe blocks: {', '.join(blocks)}")
     wrong = 0
+    for word in misplaced():
+        print(f"no public clause cites it, and it is not in specs/inner: {word}")
+        wrong = 1
     if "--write" in pages:
         numbers = iter(told)
         page = ROOT / pages["--write"]

@@ -9,7 +9,8 @@ use Rattle.sj_object.specs.Texts.{no_repeats}
 use Rattle.sj_object.specs.inner.Texts.{or_of_false, or_false, not_and, not_and_of, bytes_eq-sym}
 use Rattle.sj_object.specs.Entries.{Entry, texts}
 use Rattle.sj_object.specs.Edits.{lookup}
-use Rattle.sj_document.specs.SameWith.{SameIn, value_at, EachHas, SameEntries}
+use Rattle.sj_document.specs.SameWith.{SameIn, value_at, SameEntries}
+use Rattle.sj_document.specs.inner.SameWith.{EachHas}
 use Rattle.sj_text_core.proofs.Comparing.{by_either}
 use Rattle.sj_document.proofs.Compared.{seen_by, contra, texts_len}
 use Rattle.sj_document.proofs.Subsets.{Within, within_len, within_back}

@@ -1,5 +1,5 @@
 -- A document compared with what holds values of another type.
-use Rattle.std.specs.Prelude.{◌≡◌, ℕ, List, [], ◌∷◌, Option, Some, None, MatchOption, if◌then◌else◌, bytes_eq, ⊤}
+use Rattle.std.specs.Prelude.{◌≡◌, ℕ, List, [], ◌∷◌, Option, Some, None, MatchOption, if◌then◌else◌, bytes_eq}
 use Rattle.sj_object.specs.Entries.{Entry}
 use Rattle.sj_object.specs.Edits.{lookup}
 use Rattle.sj_document.specs.declared.value.Document.{Document, out-Document}
@@ -48,11 +48,6 @@ module _ {D X : Type 0} (R : D → X → Type 0) where
   SameIn (Some d) found = MatchOption found ⊥ (λ x. R d x)
 
   module _ {K L : Type 0} (text : L → List ℕ) where
-    -- each key's text has a value that is the same
-    abbrev pub EachHas : List (Entry K D) → List (L × X) → Type 0
-    EachHas es [] = ⊤
-    EachHas es (p ∷ ps) = MatchOption (lookup (text p.0) es) ⊥ (λ d. R d p.1) × EachHas es ps
-
     -- each text has the same in both
     abbrev pub SameEntries : List (Entry K D) → List (L × X) → Type 0
     SameEntries es ps = (k : List ℕ) → SameIn (lookup k es) (value_at text k ps)

@@ -2,3 +2,4 @@ pub mod Nodes
 pub mod Reach
 pub mod Piled
 pub mod Descents
+pub mod SameWith

@@ -13,7 +13,8 @@ use Rattle.sj_object.specs.Texts.{no_repeats}
 use Rattle.sj_object.specs.inner.Texts.{or_of_false, or_false, not_and, bytes_eq-sym}
 use Rattle.sj_document.specs.SameWith.{SameIn, value_at}
 use Rattle.sj_document.proofs.Subsets.{Within, within_len, within_back}
-use Rattle.sj_lazy.specs.SameMap.{EachFound, SameEntries}
+use Rattle.sj_lazy.specs.SameMap.{SameEntries}
+use Rattle.sj_lazy.specs.inner.SameMap.{EachFound}
 use Rattle.sj_lazy.specs.inner.SameMap.{HasKeys}
 
 abbrev pub names : {L X : Type 0} → (L → List ℕ) → List (L × X) → List (List ℕ)

@@ -2,12 +2,7 @@
 use Rattle.std.specs.Borrow.{RattleType}
 use Rattle.sj_object.specs.Lends.{KeyMembers}
 use Rattle.sj_lazy.specs.contracts.value.Lazy.{the_row}
-use Rattle.sj_lazy.specs.contracts.value.Shared as shared
 
 module _ (P B T : RattleType) (key : KeyMembers T.Denot) where
   abbrev pub lazy_row : RattleType
   lazy_row = the_row P B T (record { text_of = key.text_of }) (record { eq = key.eq })
-
-module _ (B T : RattleType) (key : KeyMembers T.Denot) where
-  abbrev pub shared_row : RattleType
-  shared_row = shared.the_row B T (record { text_of = key.text_of }) (record { eq = key.eq })

@@ -1,5 +1,5 @@
 -- A lazy value compared with a map of std.
-use Rattle.std.specs.Prelude.{ℕ, List, [], ◌∷◌, Option, Some, None, MatchOption, ⊤}
+use Rattle.std.specs.Prelude.{ℕ, List, Option, Some, None}
 use Rattle.sj_text_core.specs.Tree.{Tree, Members}
 use Rattle.sj_text_core.specs.Repeats.{find_member_by}
 use Rattle.sj_text_core.specs.declared.repeats.Repeats.{Repeats}
@@ -7,11 +7,6 @@ use Rattle.sj_document.specs.SameWith.{SameIn, value_at}
 
 -- find gives what is found at a text, and R compares it with a value of the map, whose keys have texts
 module _ {D X L : Type 0} (R : D → X → Type 0) (text : L → List ℕ) (find : List ℕ → Option D) where
-  -- at each key's text something is found, and the same
-  abbrev pub EachFound : List (L × X) → Type 0
-  EachFound [] = ⊤
-  EachFound (p ∷ ps) = MatchOption (find (text p.0)) ⊥ (λ d. R d p.1) × EachFound ps
-
   -- each text is absent from both, or has the same in both
   abbrev pub SameEntries : List (L × X) → Type 0
   SameEntries ps = (k : List ℕ) → SameIn R (find k) (value_at text k ps)

@@ -1,1 +1,2 @@
 pub mod SameMap
+pub mod Rows

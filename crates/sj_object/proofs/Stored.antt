@@ -5,7 +5,8 @@ use Rattle.sj_object.specs.Texts.{no_repeats}
 use Rattle.sj_object.specs.Entries.{texts, entries_of}
 use Rattle.sj_object.specs.Edits.{set_value_at, texts-set_value_at, length-set_value_at}
 use Rattle.sj_object.specs.Index.{HasRoom}
-use Rattle.sj_object.specs.Stored.{members_of, pairs_of, buckets_of, IsIndexOf, IsIndexed, IsIndexedAhead}
+use Rattle.sj_object.specs.Stored.{members_of, pairs_of, buckets_of, IsIndexOf}
+use Rattle.sj_object.specs.inner.Stored.{IsIndexed, IsIndexedAhead}
 use Rattle.sj_object.specs.declared.map.store.Store.{Store}
 use Rattle.sj_object.specs.declared.map.store.Store.TheVariants.{Plain, Hashed}
 use Rattle.sj_object.proofs.Position.{entries-set_value_at}

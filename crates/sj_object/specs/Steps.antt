@@ -1,5 +1,5 @@
 -- How many members a lookup compares.
-use Rattle.std.specs.Prelude.{ℕ, suc, ◌%◌, ◌==◌, if◌then◌else◌, List, [], ◌∷◌, Option, None, Some, bytes_eq, count_by}
+use Rattle.std.specs.Prelude.{ℕ, suc, ◌%◌, ◌==◌, if◌then◌else◌, List, [], ◌∷◌, bytes_eq, count_by}
 use Rattle.sj_text_core.specs.Keep.{is_seen}
 use Rattle.sj_object.specs.Entries.{Entry, texts}
 
@@ -21,8 +21,3 @@ module _ {K V : Type 0} where
   -- how many of these stand at or after the entry with the text; all where there is none
   abbrev pub walk : (List ℕ → ℕ) → ℕ → List ℕ → List (Entry K V) → ℕ
   walk h n k es = chain h n k (if is_seen k (texts es) then found_on k es else es)
-
-  -- how many entries a lookup compares, by how many buckets there are
-  abbrev pub compared : (List ℕ → ℕ) → Option ℕ → List ℕ → List (Entry K V) → ℕ
-  compared h None k es = visited k es
-  compared h (Some n) k es = walk h n k es

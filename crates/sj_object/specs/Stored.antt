@@ -1,27 +1,16 @@
 -- How a map stores its members: as a plain list, or, as a list or in a ring, beside the index of their hashes.
-use Rattle.std.specs.Prelude.{◌≡◌, ◌+◌, ◌<◌, ◌≤◌, ℕ, List, length, Option, Some, None, ⊤}
-use Rattle.std.specs.Global.{Box}
-use Rattle.std.specs.Vec.{vec_len, vec_capacity}
-use Rattle.std.specs.VecDeque.{deque_len, deque_capacity}
-use denote.Struct.Props.{props}
+use Rattle.std.specs.Prelude.{◌≤◌, ℕ, List, length, Option, Some, None}
 use Rattle.sj_object.specs.declared.map.members.Members.{Members}
 use Rattle.sj_object.specs.declared.map.members.Members.TheVariants.{Listed, Ring}
-use Rattle.sj_object.specs.declared.map.store.Hashed.{Hashed as HashedOf}
 use Rattle.sj_object.specs.declared.map.store.Store.{Store}
 use Rattle.sj_object.specs.declared.map.store.Store.TheVariants.{Plain, Hashed}
-use Rattle.sj_object.specs.inner.Holes.{AreHoles-prop}
-use Rattle.sj_object.specs.Index.{IsTable, IsTableOf, hashes_in}
+use Rattle.sj_object.specs.Index.{IsTableOf}
 
 module _ {K V : Type 0} where
   -- the members beside an index, in order
   abbrev pub members_of : Members K V → List (K × V)
   members_of (Listed v) = v.items
   members_of (Ring r) = r.items
-
-  -- one more has a place there
-  abbrev pub HasPlaceIn : Members K V → Type 0
-  HasPlaceIn (Listed v) = vec_len v < vec_capacity v
-  HasPlaceIn (Ring r) = deque_len r < deque_capacity r
 
   -- the members in order
   abbrev pub pairs_of : Store K V → List (K × V)
@@ -33,35 +22,7 @@ module _ {K V : Type 0} where
   buckets_of (Plain v) = None
   buckets_of (Hashed b) = Some (length b.value.table.heads.items)
 
-  -- one more member has a place
-  abbrev pub HasPlace : Store K V → Type 0
-  HasPlace (Plain v) = vec_len v < vec_capacity v
-  HasPlace (Hashed b) = HasPlaceIn b.value.members
-
   -- the members are those with these hashes, as far as an index keeps them
   abbrev pub IsIndexOf : List ℕ → Store K V → Type 0
   IsIndexOf hashes (Plain v) = length hashes ≤ 32
   IsIndexOf hashes (Hashed b) = IsTableOf hashes b.value.table
-
-  -- an index keeps a hash for each member
-  abbrev pub IsIndexed : Store K V → Type 0
-  IsIndexed (Plain v) = ⊤
-  IsIndexed (Hashed b) = IsTable b.value.table × (length (hashes_in b.value.table) ≡ length (members_of b.value.members))
-
-  -- so too, and one more, which stands last
-  abbrev pub IsIndexedAhead : Store K V → Type 0
-  IsIndexedAhead (Plain v) = ⊤
-  IsIndexedAhead (Hashed b) = IsTable b.value.table × (length (hashes_in b.value.table) ≡ length (members_of b.value.members) + 1)
-
-  pub IsIndexOf-prop : (hashes : List ℕ) (s : Store K V) → IsProp (IsIndexOf hashes s)
-  IsIndexOf-prop hashes (Plain v) = hlevel props
-  IsIndexOf-prop hashes (Hashed b) = hlevel (props, AreHoles-prop)
-
-  -- an index that is there has a table, and no members
-  abbrev pub IsEmptied : Option (Box (HashedOf K V)) → Type 0
-  IsEmptied None = ⊤
-  IsEmptied (Some b) = IsTable b.value.table × (length (members_of b.value.members) ≡ 0)
-
-  pub IsEmptied-prop : (o : Option (Box (HashedOf K V))) → IsProp (IsEmptied o)
-  IsEmptied-prop None = hlevel props
-  IsEmptied-prop (Some b) = hlevel (props, AreHoles-prop)

@@ -6,7 +6,8 @@ ghost use Rattle.sj_text_core.specs.Find.{find};
 ghost use Rattle.sj_text_core.specs.Reads.{as_items, as_members};
 ghost use Rattle.sj_document.specs.Document.{tree, why_of, with_member, without_member, with_item, without_last, last_item};
 ghost use Rattle.sj_pointer.specs.Pointed.{pointed, set_pointed};
-ghost use Rattle.sj_path.specs.Changes.{changed_at, Inserts, Removes, Pushes, Pops};
+ghost use Rattle.sj_path.specs.Changes.{changed_at};
+ghost use Rattle.sj_path.specs.inner.Changes.{Inserts, Removes, Pushes, Pops};
 
 use crate::write::{replace, update};
 use sj_document::{Change, Document};

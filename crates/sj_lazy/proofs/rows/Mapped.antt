@@ -3,7 +3,8 @@ use Rattle.std.proofs.Common.{◌≡◌, ℕ, List, [], ◌∷◌, pos, refl, co
 use Rattle.sj_text_core.specs.Tree.{u64, Tree, Members, int, no_members, member}
 use Rattle.sj_text_core.specs.declared.repeats.Repeats.{Repeats}
 use Rattle.sj_text_core.specs.declared.repeats.Repeats.TheVariants.{First, Last}
-use Rattle.sj_lazy.specs.SameMap.{EachFound, SameMap, counted}
+use Rattle.sj_lazy.specs.SameMap.{SameMap, counted}
+use Rattle.sj_lazy.specs.inner.SameMap.{EachFound}
 use Rattle.sj_lazy.specs.inner.SameMap.{HasKeys}
 
 abbrev n : ℕ → Tree

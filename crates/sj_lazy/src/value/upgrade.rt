@@ -13,7 +13,7 @@ use std::alloc::{AllocError, Global};
 impl<B, T: KeyText> Shared<B, T> {
     ghost use Rattle.std.specs.Borrow.{LendsSo, sem};
     ghost use Rattle.sj_lazy.specs.Value.{owned_of};
-    ghost use Rattle.sj_lazy.specs.Rows.{shared_row};
+    ghost use Rattle.sj_lazy.specs.inner.Rows.{shared_row};
 
     /// The document, where it is owned.
     fn owned_mut(&mut self) -> Option<&mut Document<T>>

@@ -2,7 +2,8 @@
 use Rattle.std.proofs.Common.{◌≡◌, ℕ, List, [], ◌∷◌, length, refl, codes, Some, None}
 use Rattle.sj_text_core.specs.Hash.{hash}
 use Rattle.sj_object.specs.Entries.{Entry}
-use Rattle.sj_object.specs.Steps.{visited, found_on, chain, walk, compared}
+use Rattle.sj_object.specs.Steps.{visited, found_on, chain, walk}
+use Rattle.sj_object.specs.inner.Steps.{compared}
 
 abbrev entry : List ℕ → ℕ → Entry ℕ ℕ
 entry k v = ((v, k), v)

@@ -1,7 +1,7 @@
 //! Memory by which a map takes a member back.
 
 ghost use Rattle.std.specs.Prelude.{◌≡◌, length};
-ghost use Rattle.sj_object.specs.Stored.{IsEmptied, IsEmptied-prop};
+ghost use Rattle.sj_object.specs.inner.Stored.{IsEmptied, IsEmptied-prop};
 
 use super::store::Hashed;
 

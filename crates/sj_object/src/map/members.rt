@@ -4,7 +4,8 @@ ghost use Rattle.std.specs.Prelude.{◌≡◌, ◌-◌, ◌<◌, ◌≤◌, ◌�
 ghost use Rattle.std.specs.List.{insert, remove};
 ghost use Rattle.std.specs.Option.{option_to_list};
 ghost use Rattle.std.specs.Vec.{vec_len, vec_capacity};
-ghost use Rattle.sj_object.specs.Stored.{members_of, HasPlaceIn};
+ghost use Rattle.sj_object.specs.Stored.{members_of};
+ghost use Rattle.sj_object.specs.inner.Stored.{HasPlaceIn};
 
 use std::alloc::{AllocError, Global};
 use std::collections::VecDeque;

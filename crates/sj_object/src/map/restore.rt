@@ -6,7 +6,8 @@ ghost use Rattle.std.specs.Vec.{vec_capacity};
 ghost use Rattle.sj_object.specs.Entries.{entries_of};
 ghost use Rattle.sj_object.specs.Index.{IsTable, IsTableOf};
 ghost use Rattle.sj_object.specs.Rooms.{indexed, places, takes, restored_all};
-ghost use Rattle.sj_object.specs.Stored.{members_of, pairs_of, IsIndexOf, IsEmptied};
+ghost use Rattle.sj_object.specs.Stored.{members_of, pairs_of, IsIndexOf};
+ghost use Rattle.sj_object.specs.inner.Stored.{IsEmptied};
 
 use super::HashMap;
 use super::kept_room::Room;

@@ -3,7 +3,8 @@
 ghost use Rattle.std.specs.Prelude.{◌≡◌, ◌+◌, ◌<◌, ◌≤◌, ◌∷◌, ◌++◌, [], ℕ, List, length, map, Some, None, IfOk, OnOk, OnErr};
 ghost use Rattle.std.specs.Vec.{vec_len, vec_capacity};
 ghost use Rattle.sj_object.specs.Index.{buckets_for, IsTableOf, NeedsHash};
-ghost use Rattle.sj_object.specs.Stored.{pairs_of, buckets_of, HasPlace, IsIndexOf};
+ghost use Rattle.sj_object.specs.Stored.{pairs_of, buckets_of, IsIndexOf};
+ghost use Rattle.sj_object.specs.inner.Stored.{HasPlace};
 
 use super::index::Table;
 use super::members::Members;

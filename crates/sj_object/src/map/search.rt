@@ -6,7 +6,8 @@ ghost use Rattle.std.specs.Option.{is_some};
 ghost use Rattle.sj_object.specs.Edits.{lookup};
 ghost use Rattle.sj_object.specs.Entries.{entries_of, texts};
 ghost use Rattle.sj_object.specs.Texts.{no_repeats};
-ghost use Rattle.sj_object.specs.Steps.{visited, walk, compared};
+ghost use Rattle.sj_object.specs.Steps.{visited, walk};
+ghost use Rattle.sj_object.specs.inner.Steps.{compared};
 ghost use Rattle.sj_object.specs.Index.{IsTableOf};
 ghost use Rattle.sj_object.specs.Stored.{members_of, pairs_of, buckets_of, IsIndexOf};
 

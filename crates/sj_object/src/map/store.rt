@@ -5,7 +5,8 @@ ghost use Rattle.std.specs.List.{insert, remove};
 ghost use Rattle.std.specs.Option.{option_to_list};
 ghost use Rattle.std.specs.Vec.{vec_len, vec_capacity};
 ghost use Rattle.sj_object.specs.Index.{NeedsHash, IsTable, hashes_in};
-ghost use Rattle.sj_object.specs.Stored.{members_of, pairs_of, buckets_of, HasPlace, HasPlaceIn, IsIndexOf, IsIndexed, IsIndexedAhead};
+ghost use Rattle.sj_object.specs.Stored.{members_of, pairs_of, buckets_of, IsIndexOf};
+ghost use Rattle.sj_object.specs.inner.Stored.{HasPlace, HasPlaceIn, IsIndexed, IsIndexedAhead};
 
 use super::index::Table;
 use super::members::Members;

@@ -3,7 +3,8 @@
 
 ghost use Rattle.std.specs.Prelude.{◌≡◌, ◌↔◌, ℕ, List, IsTrue, MatchOption, is_some, map};
 ghost use Rattle.sj_lazy.specs.Object.{members as members_of, object_choice};
-ghost use Rattle.sj_lazy.specs.SameMap.{EachFound, SameEntries, SameMap, counted};
+ghost use Rattle.sj_lazy.specs.SameMap.{SameEntries, SameMap, counted};
+ghost use Rattle.sj_lazy.specs.inner.SameMap.{EachFound};
 ghost use Rattle.sj_lazy.specs.inner.SameMap.{HasKeys};
 ghost use Rattle.sj_lazy.specs.Value.{tree, choice};
 ghost use Rattle.sj_document.specs.SameWith.{value_at};

@@ -37,7 +37,8 @@ use Rattle.sj_object.specs.Entries.{Entry, texts, entries_of}
 use Rattle.sj_object.specs.HashMap.{Contents, same_contents}
 use Rattle.sj_object.specs.Index.{HasRoom}
 use Rattle.sj_object.specs.inner.Index.{HasRoom-prop}
-use Rattle.sj_object.specs.Stored.{IsIndexOf, IsIndexOf-prop, members_of, pairs_of, buckets_of}
+use Rattle.sj_object.specs.Stored.{IsIndexOf, members_of, pairs_of, buckets_of}
+use Rattle.sj_object.specs.inner.Stored.{IsIndexOf-prop}
 use Rattle.sj_object.specs.declared.map.index.Table.{Table}
 use Rattle.sj_object.specs.declared.map.members.Members.{Members}
 use Rattle.sj_object.specs.declared.map.members.Members.TheVariants.{Listed, Ring}

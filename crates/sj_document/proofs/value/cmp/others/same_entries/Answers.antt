@@ -2,7 +2,7 @@ use Rattle.std.proofs.Common.{sym, ◌∙◌, refl, subst}
 use Rattle.std.specs.Prelude.{MatchOption}
 use Rattle.sj_object.specs.Edits.{lookup}
 use Rattle.sj_tape.proofs.Compared.{denied}
-use Rattle.sj_document.specs.SameWith.{EachHas}
+use Rattle.sj_document.specs.inner.SameWith.{EachHas}
 use Rattle.sj_document.proofs.Maps.{names_apart, same_from_each, len_from_same, each_from_same}
 use Rattle.sj_document.proofs.value.cmp.others.same_entries.Goals as goal
 

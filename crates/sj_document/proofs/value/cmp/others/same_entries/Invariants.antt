@@ -1,4 +1,4 @@
-use Rattle.sj_document.specs.SameWith.{EachHas}
+use Rattle.sj_document.specs.inner.SameWith.{EachHas}
 use Rattle.sj_document.proofs.value.cmp.others.same_entries.Given as goal
 
 abbrev pub invariant-loop-key : goal.invariant-loop-key
