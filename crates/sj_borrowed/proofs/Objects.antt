@@ -7,7 +7,7 @@ use Rattle.sj_text_core.specs.Reads.{as_members}
 use Rattle.sj_object.specs.Edits.{lookup}
 use Rattle.sj_object.specs.Members.{entry_members}
 use Rattle.sj_object.proofs.Shown.{lookup-entry_members}
-use Rattle.sj_document.specs.Document.{tree}
+use Rattle.sj_document.specs.Document.{document_tree}
 use Rattle.sj_document.specs.declared.value.Document.{Document}
 use Rattle.sj_document.proofs.Trees.{Map, tree_of_ref, tree_of_mut}
 
@@ -31,30 +31,30 @@ value_of : {A B : Type 0} (f : A → B) (o : Option A) (w : A) → IfSome o (λ 
 value_of f None w h = h
 value_of f (Some a) w h = ap f h
 
-module _ {T : Type 0} (t : T → List ℕ) (m : Map T) (k : List ℕ) (u : Tree) (e : Some (entry_members (tree t) m.entries) ≡ as_members u) where
-  pub found_in : (r : Option (Document T)) → r ≡ lookup k m.entries → option_map (tree t) r ≡ find k u
-  found_in r f = ap (option_map (tree t)) f ∙ lookup-entry_members (tree t) k m.entries ∙ sym (find_in k u _ e)
+module _ {T : Type 0} (t : T → List ℕ) (m : Map T) (k : List ℕ) (u : Tree) (e : Some (entry_members (document_tree t) m.entries) ≡ as_members u) where
+  pub found_in : (r : Option (Document T)) → r ≡ lookup k m.entries → option_map (document_tree t) r ≡ find k u
+  found_in r f = ap (option_map (document_tree t)) f ∙ lookup-entry_members (document_tree t) k m.entries ∙ sym (find_in k u _ e)
 
-  pub found_ref : (r : Option (Bor (Document T))) → option_copied r ≡ lookup k m.entries → option_map (λ v. tree t v.now) r ≡ find k u
+  pub found_ref : (r : Option (Bor (Document T))) → option_copied r ≡ lookup k m.entries → option_map (λ v. document_tree t v.now) r ≡ find k u
   found_ref r f = tree_of_ref t r ∙ found_in (option_copied r) f
 
-  pub found_mut : (r : Option (MutBor (Document T))) → option_copied_mut r ≡ lookup k m.entries → option_map (λ v. tree t v.now) r ≡ find k u
+  pub found_mut : (r : Option (MutBor (Document T))) → option_copied_mut r ≡ lookup k m.entries → option_map (λ v. document_tree t v.now) r ≡ find k u
   found_mut r f = tree_of_mut t r ∙ found_in (option_copied_mut r) f
 
-  shown : option_map (tree t) (lookup k m.entries) ≡ find k u
+  shown : option_map (document_tree t) (lookup k m.entries) ≡ find k u
   shown = found_in (lookup k m.entries) refl
 
   pub is_object : IsSome (as_members u)
   is_object = subst (λ o. IsSome o) e refl
 
   pub there : IsSome (find k u) → IsSome (lookup k m.entries)
-  there h = some_of (tree t) (lookup k m.entries) (subst (λ o. IsSome o) (sym shown) h)
+  there h = some_of (document_tree t) (lookup k m.entries) (subst (λ o. IsSome o) (sym shown) h)
 
   pub absent : find k u ≡ None → lookup k m.entries ≡ None
-  absent h = none_of (tree t) (lookup k m.entries) (shown ∙ h)
+  absent h = none_of (document_tree t) (lookup k m.entries) (shown ∙ h)
 
   pub not_found : lookup k m.entries ≡ None → find k u ≡ None
-  not_found h = sym shown ∙ ap (option_map (tree t)) h
+  not_found h = sym shown ∙ ap (option_map (document_tree t)) h
 
-  pub found_value : (w : Document T) → IfSome (lookup k m.entries) (λ v. w ≡ v) → IfSome (find k u) (λ b. tree t w ≡ b)
-  found_value w h = subst (λ o. IfSome o (λ b. tree t w ≡ b)) shown (value_of (tree t) (lookup k m.entries) w h)
+  pub found_value : (w : Document T) → IfSome (lookup k m.entries) (λ v. w ≡ v) → IfSome (find k u) (λ b. document_tree t w ≡ b)
+  found_value w h = subst (λ o. IfSome o (λ b. document_tree t w ≡ b)) shown (value_of (document_tree t) (lookup k m.entries) w h)

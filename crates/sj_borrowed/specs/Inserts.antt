@@ -7,7 +7,7 @@ use Rattle.sj_text_core.specs.Tree.{Tree}
 use Rattle.sj_text_core.specs.Reads.{kind_of, as_members}
 use Rattle.sj_text_core.specs.declared.value_type.ValueType.{ValueType}
 use Rattle.sj_object.specs.Entries.{Entry}
-use Rattle.sj_object.specs.Edits.{put}
+use Rattle.sj_object.specs.Edits.{put_entry}
 use Rattle.sj_object.specs.Keys.{is_borrowed}
 use Rattle.sj_borrowed.specs.declared.known_key.error.Error.{Error}
 use Rattle.sj_borrowed.specs.declared.known_key.error.Error.TheVariants.{NotAnObject, OutOfMemory}
@@ -18,12 +18,12 @@ IsCopy key copy = (cow_str_bytes copy ≡ cow_str_bytes key) × (is_borrowed cop
 
 -- a copy of the key was inserted with the value w
 abbrev pub IsPut : {V : Type 0} → CowStr Global → V → List (Entry (CowStr Global) V) → List (Entry (CowStr Global) V) → Type 0
-IsPut key w before after = (copy : CowStr Global) × IsCopy key copy × (after ≡ put (copy, cow_str_bytes copy) w before)
+IsPut key w before after = (copy : CowStr Global) × IsCopy key copy × (after ≡ put_entry (copy, cow_str_bytes copy) w before)
 
 abbrev pub why_in : {A : Type 0} → ValueType → Option A → Error
 why_in kind None = NotAnObject kind
 why_in kind (Some x) = OutOfMemory
 
 -- why an edit of t is refused: it is no object, else memory
-abbrev pub why_of : Tree → Error
-why_of t = why_in (kind_of t) (as_members t)
+abbrev pub known_fault : Tree → Error
+known_fault t = why_in (kind_of t) (as_members t)

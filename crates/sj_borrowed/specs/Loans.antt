@@ -16,7 +16,7 @@ use Rattle.sj_object.specs.Lends.{KeyMembers, LendsValue, map_row}
 use Rattle.sj_object.specs.declared.hasher.NotSoRandomState.{NotSoRandomState}
 use Rattle.sj_object.specs.contracts.hasher.NotSoRandomState as state
 use Rattle.sj_object.specs.contracts.hasher.NotSoRandomStateKeyHasher.TheImpl as hasher
-use Rattle.sj_document.specs.Document.{tree, with_member}
+use Rattle.sj_document.specs.Document.{document_tree, with_member}
 use Rattle.sj_document.specs.Rows.{document_row}
 use Rattle.sj_document.specs.declared.value.Document.{Document}
 use Rattle.sj_borrowed.specs.declared.known_key.error.Error.{Error}
@@ -43,4 +43,4 @@ borrowed_row = document_row (cow.the_row (record { mir = erased; lft = [] }) hea
 
 -- the last value written through r is that of the key, in its place or last, and at an `Err` the tree stays as it is
 abbrev pub LendsMember : MutBor (Document (CowStr Global)) → List ℕ → Result (MutBor (Document (CowStr Global))) Error → Fml
-LendsMember d k r = LendsSoOk borrowed_row borrowed_row d r (λ n w. tree cow_str_bytes n ≡ with_member k (tree cow_str_bytes w) (tree cow_str_bytes d.now)) (λ n. tree cow_str_bytes n ≡ tree cow_str_bytes d.now)
+LendsMember d k r = LendsSoOk borrowed_row borrowed_row d r (λ n w. document_tree cow_str_bytes n ≡ with_member k (document_tree cow_str_bytes w) (document_tree cow_str_bytes d.now)) (λ n. document_tree cow_str_bytes n ≡ document_tree cow_str_bytes d.now)

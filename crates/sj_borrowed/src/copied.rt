@@ -6,7 +6,7 @@ ghost use Rattle.sj_text_core.specs.Tree.{Tree, IsWithin};
 ghost use Rattle.sj_text_core.specs.Grammar.{Spells, IsReadable};
 ghost use Rattle.sj_text_core.specs.Keep.{keep};
 ghost use Rattle.sj_object.specs.Keys.{is_borrowed};
-ghost use Rattle.sj_document.specs.Document.{tree, all_texts};
+ghost use Rattle.sj_document.specs.Document.{document_tree, all_texts};
 
 use crate::Value;
 use crate::read::to_value;
@@ -20,8 +20,8 @@ pub fn from_slice<'v>(
     bytes: &[u8],
     room: &'v mut Vec<u8>,
 ) -> Result<Value<'v>, ErrorKind>
-    ensures means { IfOk result (λ v. (t : Tree) × Spells bytes.now t × IsWithin t × (tree cow_str_bytes v ≡ keep t)) }
-    ensures only { IfOk result (λ v. (u : Tree) → Spells bytes.now u → tree cow_str_bytes v ≡ keep u) }
+    ensures means { IfOk result (λ v. (t : Tree) × Spells bytes.now t × IsWithin t × (document_tree cow_str_bytes v ≡ keep t)) }
+    ensures only { IfOk result (λ v. (u : Tree) → Spells bytes.now u → document_tree cow_str_bytes v ≡ keep u) }
     ensures lent { IfOk result (λ v. all_texts is_borrowed v ≡ true) }
     ensures utf8 { IsErrOf result ErrorKind.InvalidUtf8 → ¬ (IsUtf8 bytes.now) }
     ensures broken { ¬ (IsUtf8 bytes.now) → IsErrOf result ErrorKind.InvalidUtf8 ⊎ IsErrOf result ErrorKind.OutOfMemory }
@@ -39,8 +39,8 @@ pub fn from_str<'v>(
     text: &str,
     room: &'v mut Vec<u8>,
 ) -> Result<Value<'v>, ErrorKind>
-    ensures means { IfOk result (λ v. (t : Tree) × Spells text.now t × IsWithin t × (tree cow_str_bytes v ≡ keep t)) }
-    ensures only { IfOk result (λ v. (u : Tree) → Spells text.now u → tree cow_str_bytes v ≡ keep u) }
+    ensures means { IfOk result (λ v. (t : Tree) × Spells text.now t × IsWithin t × (document_tree cow_str_bytes v ≡ keep t)) }
+    ensures only { IfOk result (λ v. (u : Tree) → Spells text.now u → document_tree cow_str_bytes v ≡ keep u) }
     ensures lent { IfOk result (λ v. all_texts is_borrowed v ≡ true) }
     ensures err { IfErr result (λ e. e ≢ ErrorKind.OutOfMemory → ¬ (IsReadable text.now)) }
 {

@@ -7,7 +7,7 @@ ghost use Rattle.sj_text_core.specs.Grammar.{Spells, IsReadable};
 ghost use Rattle.sj_text_core.specs.Keep.{keep};
 ghost use Rattle.sj_text_core.specs.Repeats.{keep_by};
 ghost use Rattle.sj_object.specs.Keys.{is_borrowed};
-ghost use Rattle.sj_document.specs.Document.{tree, all_texts};
+ghost use Rattle.sj_document.specs.Document.{document_tree, all_texts};
 
 use crate::Value;
 use sj_object::{deserialize, deserialize_repeats, deserialize_with_buffers};
@@ -21,8 +21,8 @@ use std::borrow::CowStr;
 /// `OutOfMemory` where memory for the document was refused; nothing is then said of the bytes.
 pub fn to_value<'v>(alloc: Global, bytes: &'v mut [u8]) -> Result<Value<'v>, ErrorKind>
     // What is read is spelled so, within the limit, and nothing else is.
-    ensures means { IfOk result (λ v. (t : Tree) × Spells bytes.old t × IsWithin t × (tree cow_str_bytes v ≡ keep t)) }
-    ensures only { IfOk result (λ v. (u : Tree) → Spells bytes.old u → tree cow_str_bytes v ≡ keep u) }
+    ensures means { IfOk result (λ v. (t : Tree) × Spells bytes.old t × IsWithin t × (document_tree cow_str_bytes v ≡ keep t)) }
+    ensures only { IfOk result (λ v. (u : Tree) → Spells bytes.old u → document_tree cow_str_bytes v ≡ keep u) }
     // Every text and key is lent.
     ensures lent { IfOk result (λ v. all_texts is_borrowed v ≡ true) }
     // The bytes are no UTF-8.
@@ -40,8 +40,8 @@ pub fn to_value_with_buffers<'v>(
     buffers: &mut Buffers,
 ) -> Result<Value<'v>, ErrorKind>
     // What is read is spelled so, within the limit, and nothing else is.
-    ensures means { IfOk result (λ v. (t : Tree) × Spells bytes.old t × IsWithin t × (tree cow_str_bytes v ≡ keep t)) }
-    ensures only { IfOk result (λ v. (u : Tree) → Spells bytes.old u → tree cow_str_bytes v ≡ keep u) }
+    ensures means { IfOk result (λ v. (t : Tree) × Spells bytes.old t × IsWithin t × (document_tree cow_str_bytes v ≡ keep t)) }
+    ensures only { IfOk result (λ v. (u : Tree) → Spells bytes.old u → document_tree cow_str_bytes v ≡ keep u) }
     // Every text and key is lent.
     ensures lent { IfOk result (λ v. all_texts is_borrowed v ≡ true) }
     // The bytes are no UTF-8.
@@ -58,8 +58,8 @@ pub fn to_value_repeats<'v>(
     repeats: Repeats,
 ) -> Result<Value<'v>, ErrorKind>
     // What is read is spelled so, within the limit, and nothing else is.
-    ensures means { IfOk result (λ v. (t : Tree) × Spells bytes.old t × IsWithin t × (tree cow_str_bytes v ≡ keep_by repeats t)) }
-    ensures only { IfOk result (λ v. (u : Tree) → Spells bytes.old u → tree cow_str_bytes v ≡ keep_by repeats u) }
+    ensures means { IfOk result (λ v. (t : Tree) × Spells bytes.old t × IsWithin t × (document_tree cow_str_bytes v ≡ keep_by repeats t)) }
+    ensures only { IfOk result (λ v. (u : Tree) → Spells bytes.old u → document_tree cow_str_bytes v ≡ keep_by repeats u) }
     // Every text and key is lent.
     ensures lent { IfOk result (λ v. all_texts is_borrowed v ≡ true) }
     // The bytes are no UTF-8.
@@ -72,8 +72,8 @@ pub fn to_value_repeats<'v>(
 /// The same as `to_value`.
 pub fn to_borrowed_value<'v>(alloc: Global, bytes: &'v mut [u8]) -> Result<Value<'v>, ErrorKind>
     // What is read is spelled so, within the limit, and nothing else is.
-    ensures means { IfOk result (λ v. (t : Tree) × Spells bytes.old t × IsWithin t × (tree cow_str_bytes v ≡ keep t)) }
-    ensures only { IfOk result (λ v. (u : Tree) → Spells bytes.old u → tree cow_str_bytes v ≡ keep u) }
+    ensures means { IfOk result (λ v. (t : Tree) × Spells bytes.old t × IsWithin t × (document_tree cow_str_bytes v ≡ keep t)) }
+    ensures only { IfOk result (λ v. (u : Tree) → Spells bytes.old u → document_tree cow_str_bytes v ≡ keep u) }
     // Every text and key is lent.
     ensures lent { IfOk result (λ v. all_texts is_borrowed v ≡ true) }
     // The bytes are no UTF-8.
@@ -90,8 +90,8 @@ pub fn to_borrowed_value_with_buffers<'v>(
     buffers: &mut Buffers,
 ) -> Result<Value<'v>, ErrorKind>
     // What is read is spelled so, within the limit, and nothing else is.
-    ensures means { IfOk result (λ v. (t : Tree) × Spells bytes.old t × IsWithin t × (tree cow_str_bytes v ≡ keep t)) }
-    ensures only { IfOk result (λ v. (u : Tree) → Spells bytes.old u → tree cow_str_bytes v ≡ keep u) }
+    ensures means { IfOk result (λ v. (t : Tree) × Spells bytes.old t × IsWithin t × (document_tree cow_str_bytes v ≡ keep t)) }
+    ensures only { IfOk result (λ v. (u : Tree) → Spells bytes.old u → document_tree cow_str_bytes v ≡ keep u) }
     // Every text and key is lent.
     ensures lent { IfOk result (λ v. all_texts is_borrowed v ≡ true) }
     // The bytes are no UTF-8.

@@ -7,7 +7,7 @@ use Rattle.sj_text_core.specs.Tree.{Tree}
 use Rattle.sj_text_core.specs.Find.{find}
 use Rattle.sj_text_core.specs.Reads.{as_items, as_members}
 use Rattle.sj_text_core.specs.declared.refused.Refused.{Refused}
-use Rattle.sj_document.specs.Document.{tree, with_member, without_member, with_item, without_last, last_item}
+use Rattle.sj_document.specs.Document.{document_tree, with_member, without_member, with_item, without_last, last_item}
 use Rattle.sj_document.specs.declared.value.Document.{Document}
 use Rattle.sj_pointer.specs.Pointed.{pointed, set_pointed}
 use Rattle.sj_path.specs.Changes.{changed_at}
@@ -83,7 +83,7 @@ pub record NotGave (g : Giving) (p : List (List ℕ)) (v before after : Tree) (c
 
 -- given a value, which comes back where it is refused
 abbrev pub Gives : Giving → List (List ℕ) → Document (String Global) → Tree → Tree → Result (Option (Document (String Global))) (Refused ℕ (Document (String Global))) → Type 0
-Gives g p v before after r = MatchResult r (λ old. Gave g p (tree string_bytes v) before after (option_map (tree string_bytes) old)) (λ e. NotGave g p (tree string_bytes v) before after e.why × (e.value ≡ v))
+Gives g p v before after r = MatchResult r (λ old. Gave g p (document_tree string_bytes v) before after (option_map (document_tree string_bytes) old)) (λ e. NotGave g p (document_tree string_bytes v) before after e.why × (e.value ≡ v))
 
 pub record Took (g : Taking) (p : List (List ℕ)) (before after : Tree) (found : Option Tree) : Type 0 where
   pub is : IsTaken g p before
@@ -96,4 +96,4 @@ pub record NotTook (g : Taking) (p : List (List ℕ)) (before after : Tree) (cod
   pub stays : after ≡ before
 
 abbrev pub Takes : Taking → List (List ℕ) → Tree → Tree → Result (Option (Document (String Global))) ℕ → Type 0
-Takes g p before after r = MatchResult r (λ old. Took g p before after (option_map (tree string_bytes) old)) (λ code. NotTook g p before after code)
+Takes g p before after r = MatchResult r (λ old. Took g p before after (option_map (document_tree string_bytes) old)) (λ code. NotTook g p before after code)

@@ -4,13 +4,13 @@ use Rattle.sj_text_core.specs.Tree.{Tree}
 use Rattle.sj_text_core.specs.Print.{compact, pretty}
 use Rattle.sj_text_core.specs.declared.repeats.Repeats.{Repeats}
 use Rattle.sj_text_core.specs.declared.repeats.Repeats.TheVariants.{First, Last}
-use Rattle.sj_document.specs.Document.{tree}
+use Rattle.sj_document.specs.Document.{document_tree}
 use Rattle.sj_c.specs.declared.held.Held.{Held}
 use Rattle.sj_c.specs.declared.held.Printed.{Printed}
 
 -- the tree of the document, where there is one
 abbrev pub meant : Option Held → Option Tree
-meant h = option_map (λ d. tree string_bytes d.value) h
+meant h = option_map (λ d. document_tree string_bytes d.value) h
 
 -- the bytes of the print, where there is one
 abbrev pub print_of : Option Printed → Option (List ℕ)

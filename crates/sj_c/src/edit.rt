@@ -1,7 +1,7 @@
 //! Edits of a document at a pointer, by the library's calls.
 
 ghost use Rattle.std.specs.Prelude.{◌≡◌, ◌≢◌, string_bytes};
-ghost use Rattle.sj_document.specs.Document.{tree};
+ghost use Rattle.sj_document.specs.Document.{document_tree};
 ghost use Rattle.sj_c.specs.declared.edit.Giving.TheVariants as giving;
 ghost use Rattle.sj_c.specs.declared.edit.Taking.TheVariants as taking;
 ghost use Rattle.sj_c.specs.Edits.{Gives, Takes};
@@ -52,7 +52,7 @@ fn coded(refused: Refused<AccessError, OwnedValue>) -> Refused<u32, OwnedValue>
 }
 
 fn insert(document: &mut OwnedValue, path: &Pointer, key: String, new: OwnedValue) -> Given
-    ensures { Gives (giving.Insert key) path.now new (tree string_bytes document.old) (tree string_bytes document.new) result }
+    ensures { Gives (giving.Insert key) path.now new (document_tree string_bytes document.old) (document_tree string_bytes document.new) result }
 {
     match owned::insert(document, path, key, new) {
         Ok(before) => Ok(before),
@@ -61,7 +61,7 @@ fn insert(document: &mut OwnedValue, path: &Pointer, key: String, new: OwnedValu
 }
 
 fn push(document: &mut OwnedValue, path: &Pointer, new: OwnedValue) -> Given
-    ensures { Gives giving.Push path.now new (tree string_bytes document.old) (tree string_bytes document.new) result }
+    ensures { Gives giving.Push path.now new (document_tree string_bytes document.old) (document_tree string_bytes document.new) result }
 {
     match owned::push(document, path, new) {
         Ok(()) => Ok(None),
@@ -70,7 +70,7 @@ fn push(document: &mut OwnedValue, path: &Pointer, new: OwnedValue) -> Given
 }
 
 fn put(document: &mut OwnedValue, path: &Pointer, new: OwnedValue) -> Given
-    ensures { Gives giving.Put path.now new (tree string_bytes document.old) (tree string_bytes document.new) result }
+    ensures { Gives giving.Put path.now new (document_tree string_bytes document.old) (document_tree string_bytes document.new) result }
 {
     match owned::replace(document, path, new) {
         Ok(before) => Ok(Some(before)),
@@ -82,7 +82,7 @@ fn put(document: &mut OwnedValue, path: &Pointer, new: OwnedValue) -> Given
 }
 
 fn set(alloc: Global, document: &mut OwnedValue, path: &Pointer, new: OwnedValue) -> Given
-    ensures { Gives giving.Set path.now new (tree string_bytes document.old) (tree string_bytes document.new) result }
+    ensures { Gives giving.Set path.now new (document_tree string_bytes document.old) (document_tree string_bytes document.new) result }
 {
     match owned::set(document, alloc, path, new) {
         Ok(before) => Ok(before),
@@ -98,7 +98,7 @@ pub fn give_at(
     giving: Giving,
     new: OwnedValue,
 ) -> Given
-    ensures { Gives giving path.now new (tree string_bytes document.old) (tree string_bytes document.new) result }
+    ensures { Gives giving path.now new (document_tree string_bytes document.old) (document_tree string_bytes document.new) result }
 {
     match giving {
         Giving::Insert(key) => insert(document, path, key, new),
@@ -109,7 +109,7 @@ pub fn give_at(
 }
 
 fn remove(document: &mut OwnedValue, path: &Pointer, key: String) -> Taken
-    ensures { Takes (taking.Remove key) path.now (tree string_bytes document.old) (tree string_bytes document.new) result }
+    ensures { Takes (taking.Remove key) path.now (document_tree string_bytes document.old) (document_tree string_bytes document.new) result }
 {
     match owned::remove(document, path, key.as_str()) {
         Ok(before) => Ok(before),
@@ -118,7 +118,7 @@ fn remove(document: &mut OwnedValue, path: &Pointer, key: String) -> Taken
 }
 
 fn pop(document: &mut OwnedValue, path: &Pointer) -> Taken
-    ensures { Takes taking.Pop path.now (tree string_bytes document.old) (tree string_bytes document.new) result }
+    ensures { Takes taking.Pop path.now (document_tree string_bytes document.old) (document_tree string_bytes document.new) result }
 {
     match owned::pop(document, path) {
         Ok(last) => Ok(last),
@@ -128,7 +128,7 @@ fn pop(document: &mut OwnedValue, path: &Pointer) -> Taken
 
 /// Takes out of the document. Refused, it means what it meant.
 pub fn take_at(document: &mut OwnedValue, path: &Pointer, taking: Taking) -> Taken
-    ensures { Takes taking path.now (tree string_bytes document.old) (tree string_bytes document.new) result }
+    ensures { Takes taking path.now (document_tree string_bytes document.old) (document_tree string_bytes document.new) result }
 {
     match taking {
         Taking::Remove(key) => remove(document, path, key),

@@ -4,7 +4,7 @@ ghost use Rattle.std.specs.Prelude.{◌≡◌, ◌≢◌, ◌⊎◌, IsUtf8, Non
 ghost use Rattle.sj_text_core.specs.Tree.{Tree};
 ghost use Rattle.sj_text_core.specs.Find.{find};
 ghost use Rattle.sj_text_core.specs.Reads.{as_items, as_members};
-ghost use Rattle.sj_document.specs.Document.{tree, with_member, without_member, with_item, without_last, last_item};
+ghost use Rattle.sj_document.specs.Document.{document_tree, with_member, without_member, with_item, without_last, last_item};
 ghost use Rattle.sj_pointer.specs.Pointed.{pointed, set_pointed};
 ghost use Rattle.sj_pointer.specs.Tokens.{tokens_of};
 ghost use Rattle.sj_path.specs.Changes.{changed_at};
@@ -43,7 +43,7 @@ fn key_of(alloc: Global, key: &[u8]) -> Result<String, u32>
 
 /// Puts the value that was there into its handle, in the block at hand, and lets go what that had.
 fn hand_out(alloc: Global, room: Box<Held>, before: Option<OwnedValue>, old: &mut Doc)
-    ensures { meant old.new.kept.holds ≡ or_before (option_map (tree string_bytes) before) (meant old.old.kept.holds) }
+    ensures { meant old.new.kept.holds ≡ or_before (option_map (document_tree string_bytes) before) (meant old.old.kept.holds) }
 {
     let mut room = room;
     if let Some(before) = before {

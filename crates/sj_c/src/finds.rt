@@ -5,7 +5,7 @@ ghost use Rattle.sj_text_core.specs.Tree.{Tree, items_len, members_len};
 ghost use Rattle.sj_text_core.specs.Reads.{as_text, as_items, as_members};
 ghost use Rattle.sj_pointer.specs.Pointed.{pointed};
 ghost use Rattle.sj_pointer.specs.Tokens.{tokens_of};
-ghost use Rattle.sj_document.specs.Document.{tree};
+ghost use Rattle.sj_document.specs.Document.{document_tree};
 ghost use Rattle.sj_c.specs.Meant.{meant};
 ghost use Rattle.sj_c.specs.Refusals.{Blames, IsReply};
 ghost use Rattle.sj_c.specs.Shown.{Shows};
@@ -20,9 +20,9 @@ use std::alloc::Global;
 
 /// How many items or members; the bytes of a text.
 fn len_of(value: &OwnedValue) -> usize
-    ensures text { IfSome (as_text (tree string_bytes value.now)) (λ s. result ≡ length s) }
-    ensures items { IfSome (as_items (tree string_bytes value.now)) (λ is. result ≡ items_len is) }
-    ensures members { IfSome (as_members (tree string_bytes value.now)) (λ ms. result ≡ members_len ms) }
+    ensures text { IfSome (as_text (document_tree string_bytes value.now)) (λ s. result ≡ length s) }
+    ensures items { IfSome (as_items (document_tree string_bytes value.now)) (λ is. result ≡ items_len is) }
+    ensures members { IfSome (as_members (document_tree string_bytes value.now)) (λ ms. result ≡ members_len ms) }
 {
     match value {
         OwnedValue::String(text) => text.len(),
@@ -34,7 +34,7 @@ fn len_of(value: &OwnedValue) -> usize
 
 /// Writes out what the value is.
 pub fn show(value: &OwnedValue, found: &mut Found)
-    ensures { Shows found.new (tree string_bytes value.now) }
+    ensures { Shows found.new (document_tree string_bytes value.now) }
 {
     tell(value, found);
     found.len = len_of(value);
@@ -42,8 +42,8 @@ pub fn show(value: &OwnedValue, found: &mut Found)
 
 /// Says what stands at the pointer in the document.
 fn show_at(document: &OwnedValue, path: &Pointer, found: &mut Found) -> u32
-    ensures ok { result ≡ OK → (u : Tree) × (pointed path.now (tree string_bytes document.now) ≡ Some u) × Shows found.new u }
-    ensures missing { result ≡ MISSING → pointed path.now (tree string_bytes document.now) ≡ None }
+    ensures ok { result ≡ OK → (u : Tree) × (pointed path.now (document_tree string_bytes document.now) ≡ Some u) × Shows found.new u }
+    ensures missing { result ≡ MISSING → pointed path.now (document_tree string_bytes document.now) ≡ None }
     ensures either { (result ≡ OK) ⊎ (result ≡ MISSING) }
 {
     match find(document, path) {

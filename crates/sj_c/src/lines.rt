@@ -3,7 +3,7 @@
 ghost use Rattle.std.specs.Prelude.{◌≡◌, ◌≢◌, ◌⊎◌, ℕ, List, [], Some, None, string_bytes};
 ghost use Rattle.sj_text_core.specs.Tree.{Tree};
 ghost use Rattle.sj_text_core.specs.declared.repeats.Repeats.TheVariants.{First};
-ghost use Rattle.sj_document.specs.Document.{tree};
+ghost use Rattle.sj_document.specs.Document.{document_tree};
 ghost use Rattle.sj_commands.specs.Lines.{full_lines, line_texts};
 ghost use Rattle.sj_run.specs.Answered.{AnswersLines};
 ghost use Rattle.sj_c.specs.Lines.{PassesAlone};
@@ -23,8 +23,8 @@ use std::mem::replace;
 #[tactic(auto, using(crate::proofs::Begun::answers_alone, crate::proofs::Begun::passes_alone))]
 fn answered(alloc: Global, held: &mut Held, lines: &mut [u8], out: &mut Vec<u8>) -> u32
     requires { out.old.items ≡ [] }
-    ensures ok { result ≡ OK → AnswersLines (First, tree string_bytes held.old.value) (line_texts (full_lines lines.old)) (First, tree string_bytes held.new.value) [] out.new.items }
-    ensures too_long { result ≡ TOO_LONG → PassesAlone (First, tree string_bytes held.old.value) (line_texts (full_lines lines.old)) }
+    ensures ok { result ≡ OK → AnswersLines (First, document_tree string_bytes held.old.value) (line_texts (full_lines lines.old)) (First, document_tree string_bytes held.new.value) [] out.new.items }
+    ensures too_long { result ≡ TOO_LONG → PassesAlone (First, document_tree string_bytes held.old.value) (line_texts (full_lines lines.old)) }
     ensures answers { (result ≡ OK) ⊎ (result ≡ TOO_LONG) ⊎ (result ≡ OUT_OF_MEMORY) }
 {
     let value = replace(&mut held.value, OwnedValue::null());

@@ -5,7 +5,7 @@ ghost use Rattle.std.specs.List.{slice_get};
 ghost use Rattle.sj_text_core.specs.Tree.{Tree, listed, paired};
 ghost use Rattle.sj_text_core.specs.Reads.{as_items, as_members};
 ghost use Rattle.sj_object.specs.Members.{entry_members};
-ghost use Rattle.sj_document.specs.Document.{tree};
+ghost use Rattle.sj_document.specs.Document.{document_tree};
 ghost use Rattle.sj_pointer.specs.Pointed.{pointed};
 ghost use Rattle.sj_pointer.specs.Tokens.{tokens_of};
 ghost use Rattle.sj_c.specs.Meant.{meant};
@@ -34,8 +34,8 @@ pub struct Member {
 
 /// The items of the array at the pointer; refused with a status.
 fn items_at<'d>(document: &'d OwnedValue, path: &Pointer) -> Result<&'d Vec<OwnedValue>, u32>
-    ensures ok { IfOk result (λ items. option_map listed (option_and_then as_items (pointed path.now (tree string_bytes document.now))) ≡ Some (map (tree string_bytes) items.now.items)) }
-    ensures err { IfErr result (λ code. ((code ≡ MISSING) × (pointed path.now (tree string_bytes document.now) ≡ None)) ⊎ ((code ≡ NOT_AN_ARRAY) × (option_and_then as_items (pointed path.now (tree string_bytes document.now)) ≡ None))) }
+    ensures ok { IfOk result (λ items. option_map listed (option_and_then as_items (pointed path.now (document_tree string_bytes document.now))) ≡ Some (map (document_tree string_bytes) items.now.items)) }
+    ensures err { IfErr result (λ code. ((code ≡ MISSING) × (pointed path.now (document_tree string_bytes document.now) ≡ None)) ⊎ ((code ≡ NOT_AN_ARRAY) × (option_and_then as_items (pointed path.now (document_tree string_bytes document.now)) ≡ None))) }
 {
     let Some(value) = find(document, path) else {
         return Err(MISSING);
@@ -48,8 +48,8 @@ fn items_at<'d>(document: &'d OwnedValue, path: &Pointer) -> Result<&'d Vec<Owne
 
 /// The members of the object at the pointer; refused with a status.
 fn members_at<'d>(document: &'d OwnedValue, path: &Pointer) -> Result<&'d Object<String>, u32>
-    ensures ok { IfOk result (λ members. option_map paired (option_and_then as_members (pointed path.now (tree string_bytes document.now))) ≡ Some (paired (entry_members (tree string_bytes) members.now.entries))) }
-    ensures err { IfErr result (λ code. ((code ≡ MISSING) × (pointed path.now (tree string_bytes document.now) ≡ None)) ⊎ ((code ≡ NOT_AN_OBJECT) × (option_and_then as_members (pointed path.now (tree string_bytes document.now)) ≡ None))) }
+    ensures ok { IfOk result (λ members. option_map paired (option_and_then as_members (pointed path.now (document_tree string_bytes document.now))) ≡ Some (paired (entry_members (document_tree string_bytes) members.now.entries))) }
+    ensures err { IfErr result (λ code. ((code ≡ MISSING) × (pointed path.now (document_tree string_bytes document.now) ≡ None)) ⊎ ((code ≡ NOT_AN_OBJECT) × (option_and_then as_members (pointed path.now (document_tree string_bytes document.now)) ≡ None))) }
 {
     let Some(value) = find(document, path) else {
         return Err(MISSING);
@@ -69,9 +69,9 @@ fn count_of(len: usize, from: usize, room: usize) -> usize
 
 /// Says what the items from a position on are, and answers how many that were.
 fn show_items(items: &[OwnedValue], from: usize, out: &mut [Found]) -> usize
-    ensures count { result ≡ min (length out.old) (length (map (tree string_bytes) items.now) - from) }
+    ensures count { result ≡ min (length out.old) (length (map (document_tree string_bytes) items.now) - from) }
     ensures len { length out.new ≡ length out.old }
-    ensures shown { ShowsFrom Shows from result out.new (map (tree string_bytes) items.now) }
+    ensures shown { ShowsFrom Shows from result out.new (map (document_tree string_bytes) items.now) }
 {
     let count = count_of(items.len(), from, out.len());
     for at in 0..count {
@@ -82,7 +82,7 @@ fn show_items(items: &[OwnedValue], from: usize, out: &mut [Found]) -> usize
 
 /// Says what the member at a position is.
 fn show_member(members: &Object<String>, index: usize, member: &mut Member)
-    ensures { IfSome (slice_get (paired (entry_members (tree string_bytes) members.now.entries)) index) (λ p. ShowsMember member.new p) }
+    ensures { IfSome (slice_get (paired (entry_members (document_tree string_bytes) members.now.entries)) index) (λ p. ShowsMember member.new p) }
 {
     match members.get_index(index) {
         Some((key, value)) => {
@@ -97,9 +97,9 @@ fn show_member(members: &Object<String>, index: usize, member: &mut Member)
 
 /// Says what the members from a position on are, and answers how many that were.
 fn show_members(members: &Object<String>, from: usize, out: &mut [Member]) -> usize
-    ensures count { result ≡ min (length out.old) (length (paired (entry_members (tree string_bytes) members.now.entries)) - from) }
+    ensures count { result ≡ min (length out.old) (length (paired (entry_members (document_tree string_bytes) members.now.entries)) - from) }
     ensures len { length out.new ≡ length out.old }
-    ensures shown { ShowsFrom ShowsMember from result out.new (paired (entry_members (tree string_bytes) members.now.entries)) }
+    ensures shown { ShowsFrom ShowsMember from result out.new (paired (entry_members (document_tree string_bytes) members.now.entries)) }
 {
     let count = count_of(members.len(), from, out.len());
     for at in 0..count {
@@ -116,9 +116,9 @@ fn items_into(
     out: &mut [Found],
     count: &mut usize,
 ) -> u32
-    ensures items { result ≡ OK → (us : List Tree) × (option_map listed (option_and_then as_items (pointed path.now (tree string_bytes document.now))) ≡ Some us) × (count.new ≡ min (length out.old) (length us - from)) × ShowsFrom Shows from count.new out.new us }
-    ensures missing { result ≡ MISSING → pointed path.now (tree string_bytes document.now) ≡ None }
-    ensures kind { result ≡ NOT_AN_ARRAY → option_and_then as_items (pointed path.now (tree string_bytes document.now)) ≡ None }
+    ensures items { result ≡ OK → (us : List Tree) × (option_map listed (option_and_then as_items (pointed path.now (document_tree string_bytes document.now))) ≡ Some us) × (count.new ≡ min (length out.old) (length us - from)) × ShowsFrom Shows from count.new out.new us }
+    ensures missing { result ≡ MISSING → pointed path.now (document_tree string_bytes document.now) ≡ None }
+    ensures kind { result ≡ NOT_AN_ARRAY → option_and_then as_items (pointed path.now (document_tree string_bytes document.now)) ≡ None }
     ensures answers { (result ≡ OK) ⊎ (result ≡ MISSING) ⊎ (result ≡ NOT_AN_ARRAY) }
 {
     match items_at(document, path) {
@@ -138,9 +138,9 @@ fn members_into(
     out: &mut [Member],
     count: &mut usize,
 ) -> u32
-    ensures members { result ≡ OK → (ps : List (List ℕ × Tree)) × (option_map paired (option_and_then as_members (pointed path.now (tree string_bytes document.now))) ≡ Some ps) × (count.new ≡ min (length out.old) (length ps - from)) × ShowsFrom ShowsMember from count.new out.new ps }
-    ensures missing { result ≡ MISSING → pointed path.now (tree string_bytes document.now) ≡ None }
-    ensures kind { result ≡ NOT_AN_OBJECT → option_and_then as_members (pointed path.now (tree string_bytes document.now)) ≡ None }
+    ensures members { result ≡ OK → (ps : List (List ℕ × Tree)) × (option_map paired (option_and_then as_members (pointed path.now (document_tree string_bytes document.now))) ≡ Some ps) × (count.new ≡ min (length out.old) (length ps - from)) × ShowsFrom ShowsMember from count.new out.new ps }
+    ensures missing { result ≡ MISSING → pointed path.now (document_tree string_bytes document.now) ≡ None }
+    ensures kind { result ≡ NOT_AN_OBJECT → option_and_then as_members (pointed path.now (document_tree string_bytes document.now)) ≡ None }
     ensures answers { (result ≡ OK) ⊎ (result ≡ MISSING) ⊎ (result ≡ NOT_AN_OBJECT) }
 {
     match members_at(document, path) {

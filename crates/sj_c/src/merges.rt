@@ -3,7 +3,7 @@
 ghost use Rattle.std.specs.Prelude.{◌≡◌, ◌≢◌, ◌⊎◌, ◌<◌, ◌≤◌, Some, None, string_bytes};
 ghost use Rattle.sj_text_core.specs.Tree.{Tree, depth};
 ghost use Rattle.sj_text_core.specs.Same.{Same};
-ghost use Rattle.sj_document.specs.Document.{tree};
+ghost use Rattle.sj_document.specs.Document.{document_tree};
 ghost use Rattle.sj_merge.specs.Merge.{merged};
 ghost use Rattle.sj_merge.specs.MergeDiff.{merge_patch};
 ghost use Rattle.sj_c.specs.Meant.{meant};
@@ -21,11 +21,11 @@ const MERGED: usize = 256;
 
 /// Merges a copy of the patch into the document. Refused, the document means what it meant.
 fn merge_into(alloc: Global, document: &mut OwnedValue, patch: &OwnedValue) -> u32
-    ensures ok { result ≡ OK → tree string_bytes document.new ≡ merged (Some (tree string_bytes document.old)) (tree string_bytes patch.now) }
-    ensures within { result ≡ OK → depth (tree string_bytes patch.now) ≤ 256 }
-    ensures deep { result ≡ TOO_DEEP → 256 < depth (tree string_bytes patch.now) }
+    ensures ok { result ≡ OK → document_tree string_bytes document.new ≡ merged (Some (document_tree string_bytes document.old)) (document_tree string_bytes patch.now) }
+    ensures within { result ≡ OK → depth (document_tree string_bytes patch.now) ≤ 256 }
+    ensures deep { result ≡ TOO_DEEP → 256 < depth (document_tree string_bytes patch.now) }
     ensures answers { (result ≡ OK) ⊎ (result ≡ TOO_DEEP) ⊎ (result ≡ OUT_OF_MEMORY) }
-    ensures refused { result ≢ OK → tree string_bytes document.new ≡ tree string_bytes document.old }
+    ensures refused { result ≢ OK → document_tree string_bytes document.new ≡ document_tree string_bytes document.old }
 {
     match patch.is_within_depth(MERGED, alloc) {
         Ok(true) => {}
@@ -70,10 +70,10 @@ pub extern "C" fn sj_merge(alloc: Global, doc: &mut Doc, patch: &mut Doc) -> u32
 
 /// Puts the merge patch from one value to another into the handle. Refused, it keeps what it had.
 fn merge_patch_into(alloc: Global, from: &OwnedValue, to: &OwnedValue, patch: &mut Doc) -> u32
-    ensures ok { result ≡ OK → (p : Tree) × (meant patch.new.kept.holds ≡ Some p) × (merge_patch (Some (tree string_bytes from.now)) (tree string_bytes to.now) ≡ Some p) × Same (merged (Some (tree string_bytes from.now)) p) (tree string_bytes to.now) }
-    ensures none { result ≡ NO_MERGE_PATCH → merge_patch (Some (tree string_bytes from.now)) (tree string_bytes to.now) ≡ None }
-    ensures within { result ≡ OK → depth (tree string_bytes to.now) ≤ 256 }
-    ensures deep { result ≡ TOO_DEEP → 256 < depth (tree string_bytes to.now) }
+    ensures ok { result ≡ OK → (p : Tree) × (meant patch.new.kept.holds ≡ Some p) × (merge_patch (Some (document_tree string_bytes from.now)) (document_tree string_bytes to.now) ≡ Some p) × Same (merged (Some (document_tree string_bytes from.now)) p) (document_tree string_bytes to.now) }
+    ensures none { result ≡ NO_MERGE_PATCH → merge_patch (Some (document_tree string_bytes from.now)) (document_tree string_bytes to.now) ≡ None }
+    ensures within { result ≡ OK → depth (document_tree string_bytes to.now) ≤ 256 }
+    ensures deep { result ≡ TOO_DEEP → 256 < depth (document_tree string_bytes to.now) }
     ensures answers { (result ≡ OK) ⊎ (result ≡ NO_MERGE_PATCH) ⊎ (result ≡ TOO_DEEP) ⊎ (result ≡ OUT_OF_MEMORY) }
     ensures err { result ≢ OK → patch.new.kept.holds ≡ patch.old.kept.holds }
 {

@@ -2,7 +2,7 @@
 
 ghost use Rattle.std.specs.Prelude.{◌≡◌, ◌≢◌, ◌⊎◌, ◌^◌, ◌≤◌, IsUtf8, Some, None, length, string_bytes};
 ghost use Rattle.sj_text_core.specs.Tree.{Tree};
-ghost use Rattle.sj_document.specs.Document.{tree};
+ghost use Rattle.sj_document.specs.Document.{document_tree};
 ghost use Rattle.sj_pointer.specs.Pointed.{pointed};
 ghost use Rattle.sj_pointer.specs.Tokens.{tokens_of};
 ghost use Rattle.sj_c.specs.Meant.{meant, print_of, print_by};
@@ -56,8 +56,8 @@ pub extern "C" fn sj_print_at(
 
 /// Copies what stands at the pointer in the value into the handle.
 fn part_into(alloc: Global, value: &OwnedValue, path: &Pointer, copy: &mut Doc) -> u32
-    ensures copied { result ≡ OK → (u : Tree) × (pointed path.now (tree string_bytes value.now) ≡ Some u) × (meant copy.new.kept.holds ≡ Some u) }
-    ensures missing { result ≡ MISSING → pointed path.now (tree string_bytes value.now) ≡ None }
+    ensures copied { result ≡ OK → (u : Tree) × (pointed path.now (document_tree string_bytes value.now) ≡ Some u) × (meant copy.new.kept.holds ≡ Some u) }
+    ensures missing { result ≡ MISSING → pointed path.now (document_tree string_bytes value.now) ≡ None }
     ensures answers { (result ≡ OK) ⊎ (result ≡ OUT_OF_MEMORY) ⊎ (result ≡ MISSING) }
     ensures err { result ≢ OK → copy.new.kept.holds ≡ copy.old.kept.holds }
 {

@@ -2,7 +2,7 @@
 
 ghost use Rattle.std.specs.Prelude.{◌≡◌, ◌≢◌, ◌⊎◌, ◌<◌, ◌≤◌, map, Ok, Some, None, IfOk, IfErr, string_bytes};
 ghost use Rattle.sj_text_core.specs.Tree.{Tree, depth};
-ghost use Rattle.sj_document.specs.Document.{tree};
+ghost use Rattle.sj_document.specs.Document.{document_tree};
 ghost use Rattle.sj_patch.specs.Meant.{meant as meant_operation};
 ghost use Rattle.sj_patch.specs.Operations.{patch_in};
 ghost use Rattle.sj_c.specs.Meant.{meant};
@@ -24,8 +24,8 @@ fn operations_in(
     patch: &OwnedValue,
     at: &mut usize,
 ) -> Result<Vec<Operation<String>>, u32>
-    ensures ok { IfOk result (λ os. patch_in (tree string_bytes patch.now) ≡ Ok (map (meant_operation string_bytes) os.items)) }
-    ensures err { IfErr result (λ code. NotRead (tree string_bytes patch.now) code at.new) }
+    ensures ok { IfOk result (λ os. patch_in (document_tree string_bytes patch.now) ≡ Ok (map (meant_operation string_bytes) os.items)) }
+    ensures err { IfErr result (λ code. NotRead (document_tree string_bytes patch.now) code at.new) }
     ensures fault { IfErr result (λ code. (code ≢ OK) × (code ≢ EMPTY)) }
 {
     let Ok(copy) = patch.clone() else {
@@ -51,11 +51,11 @@ fn patch_value(
     patch_document: &OwnedValue,
     at: &mut usize,
 ) -> u32
-    ensures ok { result ≡ OK → Patches (tree string_bytes patch_document.now) (tree string_bytes document.old) (tree string_bytes document.new) }
-    ensures within { result ≡ OK → depth (tree string_bytes patch_document.now) ≤ 1024 }
-    ensures fault { result ≢ OK → NotPatched (tree string_bytes patch_document.now) (tree string_bytes document.old) result at.new }
+    ensures ok { result ≡ OK → Patches (document_tree string_bytes patch_document.now) (document_tree string_bytes document.old) (document_tree string_bytes document.new) }
+    ensures within { result ≡ OK → depth (document_tree string_bytes patch_document.now) ≤ 1024 }
+    ensures fault { result ≢ OK → NotPatched (document_tree string_bytes patch_document.now) (document_tree string_bytes document.old) result at.new }
     ensures full { result ≢ EMPTY }
-    ensures refused { result ≢ OK → tree string_bytes document.new ≡ tree string_bytes document.old }
+    ensures refused { result ≢ OK → document_tree string_bytes document.new ≡ document_tree string_bytes document.old }
 {
     match patch_document.is_within_depth(COMPARED, alloc) {
         Ok(true) => {}
@@ -104,9 +104,9 @@ pub extern "C" fn sj_patch(alloc: Global, doc: &mut Doc, patch: &mut Doc, at: &m
 
 /// Puts the patch from one value to another into the handle. Refused, it keeps what it had.
 fn patch_into(alloc: Global, from: &OwnedValue, to: &OwnedValue, patch: &mut Doc) -> u32
-    ensures ok { result ≡ OK → (p : Tree) × (meant patch.new.kept.holds ≡ Some p) × Leads p (tree string_bytes from.now) (tree string_bytes to.now) }
-    ensures within { result ≡ OK → (depth (tree string_bytes from.now) ≤ 1024) ⊎ (depth (tree string_bytes to.now) ≤ 1024) }
-    ensures deep { result ≡ TOO_DEEP → (1024 < depth (tree string_bytes from.now)) × (1024 < depth (tree string_bytes to.now)) }
+    ensures ok { result ≡ OK → (p : Tree) × (meant patch.new.kept.holds ≡ Some p) × Leads p (document_tree string_bytes from.now) (document_tree string_bytes to.now) }
+    ensures within { result ≡ OK → (depth (document_tree string_bytes from.now) ≤ 1024) ⊎ (depth (document_tree string_bytes to.now) ≤ 1024) }
+    ensures deep { result ≡ TOO_DEEP → (1024 < depth (document_tree string_bytes from.now)) × (1024 < depth (document_tree string_bytes to.now)) }
     ensures answers { (result ≡ OK) ⊎ (result ≡ TOO_DEEP) ⊎ (result ≡ OUT_OF_MEMORY) }
     ensures err { result ≢ OK → patch.new.kept.holds ≡ patch.old.kept.holds }
 {

@@ -2,7 +2,7 @@
 
 ghost use Rattle.std.specs.Prelude.{◌≡◌, ◌≢◌, ◌↔◌, ◌^◌, ◌≤◌, List, ℕ, Some, None, option_map, length, string_bytes, IfOk, IsErrOf, take, drop, min};
 ghost use Rattle.sj_text_core.specs.Tree.{Tree};
-ghost use Rattle.sj_document.specs.Document.{tree};
+ghost use Rattle.sj_document.specs.Document.{document_tree};
 ghost use Rattle.sj_text_core.specs.Print.{compact};
 ghost use Rattle.sj_canonical.specs.Canonical.{canonical};
 ghost use Rattle.sj_c.specs.Meant.{meant, print_of, print_by};
@@ -36,8 +36,8 @@ pub fn hold_print(alloc: Global, text: &mut Text, bytes: Vec<u8>) -> u32
 
 /// The compact or the pretty text.
 pub fn printed(alloc: Global, value: &OwnedValue, is_pretty: bool) -> Result<Vec<u8>, WriteError>
-    ensures ok { IfOk result (λ bytes. bytes.items ≡ print_by is_pretty (tree string_bytes value.now)) }
-    ensures too_long { IsErrOf result WriteError.TooLong ↔ (2 ^ 64 ≤ length (print_by is_pretty (tree string_bytes value.now))) }
+    ensures ok { IfOk result (λ bytes. bytes.items ≡ print_by is_pretty (document_tree string_bytes value.now)) }
+    ensures too_long { IsErrOf result WriteError.TooLong ↔ (2 ^ 64 ≤ length (print_by is_pretty (document_tree string_bytes value.now))) }
 {
     let mut bytes = Vec::new(alloc);
     if is_pretty {
@@ -71,8 +71,8 @@ pub extern "C" fn sj_print(alloc: Global, doc: &mut Doc, text: &mut Text, is_pre
 
 /// The canonical text.
 fn printed_canonical(alloc: Global, value: &OwnedValue) -> Result<Vec<u8>, WriteError>
-    ensures ok { IfOk result (λ bytes. bytes.items ≡ compact (canonical (tree string_bytes value.now))) }
-    ensures too_long { IsErrOf result WriteError.TooLong ↔ (2 ^ 64 ≤ length (compact (tree string_bytes value.now))) }
+    ensures ok { IfOk result (λ bytes. bytes.items ≡ compact (canonical (document_tree string_bytes value.now))) }
+    ensures too_long { IsErrOf result WriteError.TooLong ↔ (2 ^ 64 ≤ length (compact (document_tree string_bytes value.now))) }
 {
     let mut bytes = Vec::new(alloc);
     value.write_canonical(&mut bytes)?;

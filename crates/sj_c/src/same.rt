@@ -3,7 +3,7 @@
 ghost use Rattle.std.specs.Prelude.{◌≡◌, ◌≢◌, ◌⊎◌, ◌↔◌, ◌<◌, ◌≤◌, IsTrue, IsFalse, IfOk, Some, None, string_bytes};
 ghost use Rattle.sj_text_core.specs.Tree.{Tree, depth};
 ghost use Rattle.sj_text_core.specs.Same.{Same};
-ghost use Rattle.sj_document.specs.Document.{tree};
+ghost use Rattle.sj_document.specs.Document.{document_tree};
 ghost use Rattle.sj_c.specs.Meant.{meant};
 
 use crate::doc::Doc;
@@ -21,8 +21,8 @@ pub fn are_comparable(
     one: &OwnedValue,
     other: &OwnedValue,
 ) -> Result<bool, AllocError>
-    ensures deep { IfOk result (λ are. IsFalse are → (1024 < depth (tree string_bytes one.now)) × (1024 < depth (tree string_bytes other.now))) }
-    ensures within { IfOk result (λ are. IsTrue are → (depth (tree string_bytes one.now) ≤ 1024) ⊎ (depth (tree string_bytes other.now) ≤ 1024)) }
+    ensures deep { IfOk result (λ are. IsFalse are → (1024 < depth (document_tree string_bytes one.now)) × (1024 < depth (document_tree string_bytes other.now))) }
+    ensures within { IfOk result (λ are. IsTrue are → (depth (document_tree string_bytes one.now) ≤ 1024) ⊎ (depth (document_tree string_bytes other.now) ≤ 1024)) }
 {
     if one.is_within_depth(COMPARED, alloc)? {
         return Ok(true);
@@ -32,9 +32,9 @@ pub fn are_comparable(
 
 /// Compares two values; past the depth it is refused.
 fn compare(alloc: Global, one: &OwnedValue, other: &OwnedValue, same: &mut bool) -> u32
-    ensures ok { result ≡ OK → (IsTrue same.new ↔ Same (tree string_bytes one.now) (tree string_bytes other.now)) }
-    ensures within { result ≡ OK → (depth (tree string_bytes one.now) ≤ 1024) ⊎ (depth (tree string_bytes other.now) ≤ 1024) }
-    ensures deep { result ≡ TOO_DEEP → (1024 < depth (tree string_bytes one.now)) × (1024 < depth (tree string_bytes other.now)) }
+    ensures ok { result ≡ OK → (IsTrue same.new ↔ Same (document_tree string_bytes one.now) (document_tree string_bytes other.now)) }
+    ensures within { result ≡ OK → (depth (document_tree string_bytes one.now) ≤ 1024) ⊎ (depth (document_tree string_bytes other.now) ≤ 1024) }
+    ensures deep { result ≡ TOO_DEEP → (1024 < depth (document_tree string_bytes one.now)) × (1024 < depth (document_tree string_bytes other.now)) }
     ensures answers { (result ≡ OK) ⊎ (result ≡ TOO_DEEP) ⊎ (result ≡ OUT_OF_MEMORY) }
 {
     match are_comparable(alloc, one, other) {

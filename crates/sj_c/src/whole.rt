@@ -5,7 +5,7 @@ ghost use Rattle.sj_text_core.specs.Tree.{Tree, IsWithin};
 ghost use Rattle.sj_text_core.specs.Grammar.{Spells, IsReadable};
 ghost use Rattle.sj_text_core.specs.Keep.{keep};
 ghost use Rattle.sj_text_core.specs.Repeats.{keep_by};
-ghost use Rattle.sj_document.specs.Document.{tree};
+ghost use Rattle.sj_document.specs.Document.{document_tree};
 ghost use Rattle.sj_c.specs.Meant.{meant, choice};
 
 use crate::doc::Doc;
@@ -80,7 +80,7 @@ pub extern "C" fn sj_free(alloc: Global, doc: &mut Doc)
 /// Copies the value into the handle, and lets go what it had.
 pub fn copy_into(alloc: Global, value: &OwnedValue, copy: &mut Doc) -> u32
     ensures either { result ≢ OK → result ≡ OUT_OF_MEMORY }
-    ensures ok { result ≡ OK → meant copy.new.kept.holds ≡ Some (tree string_bytes value.now) }
+    ensures ok { result ≡ OK → meant copy.new.kept.holds ≡ Some (document_tree string_bytes value.now) }
     ensures err { result ≢ OK → copy.new.kept.holds ≡ copy.old.kept.holds }
 {
     match value.clone() {

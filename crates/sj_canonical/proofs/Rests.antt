@@ -13,7 +13,7 @@ use Rattle.sj_text_core.specs.declared.repeats.Repeats.TheVariants.{First, Last}
 use Rattle.sj_canonical.proofs.Picked.{valued, picked-canonical}
 use Rattle.sj_canonical.specs.Canonical.{canonical, canonical_items, canonical_by}
 use Rattle.sj_canonical.specs.inner.Picks.{picked, AreTexts}
-use Rattle.sj_canonical.specs.inner.Walks.{IsBegunBy, Moves, items_rest, members_rest, open_rest, rest}
+use Rattle.sj_canonical.specs.inner.Walks.{IsBegunBy, Moves, items_rest, members_rest, open_rest, canonical_rest}
 use Rattle.sj_canonical.specs.declared.walk.Open.{Open}
 
 -- no print is empty
@@ -124,16 +124,16 @@ moves_behind old mid new part left middle now e f m = record {
 }
 
 module _ {I K V : Type 0} (c : Repeats) (items : I → List Tree) (key : K → List ℕ) (tree : V → Tree) where
-  pub rest_push : (p : List (Open I K V)) (e : Open I K V) → rest c items key tree (p ++ e ∷ []) ≡ open_rest c items key tree e ++ rest c items key tree p
+  pub rest_push : (p : List (Open I K V)) (e : Open I K V) → canonical_rest c items key tree (p ++ e ∷ []) ≡ open_rest c items key tree e ++ canonical_rest c items key tree p
   rest_push [] e = sym (append-nil (open_rest c items key tree e))
-  rest_push (x ∷ p) e = ap (λ l. l ++ open_rest c items key tree x) (rest_push p e) ∙ append_assoc (open_rest c items key tree e) (rest c items key tree p) (open_rest c items key tree x)
+  rest_push (x ∷ p) e = ap (λ l. l ++ open_rest c items key tree x) (rest_push p e) ∙ append_assoc (open_rest c items key tree e) (canonical_rest c items key tree p) (open_rest c items key tree x)
 
   -- a container that was begun and stands on the pile
   pub opened : (p q : List (Open I K V)) (e : Open I K V) (old new whole : List ℕ) (z : ℕ) → q ≡ p ++ e ∷ [] → new ≡ old ++ z ∷ [] → whole ≡ z ∷ open_rest c items key tree e
-      → Moves old new (whole ++ rest c items key tree p) (rest c items key tree q)
+      → Moves old new (whole ++ canonical_rest c items key tree p) (canonical_rest c items key tree q)
   opened p q e old new whole z f g h =
-      moves old new (z ∷ []) (whole ++ rest c items key tree p) (rest c items key tree q) g (omega arith)
-      (ap (λ l. z ∷ l) (ap (rest c items key tree) f ∙ rest_push p e) ∙ sym (ap (λ l. l ++ rest c items key tree p) h))
+      moves old new (z ∷ []) (whole ++ canonical_rest c items key tree p) (canonical_rest c items key tree q) g (omega arith)
+      (ap (λ l. z ∷ l) (ap (canonical_rest c items key tree) f ∙ rest_push p e) ∙ sym (ap (λ l. l ++ canonical_rest c items key tree p) h))
 
 -- with what is left the bytes are as before
 pub moves-whole : (old new left now : List ℕ) → Moves old new left now → new ++ now ≡ old ++ left
@@ -148,10 +148,10 @@ begun-on a b c p q = record { more = p.more ++ q.more; goes_on = q.goes_on ∙ a
 module _ {I K V : Type 0} (c : Repeats) (items : I → List Tree) (key : K → List ℕ) (tree : V → Tree) where
   -- what is left where the container goes back onto the pile, and a part of it comes next
   pub part_next : (p q : List (Open I K V)) (e : Open I K V) (whole before part : List ℕ) → q ≡ p ++ e ∷ [] → whole ≡ before ++ (part ++ open_rest c items key tree e)
-      → whole ++ rest c items key tree p ≡ before ++ (part ++ rest c items key tree q)
+      → whole ++ canonical_rest c items key tree p ≡ before ++ (part ++ canonical_rest c items key tree q)
   part_next p q e whole before part f h =
-      ap (λ l. l ++ rest c items key tree p) h ∙ append_assoc before (part ++ open_rest c items key tree e) (rest c items key tree p)
-      ∙ ap (λ l. before ++ l) (append_assoc part (open_rest c items key tree e) (rest c items key tree p) ∙ ap (λ l. part ++ l) (sym (ap (rest c items key tree) f ∙ rest_push c items key tree p e)))
+      ap (λ l. l ++ canonical_rest c items key tree p) h ∙ append_assoc before (part ++ open_rest c items key tree e) (canonical_rest c items key tree p)
+      ∙ ap (λ l. before ++ l) (append_assoc part (open_rest c items key tree e) (canonical_rest c items key tree p) ∙ ap (λ l. part ++ l) (sym (ap (canonical_rest c items key tree) f ∙ rest_push c items key tree p e)))
 
 -- a key and a colon behind what stands before them
 pub keyed : (before name behind : List ℕ) → before ++ (name ++ 58 ∷ behind) ≡ (before ++ (name ++ 58 ∷ [])) ++ behind

@@ -35,7 +35,7 @@ pub trait Canonical: Meaning {
 }
 
 impl<T: KeyText> Canonical for Document<T> {
-    ghost use Rattle.sj_document.specs.Document.{tree as document_tree};
+    ghost use Rattle.sj_document.specs.Document.{document_tree};
 
     ghost kept = { document_tree T.text_of };
 
@@ -63,9 +63,9 @@ impl<'t, 'i> Canonical for TapeValue<'t, 'i> {
 }
 
 impl<'b, 't, 'i> Canonical for Value<'b, 't, 'i> {
-    ghost use Rattle.sj_lazy.specs.Value.{kept as kept_of_value};
+    ghost use Rattle.sj_lazy.specs.Value.{value_kept};
 
-    ghost kept = { kept_of_value };
+    ghost kept = { value_kept };
 
     fn canonical(&self, alloc: Global) -> Result<String, WriteError> {
         match self {

@@ -8,7 +8,7 @@ ghost use Rattle.std.specs.Vec.Iter.{into_iter_items};
 ghost use Rattle.sj_text_core.specs.Print.{quoted, compact};
 ghost use Rattle.sj_canonical.specs.Canonical.{canonical_by};
 ghost use Rattle.sj_canonical.specs.inner.Picks.{picked, by_choice, AreTexts};
-ghost use Rattle.sj_canonical.specs.inner.Walks.{IsBegunBy, Moves, comma, items_rest, members_rest, pair_of, open_rest, rest};
+ghost use Rattle.sj_canonical.specs.inner.Walks.{IsBegunBy, Moves, comma, items_rest, members_rest, pair_of, open_rest, canonical_rest};
 
 use crate::order::compare_units;
 use sj_print::{BaseGenerator, Level, Parts};
@@ -78,7 +78,7 @@ fn begin<P: Parts, G: BaseGenerator>(
     alloc: Global,
     generator: &mut G,
 ) -> Result<(), AllocError>
-    ensures ok { OnOk result (Moves (G.written generator.old) (G.written generator.new) (compact (canonical_by choice (P.tree_of value.now)) ++ rest choice P.items_left P.key_of P.tree_of pile.old.items) (rest choice P.items_left P.key_of P.tree_of pile.new.items)) }
+    ensures ok { OnOk result (Moves (G.written generator.old) (G.written generator.new) (compact (canonical_by choice (P.tree_of value.now)) ++ canonical_rest choice P.items_left P.key_of P.tree_of pile.old.items) (canonical_rest choice P.items_left P.key_of P.tree_of pile.new.items)) }
     ensures begun { IsBegunBy (G.written generator.old) (G.written generator.new) }
     ensures sink { G.sink generator.new ≡ G.sink generator.old }
 {
@@ -129,7 +129,7 @@ fn further_item<P: Parts, G: BaseGenerator>(
     alloc: Global,
     generator: &mut G,
 ) -> Result<(), AllocError>
-    ensures ok { OnOk result (Moves (G.written generator.old) (G.written generator.new) (items_rest choice is_begun (P.items_left items) ++ rest choice P.items_left P.key_of P.tree_of pile.old.items) (rest choice P.items_left P.key_of P.tree_of pile.new.items)) }
+    ensures ok { OnOk result (Moves (G.written generator.old) (G.written generator.new) (items_rest choice is_begun (P.items_left items) ++ canonical_rest choice P.items_left P.key_of P.tree_of pile.old.items) (canonical_rest choice P.items_left P.key_of P.tree_of pile.new.items)) }
     ensures begun { IsBegunBy (G.written generator.old) (G.written generator.new) }
     ensures sink { G.sink generator.new ≡ G.sink generator.old }
 {
@@ -164,7 +164,7 @@ fn further_member<P: Parts, G: BaseGenerator>(
     alloc: Global,
     generator: &mut G,
 ) -> Result<(), AllocError>
-    ensures ok { OnOk result (Moves (G.written generator.old) (G.written generator.new) (members_rest choice is_begun (map (pair_of P.key_of P.tree_of) (into_iter_items members)) ++ rest choice P.items_left P.key_of P.tree_of pile.old.items) (rest choice P.items_left P.key_of P.tree_of pile.new.items)) }
+    ensures ok { OnOk result (Moves (G.written generator.old) (G.written generator.new) (members_rest choice is_begun (map (pair_of P.key_of P.tree_of) (into_iter_items members)) ++ canonical_rest choice P.items_left P.key_of P.tree_of pile.old.items) (canonical_rest choice P.items_left P.key_of P.tree_of pile.new.items)) }
     ensures begun { IsBegunBy (G.written generator.old) (G.written generator.new) }
     ensures sink { G.sink generator.new ≡ G.sink generator.old }
 {
@@ -189,7 +189,7 @@ fn further<P: Parts, G: BaseGenerator>(
     alloc: Global,
     generator: &mut G,
 ) -> Result<(), AllocError>
-    ensures ok { OnOk result (Moves (G.written generator.old) (G.written generator.new) (open_rest choice P.items_left P.key_of P.tree_of opened ++ rest choice P.items_left P.key_of P.tree_of pile.old.items) (rest choice P.items_left P.key_of P.tree_of pile.new.items)) }
+    ensures ok { OnOk result (Moves (G.written generator.old) (G.written generator.new) (open_rest choice P.items_left P.key_of P.tree_of opened ++ canonical_rest choice P.items_left P.key_of P.tree_of pile.old.items) (canonical_rest choice P.items_left P.key_of P.tree_of pile.new.items)) }
     ensures begun { IsBegunBy (G.written generator.old) (G.written generator.new) }
     ensures sink { G.sink generator.new ≡ G.sink generator.old }
 {

@@ -1,7 +1,7 @@
 -- What steps and commands of the code mean.
 use Rattle.std.specs.Prelude.{List, map, string_bytes}
 use Rattle.sj_text_core.specs.Paths.{Step as PlainStep, by_key, by_place, by_token}
-use Rattle.sj_document.specs.Document.{tree}
+use Rattle.sj_document.specs.Document.{document_tree}
 use Rattle.sj_commands.specs.Commands as plain
 use Rattle.sj_commands.specs.declared.command.Command.{Command}
 use Rattle.sj_commands.specs.declared.command.Command.TheVariants as command
@@ -41,8 +41,8 @@ command_meant (command.Has p k) = plain.read (path_meant p.items) (plain.has (st
 command_meant (command.Encode p) = plain.read (path_meant p.items) plain.encode
 command_meant (command.EncodePp p) = plain.read (path_meant p.items) plain.encode_pp
 command_meant command.Bad = plain.bad
-command_meant (command.Insert p k v) = plain.write (path_meant p.items) (plain.insert (string_bytes k) (tree string_bytes v))
+command_meant (command.Insert p k v) = plain.write (path_meant p.items) (plain.insert (string_bytes k) (document_tree string_bytes v))
 command_meant (command.Remove p k) = plain.write (path_meant p.items) (plain.remove (string_bytes k))
-command_meant (command.Push p v) = plain.write (path_meant p.items) (plain.push (tree string_bytes v))
+command_meant (command.Push p v) = plain.write (path_meant p.items) (plain.push (document_tree string_bytes v))
 command_meant (command.Pop p) = plain.write (path_meant p.items) plain.pop
-command_meant (command.Put p v) = plain.write (path_meant p.items) (plain.put (tree string_bytes v))
+command_meant (command.Put p v) = plain.write (path_meant p.items) (plain.put (document_tree string_bytes v))

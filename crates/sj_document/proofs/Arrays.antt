@@ -7,7 +7,7 @@ use Rattle.sj_text_core.specs.Tree.{Tree, Items, item, items_len, items_from}
 use Rattle.sj_text_core.specs.Find.{nth_item}
 use Rattle.sj_text_core.specs.Edits.{push, front, last}
 use Rattle.sj_text_core.specs.Paths.{set_item}
-use Rattle.sj_document.specs.Document.{tree as tree_by}
+use Rattle.sj_document.specs.Document.{document_tree}
 use Rattle.sj_document.specs.declared.value.Document.{Document}
 
 empty : {A : Type 0} (xs : List A) → length xs ≡ 0 → xs ≡ []
@@ -20,7 +20,7 @@ length-items f (v ∷ vs) = ap suc (length-items f vs)
 
 module _ {T : Type 0} (t : T → List ℕ) where
   abbrev tree : Document T → Tree
-  tree = tree_by t
+  tree = document_tree t
 
   abbrev pub items_seen : List (Document T) → Items
   items_seen vs = items_from (map tree vs)

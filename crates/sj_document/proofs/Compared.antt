@@ -18,7 +18,7 @@ use Rattle.sj_text_core.proofs.Comparing.{by_either, absent_by, there_by}
 use Rattle.sj_text_core.proofs.Shapes.{same_items_len}
 use Rattle.sj_object.specs.Texts.{no_repeats}
 use Rattle.sj_object.specs.inner.Texts.{not_and, or_false, bytes_eq-sym}
-use Rattle.sj_object.specs.Entries.{Entry, texts, entries_of}
+use Rattle.sj_object.specs.Entries.{Entry, entry_texts, entries_of}
 use Rattle.sj_object.specs.Edits.{lookup}
 use Rattle.sj_object.specs.Members.{entry_members}
 use Rattle.sj_object.proofs.Shown.{lookup-entry_members}
@@ -81,21 +81,21 @@ module _ {K V : Type 0} where
   EachThere [] es = Unit {0}
   EachThere (d ∷ ds) es = (lookup d.0.1 es ≡ Some d.1) × EachThere ds es
 
-  behind : (e : Entry K V) (ds es : List (Entry K V)) → is_seen e.0.1 (texts ds) ≡ false → EachThere ds es → EachThere ds (e ∷ es)
+  behind : (e : Entry K V) (ds es : List (Entry K V)) → is_seen e.0.1 (entry_texts ds) ≡ false → EachThere ds es → EachThere ds (e ∷ es)
   behind e [] es n h = tt
   behind e (d ∷ ds) es n h =
       let r = or_false (bytes_eq e.0.1 d.0.1) _ n in
       ((λ i. if bytes_eq-sym e.0.1 d.0.1 r.0 i then Some e.1 else lookup d.0.1 es) ∙ h.0, behind e ds es r.1 h.1)
 
   -- without repeats each entry is what its text finds
-  pub each_there : (es : List (Entry K V)) → no_repeats (texts es) ≡ true → EachThere es es
+  pub each_there : (es : List (Entry K V)) → no_repeats (entry_texts es) ≡ true → EachThere es es
   each_there [] d = tt
   each_there (e ∷ es) d =
-      let n = not_and (is_seen e.0.1 (texts es)) _ d in
+      let n = not_and (is_seen e.0.1 (entry_texts es)) _ d in
       ((λ i. if (bytes_eq-Decides e.0.1 e.0.1).1 refl i then Some e.1 else lookup e.0.1 es), behind e es es n.0 (each_there es n.1))
 
   module _ (f : V → Tree) where
-    texts_are : (es : List (Entry K V)) → member_texts (entry_members f es) ≡ texts es
+    texts_are : (es : List (Entry K V)) → member_texts (entry_members f es) ≡ entry_texts es
     texts_are [] = refl
     texts_are (e ∷ es) = ap (λ l. e.0.1 ∷ l) (texts_are es)
 
@@ -106,11 +106,11 @@ module _ {K V : Type 0} where
         (subst (λ r. SameFound r (find_member d.0.1 ns)) found (found_from_at d.0.1 (entry_members f es) (find_member d.0.1 ns) (h d.0.1)), each_if_same_from ds es ns t.1 h)
 
 -- as many texts as entries
-pub texts_len : {A B : Type 0} (es : List (Entry A B)) → length (texts es) ≡ length es
+pub texts_len : {A B : Type 0} (es : List (Entry A B)) → length (entry_texts es) ≡ length es
 texts_len [] = refl
 texts_len (e ∷ es) = ap (λ n. suc n) (texts_len es)
 
-module _ {K V L W : Type 0} (f : V → Tree) (g : W → Tree) (es : List (Entry K V)) (fs : List (Entry L W)) (d : no_repeats (texts es) ≡ true) where
+module _ {K V L W : Type 0} (f : V → Tree) (g : W → Tree) (es : List (Entry K V)) (fs : List (Entry L W)) (d : no_repeats (entry_texts es) ≡ true) where
   mine : no_repeats (member_texts (entry_members f es)) ≡ true
   mine = ap no_repeats (texts_are f es) ∙ d
 
@@ -123,13 +123,13 @@ module _ {K V L W : Type 0} (f : V → Tree) (g : W → Tree) (es : List (Entry 
   pub maps_each : Same (obj (entry_members f es)) (obj (entry_members g fs)) → EachFound (entry_members f es) (entry_members g fs)
   maps_each h = each_if_same_from f es es (entry_members g fs) (each_there es d) h
 
-  pub maps_len : no_repeats (texts fs) ≡ true → Same (obj (entry_members f es)) (obj (entry_members g fs)) → length es ≡ length fs
+  pub maps_len : no_repeats (entry_texts fs) ≡ true → Same (obj (entry_members f es)) (obj (entry_members g fs)) → length es ≡ length fs
   maps_len d2 h = omega (arith, more, fewer, texts_len es, texts_len fs) where
-    more : length (texts fs) ≤ length (texts es)
-    more = within_len (texts fs) (texts es) d2 (λ x e. ap (is_seen x) (sym (texts_are f es)) ∙ same_within (entry_members f es) (entry_members g fs) h x (ap (is_seen x) (texts_are g fs) ∙ e))
+    more : length (entry_texts fs) ≤ length (entry_texts es)
+    more = within_len (entry_texts fs) (entry_texts es) d2 (λ x e. ap (is_seen x) (sym (texts_are f es)) ∙ same_within (entry_members f es) (entry_members g fs) h x (ap (is_seen x) (texts_are g fs) ∙ e))
 
-    fewer : length (texts es) ≤ length (texts fs)
-    fewer = within_len (texts es) (texts fs) d (λ x e. ap (is_seen x) (sym (texts_are g fs)) ∙ same_within (entry_members g fs) (entry_members f es) (same-sym (obj (entry_members f es)) (obj (entry_members g fs)) h) x (ap (is_seen x) (texts_are f es) ∙ e))
+    fewer : length (entry_texts es) ≤ length (entry_texts fs)
+    fewer = within_len (entry_texts es) (entry_texts fs) d (λ x e. ap (is_seen x) (sym (texts_are g fs)) ∙ same_within (entry_members g fs) (entry_members f es) (same-sym (obj (entry_members f es)) (obj (entry_members g fs)) h) x (ap (is_seen x) (texts_are f es) ∙ e))
 
 -- what an iterator over a map shows next, and what it has left, are there too
 pub near_there : {K V : Type 0} (t : K → List ℕ) (es : List (Entry K V)) (s u : List (K × V)) (r : Option (Bor K × Bor V)) → EachThere (entries_of t s) es → TakesFirst deref_pair s r u

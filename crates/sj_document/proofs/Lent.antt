@@ -9,7 +9,7 @@ use Rattle.sj_text_core.specs.Paths.{by_key, by_place, set_found}
 use Rattle.sj_object.specs.Edits.{lookup, with_value}
 use Rattle.sj_object.specs.Members.{entry_members}
 use Rattle.sj_object.proofs.Shown.{lookup-entry_members, entry_members-set_value}
-use Rattle.sj_document.specs.Document.{tree as tree_by}
+use Rattle.sj_document.specs.Document.{document_tree}
 use Rattle.sj_document.specs.declared.value.Document.{Document}
 use Rattle.sj_document.proofs.Trees.{Map, tree_of_mut}
 use Rattle.sj_document.proofs.Arrays.{items_seen, item_set}
@@ -48,7 +48,7 @@ array_of is (obj ms) e = cc
 
 module _ {T : Type 0} (t : T → List ℕ) where
   abbrev tree : Document T → Tree
-  tree = tree_by t
+  tree = document_tree t
 
   module _ (k : List ℕ) (m : Map T) (u : Tree) (e : obj (entry_members tree m.entries) ≡ u) where
     -- what a reference to the value of the key shows

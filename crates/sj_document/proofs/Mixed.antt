@@ -5,13 +5,13 @@ use Rattle.sj_text_core.specs.Tree.{Tree, Items, items_len, items_from, Members,
 use Rattle.sj_text_core.specs.Find.{find_member}
 use Rattle.sj_text_core.specs.Keep.{is_seen}
 use Rattle.sj_text_core.specs.Same.{Same, SameItems}
-use Rattle.sj_text_core.specs.Agree.{texts, is_before}
+use Rattle.sj_text_core.specs.Agree.{pair_keys, is_seen_before}
 use Rattle.sj_text_core.proofs.Comparing.{found_first}
 use Rattle.sj_text_core.proofs.Shapes.{same_items_len, members_from-paired}
 use Rattle.sj_tape.proofs.Counted.{one_place}
 use Rattle.sj_object.specs.Texts.{no_repeats}
 use Rattle.sj_object.specs.inner.Texts.{not_and, or_of_false}
-use Rattle.sj_object.specs.Entries.{Entry, texts as entry_texts}
+use Rattle.sj_object.specs.Entries.{Entry, entry_texts}
 use Rattle.sj_object.specs.Edits.{lookup}
 use Rattle.sj_object.specs.Members.{entry_members}
 use Rattle.sj_object.proofs.Shown.{lookup-entry_members}
@@ -38,7 +38,7 @@ module _ {B : Type 0} (g : B → Tree) where
     pub lens_next : length ahead ≡ length (drop i ys) → length next ≡ length (drop (i + 1) ys)
     lens_next e = omega (arith, e, ap (λ (l : List Tree). length l) steps, ap (λ (l : List B). length l) front)
 
-pub texts_paired : {K V : Type 0} (f : V → Tree) (es : List (Entry K V)) → texts (paired (entry_members f es)) ≡ entry_texts es
+pub texts_paired : {K V : Type 0} (f : V → Tree) (es : List (Entry K V)) → pair_keys (paired (entry_members f es)) ≡ entry_texts es
 texts_paired f [] = refl
 texts_paired f (e ∷ es) = ap (λ l. e.0.1 ∷ l) (texts_paired f es)
 
@@ -52,53 +52,53 @@ pub drop_less : {A : Type 0} (n : ℕ) (xs : List A) (x : A) (rest : List A) →
 drop_less zero xs x rest e h = absurd (omega arith)
 drop_less (suc n) xs x rest e h = let less : n ≡ suc n - 1 = omega arith in ap (drop (suc n)) e ∙ ap (λ m. drop m rest) less
 
-at_place : (n : ℕ) (k : List ℕ) (u : Tree) (qs more : List (List ℕ × Tree)) → drop n qs ≡ (k, u) ∷ more → is_seen k (texts qs) ≡ true
+at_place : (n : ℕ) (k : List ℕ) (u : Tree) (qs more : List (List ℕ × Tree)) → drop n qs ≡ (k, u) ∷ more → is_seen k (pair_keys qs) ≡ true
 at_place zero k u [] more e = cc
-at_place zero k u (q ∷ qs) more e = (λ j. (bytes_eq-Decides k q.0).1 same j || is_seen k (texts qs)) where
+at_place zero k u (q ∷ qs) more e = (λ j. (bytes_eq-Decides k q.0).1 same j || is_seen k (pair_keys qs)) where
   same : k ≡ q.0
   same = ap (λ (p : List ℕ × Tree). p.0) (sym (let f : q ≡ (k, u) = cc in f))
 at_place (suc n) k u [] more e = cc
-at_place (suc n) k u (q ∷ qs) more e = or_right (bytes_eq k q.0) (is_seen k (texts qs)) (at_place n k u qs more e)
+at_place (suc n) k u (q ∷ qs) more e = or_right (bytes_eq k q.0) (is_seen k (pair_keys qs)) (at_place n k u qs more e)
 
 other_text : (k l : List ℕ) (ks : List (List ℕ)) (b : Bool) → bytes_eq k l ≡ b → is_seen k ks ≡ true → is_seen l ks ≡ false → b ≡ false
 other_text k l ks true e h n = absurd (true≢false (sym h ∙ ap (λ x. is_seen x ks) ((bytes_eq-Decides k l).0 e) ∙ n))
 other_text k l ks false e h n = refl
 
 -- without repeats a text does not stand before its place
-alone : (n : ℕ) (k : List ℕ) (u : Tree) (qs more : List (List ℕ × Tree)) → no_repeats (texts qs) ≡ true → drop n qs ≡ (k, u) ∷ more → is_seen k (texts (take n qs)) ≡ false
+alone : (n : ℕ) (k : List ℕ) (u : Tree) (qs more : List (List ℕ × Tree)) → no_repeats (pair_keys qs) ≡ true → drop n qs ≡ (k, u) ∷ more → is_seen k (pair_keys (take n qs)) ≡ false
 alone zero k u qs more d e = refl
 alone (suc n) k u [] more d e = refl
 alone (suc n) k u (q ∷ qs) more d e =
-    let r = not_and (is_seen q.0 (texts qs)) (no_repeats (texts qs)) d in
-    or_of_false (bytes_eq k q.0) _ (other_text k q.0 (texts qs) (bytes_eq k q.0) refl (at_place n k u qs more e) r.0) (alone n k u qs more r.1 e)
+    let r = not_and (is_seen q.0 (pair_keys qs)) (no_repeats (pair_keys qs)) d in
+    or_of_false (bytes_eq k q.0) _ (other_text k q.0 (pair_keys qs) (bytes_eq k q.0) refl (at_place n k u qs more e) r.0) (alone n k u qs more r.1 e)
 
 -- nor in what is in step
 pub first_here : (n : ℕ) (k l : List ℕ) (u : Tree) (ps qs others more : List (List ℕ × Tree)) (b : Bool) → drop n qs ≡ others → others ≡ (l, u) ∷ more → b ≡ bytes_eq k l → b ≡ true
-    → texts (take n ps) ≡ texts (take n qs) → no_repeats (texts qs) ≡ true → is_before n k ps ≡ false
+    → pair_keys (take n ps) ≡ pair_keys (take n qs) → no_repeats (pair_keys qs) ≡ true → is_seen_before n k ps ≡ false
 first_here n k l u ps qs others more b also shows asked holds w d =
-    ap (is_seen k) w ∙ ap (λ x. is_seen x (texts (take n qs))) ((bytes_eq-Decides k l).0 (sym asked ∙ holds)) ∙ alone n l u qs more d (also ∙ shows)
+    ap (is_seen k) w ∙ ap (λ x. is_seen x (pair_keys (take n qs))) ((bytes_eq-Decides k l).0 (sym asked ∙ holds)) ∙ alone n l u qs more d (also ∙ shows)
 
 cons_same : (p q : List ℕ × Tree) (ps qs : List (List ℕ × Tree)) → p ∷ ps ≡ q ∷ qs → (p ≡ q) × (ps ≡ qs)
 cons_same p q ps qs e = (cc, cc)
 
 -- nor behind it
-behind : (n : ℕ) (k : List ℕ) (u : Tree) (qs more : List (List ℕ × Tree)) → no_repeats (texts qs) ≡ true → drop n qs ≡ (k, u) ∷ more → is_seen k (texts more) ≡ false
+behind : (n : ℕ) (k : List ℕ) (u : Tree) (qs more : List (List ℕ × Tree)) → no_repeats (pair_keys qs) ≡ true → drop n qs ≡ (k, u) ∷ more → is_seen k (pair_keys more) ≡ false
 behind zero k u [] more d e = cc
 behind zero k u (q ∷ qs) more d e =
     let f = cons_same q (k, u) qs more e in
-    let r = not_and (is_seen q.0 (texts qs)) (no_repeats (texts qs)) d in
-    ap (λ k. is_seen k (texts more)) (sym (ap (λ (p : List ℕ × Tree). p.0) f.0)) ∙ ap (λ ps. is_seen q.0 (texts ps)) (sym f.1) ∙ r.0
+    let r = not_and (is_seen q.0 (pair_keys qs)) (no_repeats (pair_keys qs)) d in
+    ap (λ k. is_seen k (pair_keys more)) (sym (ap (λ (p : List ℕ × Tree). p.0) f.0)) ∙ ap (λ ps. is_seen q.0 (pair_keys ps)) (sym f.1) ∙ r.0
 behind (suc n) k u [] more d e = cc
-behind (suc n) k u (q ∷ qs) more d e = behind n k u qs more (not_and (is_seen q.0 (texts qs)) (no_repeats (texts qs)) d).1 e
+behind (suc n) k u (q ∷ qs) more d e = behind n k u qs more (not_and (is_seen q.0 (pair_keys qs)) (no_repeats (pair_keys qs)) d).1 e
 
 -- one place of two objects with the same texts in one order, none of them twice
-module _ (ms ns : Members) (same : texts (paired ms) ≡ texts (paired ns)) (d : no_repeats (texts (paired ns)) ≡ true) (n : ℕ) (k l : List ℕ) (t x : Tree) (ahead rest others more : List (List ℕ × Tree))
+module _ (ms ns : Members) (same : pair_keys (paired ms) ≡ pair_keys (paired ns)) (d : no_repeats (pair_keys (paired ns)) ≡ true) (n : ℕ) (k l : List ℕ) (t x : Tree) (ahead rest others more : List (List ℕ × Tree))
     (at : drop n (paired ms) ≡ ahead) (step : ahead ≡ (k, t) ∷ rest) (also : drop n (paired ns) ≡ others) (shows : others ≡ (l, x) ∷ more) where
-  one : (k ≡ l) × (texts rest ≡ texts more)
+  one : (k ≡ l) × (pair_keys rest ≡ pair_keys more)
   one = one_place ms ns same n k t ahead rest at step l x others more also shows
 
-  pub last_here : is_seen k (texts rest) ≡ false
-  last_here = ap (is_seen k) one.1 ∙ ap (λ k. is_seen k (texts more)) one.0 ∙ behind n l x (paired ns) more d (also ∙ shows)
+  pub last_here : is_seen k (pair_keys rest) ≡ false
+  last_here = ap (is_seen k) one.1 ∙ ap (λ k. is_seen k (pair_keys more)) one.0 ∙ behind n l x (paired ns) more d (also ∙ shows)
 
   pub found_here : find_member k ns ≡ Some x
   found_here = ap (λ k. find_member k ns) one.0 ∙ ap (find_member l) (sym (members_from-paired ns)) ∙ found_first n l x (paired ns) more (also ∙ shows) (alone n l x (paired ns) more d (also ∙ shows))

@@ -6,8 +6,8 @@ use Rattle.std.specs.Option.{MatchOption, IfNone}
 use Rattle.std.proofs.lemmas.List.Sums.{sum_by-cons, sum_by-append, sum_by_push, sum_by-set, get_or-le-sum_by}
 use Rattle.std.proofs.Math.Nat.{mul-le-mul}
 use Rattle.sj_object.specs.Entries.{Entry, entries_of}
-use Rattle.sj_object.specs.Edits.{set_value_at, value_at}
-use Rattle.sj_document.specs.inner.Nodes.{nodes, nodes_of, nodes_in, work, level_nodes}
+use Rattle.sj_object.specs.Edits.{set_value_at, nth_value}
+use Rattle.sj_document.specs.inner.Nodes.{nodes, nodes_of, entry_nodes, work, level_nodes}
 use Rattle.sj_document.specs.declared.value.Document.TheOpen.{Document-F}
 use Rattle.sj_document.specs.declared.value.Document.{Document, Array, Object, the_lemmas, ind-Document, fold-roll-Document}
 use Rattle.sj_document.proofs.Trees.{Map}
@@ -55,11 +55,11 @@ module _ {T : Type 0} where
   items_none [] e = refl
   items_none (d ∷ ds) e = absurd (omega (arith, sum_by-cons nodes d ds, some_nodes d, e))
 
-  pub members_some : (es : List (Entry T (Document T))) → 0 < length es → 1 < nodes_in es + 1
+  pub members_some : (es : List (Entry T (Document T))) → 0 < length es → 1 < entry_nodes es + 1
   members_some [] l = absurd (omega arith)
   members_some (x ∷ es) l = omega (arith, sum_by-cons (λ (e : Entry T (Document T)). nodes e.1) x es, some_nodes x.1)
 
-  pub members_none : (es : List (Entry T (Document T))) → nodes_in es + 1 ≡ 1 → es ≡ []
+  pub members_none : (es : List (Entry T (Document T))) → entry_nodes es + 1 ≡ 1 → es ≡ []
   members_none [] e = refl
   members_none (x ∷ es) e = absurd (omega (arith, sum_by-cons (λ (e : Entry T (Document T)). nodes e.1) x es, some_nodes x.1, e))
 
@@ -67,11 +67,11 @@ module _ {T : Type 0} where
   items_popped xs ys None e = omega (arith, ap of_items e ∙ sum_by-append nodes ys [])
   items_popped xs ys (Some x) e = omega (arith, ap of_items e ∙ sum_by_push nodes ys x)
 
-  pub members_popped : (t : T → List ℕ) (xs ys : List (Entry T (Document T))) (x : T × Document T) → xs ≡ ys ++ entries_of t (x ∷ []) → nodes_in xs ≡ nodes_in ys + nodes x.1
-  members_popped t xs ys x e = omega (arith, ap nodes_in e ∙ sum_by_push (λ (e : Entry T (Document T)). nodes e.1) ys ((x.0, t x.0), x.1))
+  pub members_popped : (t : T → List ℕ) (xs ys : List (Entry T (Document T))) (x : T × Document T) → xs ≡ ys ++ entries_of t (x ∷ []) → entry_nodes xs ≡ entry_nodes ys + nodes x.1
+  members_popped t xs ys x e = omega (arith, ap entry_nodes e ∙ sum_by_push (λ (e : Entry T (Document T)). nodes e.1) ys ((x.0, t x.0), x.1))
 
-  pub members_rest : (xs ys : List (Entry T (Document T))) → xs ≡ ys ++ [] → nodes_in xs ≡ nodes_in ys + 0
-  members_rest xs ys e = omega (arith, ap nodes_in e ∙ sum_by-append (λ (e : Entry T (Document T)). nodes e.1) ys [])
+  pub members_rest : (xs ys : List (Entry T (Document T))) → xs ≡ ys ++ [] → entry_nodes xs ≡ entry_nodes ys + 0
+  members_rest xs ys e = omega (arith, ap entry_nodes e ∙ sum_by-append (λ (e : Entry T (Document T)). nodes e.1) ys [])
 
   pub items_swapped : (xs : List (Document T)) (d x : Document T) → 0 < length xs → d ≡ get_or xs 0 d → of_items (set xs 0 x) + 1 + nodes d ≡ of_items xs + 1 + nodes x
   items_swapped xs d x l e = omega (arith, sum_by-set nodes xs 0 x d l, ap nodes e)
@@ -79,14 +79,14 @@ module _ {T : Type 0} where
   pub items_below : (xs : List (Document T)) (d : Document T) → 0 < length xs → d ≡ get_or xs 0 d → nodes d < of_items xs + 1
   items_below xs d l e = omega (arith, get_or-le-sum_by nodes xs 0 d l, ap nodes e)
 
-  pub members_swapped : (es : List (Entry T (Document T))) (d x : Document T) → value_at 0 es ≡ Some d → nodes_in (set_value_at 0 x es) + 1 + nodes d ≡ nodes_in es + 1 + nodes x
+  pub members_swapped : (es : List (Entry T (Document T))) (d x : Document T) → nth_value 0 es ≡ Some d → entry_nodes (set_value_at 0 x es) + 1 + nodes d ≡ entry_nodes es + 1 + nodes x
   members_swapped [] d x e = cc
   members_swapped (y ∷ es) d x e =
       let f : Entry T (Document T) → ℕ = λ (e : Entry T (Document T)). nodes e.1 in
       let s : nodes y.1 ≡ nodes d = ap nodes_of e in
       omega (arith, sum_by-cons f y es, sum_by-cons f (y.0, x) es, s)
 
-  pub members_below : (es : List (Entry T (Document T))) (d : Document T) → value_at 0 es ≡ Some d → nodes d < nodes_in es + 1
+  pub members_below : (es : List (Entry T (Document T))) (d : Document T) → nth_value 0 es ≡ Some d → nodes d < entry_nodes es + 1
   members_below [] d e = cc
   members_below (y ∷ es) d e =
       let f : Entry T (Document T) → ℕ = λ (e : Entry T (Document T)). nodes e.1 in
@@ -97,7 +97,7 @@ module _ {T : Type 0} where
   items_pos [] e = absurd (omega arith)
   items_pos (d ∷ ds) e = omega arith
 
-  pub members_pos : (es : List (Entry T (Document T))) → 1 < nodes_in es + 1 → 0 < length es
+  pub members_pos : (es : List (Entry T (Document T))) → 1 < entry_nodes es + 1 → 0 < length es
   members_pos [] e = absurd (omega arith)
   members_pos (x ∷ es) e = omega arith
 
@@ -113,7 +113,7 @@ module _ {T : Type 0} where
   still_none None m n f h = f h
   still_none (Some d) m n f h = tt
 
-  pub members_decide : (r : Bool) (es : List (Entry T (Document T))) (n : ℕ) → (IsTrue r → es ≡ []) × (es ≡ [] → IsTrue r) → n ≡ nodes_in es + 1 → (IsTrue (not r) → 1 < n) × (1 < n → IsTrue (not r))
-  members_decide true es n h e = (λ f. absurd (true≢false (sym f)), λ l. absurd (omega (arith, l, e ∙ ap (λ (fs : List (Entry T (Document T))). nodes_in fs + 1) (h.0 refl))))
+  pub members_decide : (r : Bool) (es : List (Entry T (Document T))) (n : ℕ) → (IsTrue r → es ≡ []) × (es ≡ [] → IsTrue r) → n ≡ entry_nodes es + 1 → (IsTrue (not r) → 1 < n) × (1 < n → IsTrue (not r))
+  members_decide true es n h e = (λ f. absurd (true≢false (sym f)), λ l. absurd (omega (arith, l, e ∙ ap (λ (fs : List (Entry T (Document T))). entry_nodes fs + 1) (h.0 refl))))
   members_decide false [] n h e = absurd (true≢false (sym (h.1 refl)))
   members_decide false (x ∷ es) n h e = (λ f. omega (arith, e, members_some (x ∷ es) (omega arith)), λ l. refl)

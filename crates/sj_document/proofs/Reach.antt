@@ -3,7 +3,7 @@ use Rattle.std.proofs.Common.{◌≡◌, ◌↔◌, ◌+◌, ◌<◌, ◌≤◌,
 use Rattle.std.proofs.lemmas.List.{length_push}
 use Rattle.std.proofs.lemmas.List.Sums.{sum_by_push}
 use Rattle.sj_text_core.specs.Tree.{Tree}
-use Rattle.sj_document.specs.inner.Reach.{ahead_depth, ahead_weight, reach, left, Reached}
+use Rattle.sj_document.specs.inner.Reach.{ahead_depth, ahead_weight, reach, ahead_left, Reached}
 use Rattle.sj_document.specs.declared.value.within.Ahead.{Ahead}
 
 module _ {I M : Type 0} (items : I → List Tree) (members : M → List (List ℕ × Tree)) where
@@ -15,7 +15,7 @@ module _ {I M : Type 0} (items : I → List Tree) (members : M → List (List �
   reach_some [] = omega arith
   reach_some (x ∷ p) = omega (arith, reach_some p)
 
-  pub left_push : (p : List (Ahead I M)) (e : Ahead I M) → left items members (p ++ e ∷ []) ≡ left items members p + suc (ahead_weight items members e)
+  pub left_push : (p : List (Ahead I M)) (e : Ahead I M) → ahead_left items members (p ++ e ∷ []) ≡ ahead_left items members p + suc (ahead_weight items members e)
   left_push p e = sum_by_push (λ e. suc (ahead_weight items members e)) p e
 
   -- a scalar
@@ -26,7 +26,7 @@ module _ {I M : Type 0} (items : I → List Tree) (members : M → List (List �
   pub reached_up : (levels : ℕ) (p q : List (Ahead I M)) (e : Ahead I M) (w : ℕ) → length p < levels → q ≡ p ++ e ∷ [] → ahead_weight items members e + 1 < w → Reached items members levels p (suc (ahead_depth items members e)) w true q
   reached_up levels p q e w l same h =
       let a : reach items members q ≡ max (reach items members p) (length p + suc (ahead_depth items members e)) = ap (reach items members) same ∙ reach_push p e in
-      let b : left items members q ≡ left items members p + suc (ahead_weight items members e) = ap (left items members) same ∙ left_push p e in
+      let b : ahead_left items members q ≡ ahead_left items members p + suc (ahead_weight items members e) = ap (ahead_left items members) same ∙ left_push p e in
       let n : length q ≡ length p + 1 = ap length same ∙ length_push p e in
       ((λ h. omega (arith, a, h), λ h. omega (arith, a, h)), omega (arith, n, l), omega (arith, b, h))
 
@@ -39,7 +39,7 @@ module _ {I M : Type 0} (items : I → List Tree) (members : M → List (List �
       → Reached items members levels q d w is new → Reached items members levels p (suc n) (suc m) is new
   reached_part levels p q e d w n m true new same deep heavy r =
       let a : reach items members q ≡ max (reach items members p) (length p + suc (ahead_depth items members e)) = ap (reach items members) same ∙ reach_push p e in
-      let b : left items members q ≡ left items members p + suc (ahead_weight items members e) = ap (left items members) same ∙ left_push p e in
+      let b : ahead_left items members q ≡ ahead_left items members p + suc (ahead_weight items members e) = ap (ahead_left items members) same ∙ left_push p e in
       let l : length q ≡ length p + 1 = ap length same ∙ length_push p e in
       let k : max (reach items members q) (length q + d) ≡ max (reach items members p) (length p + suc n) = omega (arith, a, l, deep) in
       ((λ h. r.0.0 (subst (λ (x : ℕ). x ≤ levels) (sym k) h), λ h. subst (λ (x : ℕ). x ≤ levels) k (r.0.1 h)), r.1, omega (arith, r.2, b, heavy))

@@ -9,7 +9,7 @@ use Rattle.sj_text_core.specs.Scalars.{static_tree}
 use Rattle.sj_text_core.specs.declared.static_node.StaticNode.{StaticNode}
 use Rattle.sj_text_core.specs.declared.static_node.StaticNode.TheVariants.{Null, Bool as Truth, I64, U64, I128, U128}
 use Rattle.sj_tape.specs.Value.{as_scalar}
-use Rattle.sj_document.specs.Document.{tree}
+use Rattle.sj_document.specs.Document.{document_tree}
 use Rattle.sj_document.specs.declared.value.Document.{String, the_lemmas}
 
 abbrev sort : Tree → ℕ
@@ -117,7 +117,7 @@ text_is (obj ms) s e = cc
 pub same_text : (s r : List ℕ) (b : Bool) → b ≡ bytes_eq s r → IsTrue b ↔ Same (text s) (text r)
 same_text s r b e = (λ f. ap text (sym ((bytes_eq-Decides s r).0 (sym e ∙ f))), λ h. e ∙ (bytes_eq-Decides s r).1 (let i : s ≡ r = cc in i))
 
-pub tree-String : {T : Type 0} (t : T → List ℕ) (s : T) → tree t (String s) ≡ text (t s)
+pub tree-String : {T : Type 0} (t : T → List ℕ) (s : T) → document_tree t (String s) ≡ text (t s)
 tree-String t s = search (rules, the_lemmas)
 
 -- a scalar has no texts to keep

@@ -8,27 +8,27 @@ use Rattle.sj_object.specs.declared.hasher.NotSoRandomState.{NotSoRandomState}
 use Rattle.sj_object.specs.HashMap.{Contents}
 use Rattle.sj_object.specs.Members.{entry_members}
 use Rattle.sj_object.proofs.Shown.{entry_members-map}
-use Rattle.sj_document.specs.Document.{tree}
+use Rattle.sj_document.specs.Document.{document_tree}
 use Rattle.sj_document.specs.declared.value.Document.{Document, Array, Object, Static, the_lemmas}
 
 abbrev pub Map : Type 0 → Type 0
 Map T = Contents T (Document T) NotSoRandomState
 
 module _ {T : Type 0} (t : T → List ℕ) where
-  pub tree-Object : (b : Box (Map T) Global) → tree t (Object b) ≡ obj (entry_members (tree t) b.value.entries)
-  tree-Object b = let e : tree t (Object b) ≡ obj (entry_members (λ u. u) (map (λ e. (e.0, tree t e.1)) b.value.entries)) = search (rules, the_lemmas) in e ∙ ap obj (entry_members-map (tree t) (λ u. u) b.value.entries)
+  pub tree-Object : (b : Box (Map T) Global) → document_tree t (Object b) ≡ obj (entry_members (document_tree t) b.value.entries)
+  tree-Object b = let e : document_tree t (Object b) ≡ obj (entry_members (λ u. u) (map (λ e. (e.0, document_tree t e.1)) b.value.entries)) = search (rules, the_lemmas) in e ∙ ap obj (entry_members-map (document_tree t) (λ u. u) b.value.entries)
 
-  pub tree-Static : (n : StaticNode) → tree t (Static n) ≡ static_tree n
+  pub tree-Static : (n : StaticNode) → document_tree t (Static n) ≡ static_tree n
   tree-Static n = search (rules, the_lemmas)
 
-  pub tree-Array : (b : Box (Vec (Document T) Global) Global) → tree t (Array b) ≡ list (items_from (map (tree t) b.value.items))
+  pub tree-Array : (b : Box (Vec (Document T) Global) Global) → document_tree t (Array b) ≡ list (items_from (map (document_tree t) b.value.items))
   tree-Array b = search (rules, the_lemmas)
 
-  pub tree_of_ref : (r : Option (Bor (Document T))) → option_map (λ v. tree t v.now) r ≡ option_map (tree t) (option_copied r)
+  pub tree_of_ref : (r : Option (Bor (Document T))) → option_map (λ v. document_tree t v.now) r ≡ option_map (document_tree t) (option_copied r)
   tree_of_ref None = refl
   tree_of_ref (Some v) = refl
 
-  pub tree_of_mut : (r : Option (MutBor (Document T))) → option_map (λ v. tree t v.now) r ≡ option_map (tree t) (option_copied_mut r)
+  pub tree_of_mut : (r : Option (MutBor (Document T))) → option_map (λ v. document_tree t v.now) r ≡ option_map (document_tree t) (option_copied_mut r)
   tree_of_mut None = refl
   tree_of_mut (Some v) = refl
 

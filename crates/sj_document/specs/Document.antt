@@ -12,14 +12,14 @@ use Rattle.sj_document.specs.declared.value.Document.TheOpen.{Document-F}
 
 module _ {T : Type 0} (t : T → List ℕ) where
   -- one level, whose parts are seen as their trees
-  abbrev pub level_tree : Document-F T Tree → Tree
-  level_tree (Document-F.Static s) = static_tree s
-  level_tree (Document-F.String s) = text (t s)
-  level_tree (Document-F.Array v) = list (items_from v.value.items)
-  level_tree (Document-F.Object m) = obj (entry_members (λ u. u) m.value.entries)
+  abbrev pub document_level : Document-F T Tree → Tree
+  document_level (Document-F.Static s) = static_tree s
+  document_level (Document-F.String s) = text (t s)
+  document_level (Document-F.Array v) = list (items_from v.value.items)
+  document_level (Document-F.Object m) = obj (entry_members (λ u. u) m.value.entries)
 
-  abbrev pub tree : Document T → Tree
-  tree = fold-Document T Tree level_tree
+  abbrev pub document_tree : Document T → Tree
+  document_tree = fold-Document T Tree document_level
 
 module _ {T : Type 0} (is_made : T → Bool) where
   -- one level, whose parts are seen as whether they pass
@@ -59,9 +59,9 @@ last_item (list is) = last is
 last_item t = None
 
 -- why an edit is refused: the target is of another kind, else memory
-abbrev pub why_of : {A : Type 0} → AccessError → Option A → AccessError
-why_of wrong None = wrong
-why_of wrong (Some x) = OutOfMemory
+abbrev pub edit_fault : {A : Type 0} → AccessError → Option A → AccessError
+edit_fault wrong None = wrong
+edit_fault wrong (Some x) = OutOfMemory
 
 -- members with pairs put into them in turn, where t gives the text of a key and v the tree of a value
 abbrev pub put_pairs : {K V : Type 0} → (K → List ℕ) → (V → Tree) → Members → List (K × V) → Members

@@ -3,7 +3,7 @@ use Rattle.std.specs.Prelude.{◌≡◌, ⊤}
 use Rattle.std.specs.Borrow.{RattleType, MutBor, Fml, follows_so}
 use mathlib.Core.Option as maybe
 use Rattle.sj_text_core.specs.Paths.{Step, set_found}
-use Rattle.sj_document.specs.Document.{tree}
+use Rattle.sj_document.specs.Document.{document_tree}
 use Rattle.std.specs.contracts.alloc.Global as heap
 use Rattle.std.specs.contracts.impls.GlobalAllocator.TheImpl as alloc
 use Rattle.std.specs.contracts.vec.Vec as vec
@@ -25,4 +25,4 @@ module _ (T : RattleType) (key : KeyMembers T.Denot) where
 
   -- d ends with the last value behind r in the place of what the step finds
   abbrev pub LendsFound : MutBor document_row.Denot → MutBor document_row.Denot → Step → Fml
-  LendsFound d r s = follows_so document_row document_row d.ghost_name (maybe.some r.ghost_name) (λ w n. tree key.text_of n ≡ set_found s (tree key.text_of w) (tree key.text_of d.now)) (λ n. ⊤)
+  LendsFound d r s = follows_so document_row document_row d.ghost_name (maybe.some r.ghost_name) (λ w n. document_tree key.text_of n ≡ set_found s (document_tree key.text_of w) (document_tree key.text_of d.now)) (λ n. ⊤)

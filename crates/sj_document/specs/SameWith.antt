@@ -6,30 +6,30 @@ use Rattle.sj_document.specs.declared.value.Document.{Document, out-Document}
 use Rattle.sj_document.specs.declared.value.Document.TheOpen.{Document-F}
 
 module _ {T : Type 0} where
-  abbrev pub items_in : Document-F T (Document T) → Option (List (Document T))
-  items_in (Document-F.Static s) = None
-  items_in (Document-F.String s) = None
-  items_in (Document-F.Array v) = Some v.value.items
-  items_in (Document-F.Object m) = None
+  abbrev pub document_items_in : Document-F T (Document T) → Option (List (Document T))
+  document_items_in (Document-F.Static s) = None
+  document_items_in (Document-F.String s) = None
+  document_items_in (Document-F.Array v) = Some v.value.items
+  document_items_in (Document-F.Object m) = None
 
   -- the items of an array
-  abbrev pub items_of : Document T → Option (List (Document T))
-  items_of d = items_in (out-Document T d)
+  abbrev pub document_items : Document T → Option (List (Document T))
+  document_items d = document_items_in (out-Document T d)
 
-  abbrev pub members_in : Document-F T (Document T) → Option (List (Entry T (Document T)))
-  members_in (Document-F.Static s) = None
-  members_in (Document-F.String s) = None
-  members_in (Document-F.Array v) = None
-  members_in (Document-F.Object m) = Some m.value.entries
+  abbrev pub document_members_in : Document-F T (Document T) → Option (List (Entry T (Document T)))
+  document_members_in (Document-F.Static s) = None
+  document_members_in (Document-F.String s) = None
+  document_members_in (Document-F.Array v) = None
+  document_members_in (Document-F.Object m) = Some m.value.entries
 
   -- the members of an object
-  abbrev pub members_of : Document T → Option (List (Entry T (Document T)))
-  members_of d = members_in (out-Document T d)
+  abbrev pub document_members : Document T → Option (List (Entry T (Document T)))
+  document_members d = document_members_in (out-Document T d)
 
 -- the value of the first entry whose key has the text
-abbrev pub value_at : {L X : Type 0} → (L → List ℕ) → List ℕ → List (L × X) → Option X
-value_at text k [] = None
-value_at text k (p ∷ ps) = if bytes_eq k (text p.0) then Some p.1 else value_at text k ps
+abbrev pub value_of_text : {L X : Type 0} → (L → List ℕ) → List ℕ → List (L × X) → Option X
+value_of_text text k [] = None
+value_of_text text k (p ∷ ps) = if bytes_eq k (text p.0) then Some p.1 else value_of_text text k ps
 
 module _ {D X : Type 0} (R : D → X → Type 0) where
   -- as many, item by item
@@ -50,7 +50,7 @@ module _ {D X : Type 0} (R : D → X → Type 0) where
   module _ {K L : Type 0} (text : L → List ℕ) where
     -- each text has the same in both
     abbrev pub SameEntries : List (Entry K D) → List (L × X) → Type 0
-    SameEntries es ps = (k : List ℕ) → SameIn (lookup k es) (value_at text k ps)
+    SameEntries es ps = (k : List ℕ) → SameIn (lookup k es) (value_of_text text k ps)
 
     abbrev pub SameMap : Option (List (Entry K D)) → List (L × X) → Type 0
     SameMap None ps = ⊥

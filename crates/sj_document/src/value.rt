@@ -73,29 +73,29 @@ pub type OwnedValue = Document<String>;
 pub type BorrowedValue<'v> = Document<CowStr<'v>>;
 
 impl<T: KeyText> Document<T> {
-    ghost use Rattle.sj_document.specs.Document.{tree};
+    ghost use Rattle.sj_document.specs.Document.{document_tree};
 
     /// A null.
     pub fn null() -> Self
-        ensures { tree T.text_of result ≡ null }
+        ensures { document_tree T.text_of result ≡ null }
     {
         Document::Static(StaticNode::Null)
     }
 }
 
 impl<T: KeyText + Drop> Document<T> {
-    ghost use Rattle.sj_document.specs.Document.{tree};
+    ghost use Rattle.sj_document.specs.Document.{document_tree};
 
     /// An empty array.
     pub fn array(alloc: Global) -> Result<Self, AllocError>
-        ensures { IfOk result (λ v. tree T.text_of v ≡ list no_items) }
+        ensures { IfOk result (λ v. document_tree T.text_of v ≡ list no_items) }
     {
         Ok(Document::Array(Box::new(alloc, Vec::new(alloc))?))
     }
 
     /// An empty array with room for that many items.
     pub fn array_with_capacity(alloc: Global, capacity: usize) -> Result<Self, AllocError>
-        ensures { IfOk result (λ v. tree T.text_of v ≡ list no_items) }
+        ensures { IfOk result (λ v. document_tree T.text_of v ≡ list no_items) }
     {
         let items = Vec::with_capacity(alloc, capacity)?;
         Ok(Document::Array(Box::new(alloc, items)?))
@@ -103,14 +103,14 @@ impl<T: KeyText + Drop> Document<T> {
 
     /// An empty object.
     pub fn object(alloc: Global) -> Result<Self, AllocError>
-        ensures { IfOk result (λ v. tree T.text_of v ≡ obj no_members) }
+        ensures { IfOk result (λ v. document_tree T.text_of v ≡ obj no_members) }
     {
         Self::object_with_capacity(alloc, 0)
     }
 
     /// An empty object with room for that many members.
     pub fn object_with_capacity(alloc: Global, capacity: usize) -> Result<Self, AllocError>
-        ensures { IfOk result (λ v. tree T.text_of v ≡ obj no_members) }
+        ensures { IfOk result (λ v. document_tree T.text_of v ≡ obj no_members) }
     {
         let members = HashMap::with_capacity_and_hasher(alloc, capacity, ObjectHasher::default())?;
         Ok(Document::Object(Box::new(alloc, members)?))
@@ -118,9 +118,9 @@ impl<T: KeyText + Drop> Document<T> {
 }
 
 impl<T: KeyText> Default for Document<T> {
-    ghost use Rattle.sj_document.specs.Document.{tree};
+    ghost use Rattle.sj_document.specs.Document.{document_tree};
 
-    ghost is_default = { λ v. tree T.text_of v ≡ null };
+    ghost is_default = { λ v. document_tree T.text_of v ≡ null };
 
     fn default() -> Self {
         Document::null()

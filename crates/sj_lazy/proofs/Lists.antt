@@ -7,8 +7,8 @@ use Rattle.sj_text_core.specs.Repeats.{keep_by, keep_last_items}
 use Rattle.sj_text_core.specs.Reads.{as_items}
 use Rattle.sj_text_core.specs.declared.repeats.Repeats.{Repeats}
 use Rattle.sj_text_core.specs.declared.repeats.Repeats.TheVariants.{First, Last}
-use Rattle.sj_tape.specs.Members.{chosen}
-use Rattle.sj_object.specs.Entries.{Entry, entries_of, texts, keys, values}
+use Rattle.sj_tape.specs.Members.{chosen_pairs}
+use Rattle.sj_object.specs.Entries.{Entry, entries_of, entry_texts, keys, values}
 use Rattle.sj_object.specs.Members.{entry_members}
 use Rattle.sj_lazy.specs.Value.{Form, of_tape, of_lent}
 
@@ -38,7 +38,7 @@ parts-items f [] = refl
 parts-items f (v ∷ vs) = ap (λ (l : List (Form × (Repeats × Tree))). (of_lent, (First, f v)) ∷ l) (parts-items f vs)
 
 pub parts-members : {K V : Type 0} (t : K → List ℕ) (f : V → Tree) (ps : List (K × V))
-    → map {B = List ℕ × (Form × (Repeats × Tree))} (λ (p : K × V). (t p.0, (of_lent, (First, f p.1)))) ps ≡ map (λ (p : List ℕ × (Repeats × Tree)). (p.0, (of_lent, p.1))) (chosen First (paired (entry_members f (entries_of t ps))))
+    → map {B = List ℕ × (Form × (Repeats × Tree))} (λ (p : K × V). (t p.0, (of_lent, (First, f p.1)))) ps ≡ map (λ (p : List ℕ × (Repeats × Tree)). (p.0, (of_lent, p.1))) (chosen_pairs First (paired (entry_members f (entries_of t ps))))
 parts-members t f [] = refl
 parts-members t f (p ∷ ps) = ap (λ (l : List (List ℕ × (Form × (Repeats × Tree)))). (t p.0, (of_lent, (First, f p.1))) ∷ l) (parts-members t f ps)
 
@@ -51,15 +51,15 @@ pub formed-values : (ps : List (List ℕ × (Repeats × Tree))) → map {B = For
 formed-values [] = refl
 formed-values (p ∷ ps) = ap (λ (l : List (Form × (Repeats × Tree))). (of_tape, p.1) ∷ l) (formed-values ps)
 
-pub keys-texts : {K V : Type 0} (t : K → List ℕ) (ps : List (K × V)) → map t (keys (entries_of t ps)) ≡ texts (entries_of t ps)
+pub keys-texts : {K V : Type 0} (t : K → List ℕ) (ps : List (K × V)) → map t (keys (entries_of t ps)) ≡ entry_texts (entries_of t ps)
 keys-texts t [] = refl
 keys-texts t (p ∷ ps) = ap (λ l. t p.0 ∷ l) (keys-texts t ps)
 
-pub texts-members : {K V : Type 0} (f : V → Tree) (es : List (Entry K V)) → texts es ≡ map (λ (p : List ℕ × Tree). p.0) (paired (entry_members f es))
+pub texts-members : {K V : Type 0} (f : V → Tree) (es : List (Entry K V)) → entry_texts es ≡ map (λ (p : List ℕ × Tree). p.0) (paired (entry_members f es))
 texts-members f [] = refl
 texts-members f (e ∷ es) = ap (λ l. e.0.1 ∷ l) (texts-members f es)
 
-pub values-members : {K V : Type 0} (f : V → Tree) (es : List (Entry K V)) → map {B = Form × (Repeats × Tree)} (λ v. (of_lent, (First, f v))) (values es) ≡ map (λ (p : List ℕ × (Repeats × Tree)). (of_lent, p.1)) (chosen First (paired (entry_members f es)))
+pub values-members : {K V : Type 0} (f : V → Tree) (es : List (Entry K V)) → map {B = Form × (Repeats × Tree)} (λ v. (of_lent, (First, f v))) (values es) ≡ map (λ (p : List ℕ × (Repeats × Tree)). (of_lent, p.1)) (chosen_pairs First (paired (entry_members f es)))
 values-members f [] = refl
 values-members f (e ∷ es) = ap (λ (l : List (Form × (Repeats × Tree))). (of_lent, (First, f e.1)) ∷ l) (values-members f es)
 

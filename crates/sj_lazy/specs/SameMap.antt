@@ -3,19 +3,19 @@ use Rattle.std.specs.Prelude.{ℕ, List, Option, Some, None}
 use Rattle.sj_text_core.specs.Tree.{Tree, Members}
 use Rattle.sj_text_core.specs.Repeats.{find_member_by}
 use Rattle.sj_text_core.specs.declared.repeats.Repeats.{Repeats}
-use Rattle.sj_document.specs.SameWith.{SameIn, value_at}
+use Rattle.sj_document.specs.SameWith.{SameIn, value_of_text}
 
 -- find gives what is found at a text, and R compares it with a value of the map, whose keys have texts
 module _ {D X L : Type 0} (R : D → X → Type 0) (text : L → List ℕ) (find : List ℕ → Option D) where
   -- each text is absent from both, or has the same in both
-  abbrev pub SameEntries : List (L × X) → Type 0
-  SameEntries ps = (k : List ℕ) → SameIn R (find k) (value_at text k ps)
+  abbrev pub SameTexts : List (L × X) → Type 0
+  SameTexts ps = (k : List ℕ) → SameIn R (find k) (value_of_text text k ps)
 
 -- the members that count, as lazy values are seen
 abbrev pub counted : Repeats → Members → List ℕ → Option Tree
 counted c ms k = find_member_by c k ms
 
 -- an object of which each text has the same as the map; R compares a lazy value, as its choice and its tree
-abbrev pub SameMap : {X L : Type 0} → (Repeats × Tree → X → Type 0) → (L → List ℕ) → Repeats → Option Members → List (L × X) → Type 0
-SameMap R text c None ps = ⊥
-SameMap R text c (Some ms) ps = SameEntries (λ u x. R (c, u) x) text (counted c ms) ps
+abbrev pub SameAsMap : {X L : Type 0} → (Repeats × Tree → X → Type 0) → (L → List ℕ) → Repeats → Option Members → List (L × X) → Type 0
+SameAsMap R text c None ps = ⊥
+SameAsMap R text c (Some ms) ps = SameTexts (λ u x. R (c, u) x) text (counted c ms) ps

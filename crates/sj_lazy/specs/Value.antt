@@ -9,9 +9,9 @@ use Rattle.sj_tape.specs.declared.value.Value.{Value as TapeValue}
 use Rattle.sj_text_core.specs.Repeats.{find_by, keep_by, by_first}
 use Rattle.sj_text_core.specs.declared.repeats.Repeats.{Repeats}
 use Rattle.sj_text_core.specs.declared.repeats.Repeats.TheVariants.{First}
-use Rattle.sj_tape.specs.Value.{tree as tape_tree, choice as tape_choice}
+use Rattle.sj_tape.specs.Value.{tape_tree, tape_choice}
 use Rattle.sj_object.specs.Keys.{is_borrowed}
-use Rattle.sj_document.specs.Document.{tree as document_tree, all_texts}
+use Rattle.sj_document.specs.Document.{document_tree, all_texts}
 use Rattle.sj_document.specs.declared.value.Document.{Document}
 use Rattle.sj_lazy.specs.declared.value.Shared.{Shared}
 use Rattle.sj_lazy.specs.declared.value.Shared.TheVariants.{Borrowed, Owned}
@@ -82,34 +82,34 @@ abbrev pub lends_owned : {P : Type 0} → Lazy P (Bor (Document Text)) Text → 
 lends_owned (Tape x) = false
 lends_owned (Value c) = shared_lends_owned c
 
-abbrev pub tree : Lazy TapeValue (Bor (Document Text)) Text → Tree
-tree = lazy_tree tape_tree lent_tree cow_str_bytes
+abbrev pub value_tree : Lazy TapeValue (Bor (Document Text)) Text → Tree
+value_tree = lazy_tree tape_tree lent_tree cow_str_bytes
 
 -- which member of several with one key counts: in a document there are none
-abbrev pub choice : Lazy TapeValue (Bor (Document Text)) Text → Repeats
-choice (Tape x) = tape_choice x
-choice (Value c) = First
+abbrev pub value_choice : Lazy TapeValue (Bor (Document Text)) Text → Repeats
+value_choice (Tape x) = tape_choice x
+value_choice (Value c) = First
 
 -- what is kept of a part of a tape
 abbrev pub part_kept : TapeValue → Tree
 part_kept x = keep_by (tape_choice x) (tape_tree x)
 
 -- a lazy value as it is once it is written
-abbrev pub kept : Lazy TapeValue (Bor (Document Text)) Text → Tree
-kept = lazy_kept part_kept lent_tree cow_str_bytes
+abbrev pub value_kept : Lazy TapeValue (Bor (Document Text)) Text → Tree
+value_kept = lazy_kept part_kept lent_tree cow_str_bytes
 
 -- a lazy value as its readers see it
-abbrev pub part : Lazy TapeValue (Bor (Document Text)) Text → Repeats × Tree
-part v = (choice v, tree v)
+abbrev pub value_part : Lazy TapeValue (Bor (Document Text)) Text → Repeats × Tree
+value_part v = (value_choice v, value_tree v)
 
 -- the same, as an iterator yields it
 abbrev pub formed : Lazy TapeValue (Bor (Document Text)) Text → Form × (Repeats × Tree)
-formed v = (form v, part v)
+formed v = (form v, value_part v)
 
 -- the value of the member of a text that counts
-abbrev pub found : Lazy TapeValue (Bor (Document Text)) Text → List ℕ → Option Tree
-found v k = find_by (choice v) k (tree v)
+abbrev pub value_found : Lazy TapeValue (Bor (Document Text)) Text → List ℕ → Option Tree
+value_found v k = find_by (value_choice v) k (value_tree v)
 
 -- a lazy value as comparisons see it: the tree whose first members are those that count
 abbrev pub seen : Lazy TapeValue (Bor (Document Text)) Text → Tree
-seen v = by_first (choice v) (tree v)
+seen v = by_first (value_choice v) (value_tree v)

@@ -18,8 +18,8 @@ pub enum Array<'b, 't, 'i> {
 }
 
 impl<'b, 't, 'i> Array<'b, 't, 'i> {
-    ghost use Rattle.sj_lazy.specs.Array.{items, items_ahead, parts_ahead, array_choice, item_form};
-    ghost use Rattle.sj_lazy.specs.Value.{tree, choice, form};
+    ghost use Rattle.sj_lazy.specs.Array.{lazy_items, lazy_items_ahead, lazy_items_parts_ahead, lazy_array_choice, item_form};
+    ghost use Rattle.sj_lazy.specs.Value.{value_tree, value_choice, form};
 
     /// The same array.
     pub fn clone(&self) -> Self
@@ -30,8 +30,8 @@ impl<'b, 't, 'i> Array<'b, 't, 'i> {
 
     /// The item at that position, counted from 0; None past the last.
     pub fn get(&self, index: usize) -> Option<Value<'b, 't, 'i>>
-        ensures value { option_map tree result ≡ nth_item index (items self.now) }
-        ensures choice { IfSome result (λ v. choice v ≡ array_choice self.now) }
+        ensures value { option_map value_tree result ≡ nth_item index (lazy_items self.now) }
+        ensures choice { IfSome result (λ v. value_choice v ≡ lazy_array_choice self.now) }
         ensures form { IfSome result (λ v. form v ≡ item_form self.now) }
     {
         match self {
@@ -42,7 +42,7 @@ impl<'b, 't, 'i> Array<'b, 't, 'i> {
 
     /// How many items it has.
     pub fn len(&self) -> usize
-        ensures { result ≡ items_len (items self.now) }
+        ensures { result ≡ items_len (lazy_items self.now) }
     {
         match self {
             Array::Tape(items) => items.len(),
@@ -52,15 +52,15 @@ impl<'b, 't, 'i> Array<'b, 't, 'i> {
 
     /// Whether it has no items.
     pub fn is_empty(&self) -> bool
-        ensures { IsTrue result ↔ (items self.now ≡ no_items) }
+        ensures { IsTrue result ↔ (lazy_items self.now ≡ no_items) }
     {
         self.len() == 0
     }
 
     /// The items in order.
     pub fn iter(&self) -> Iter<'b, 't, 'i>
-        ensures items { items_ahead result ≡ listed (items self.now) }
-        ensures parts { parts_ahead result ≡ map (λ t. (item_form self.now, (array_choice self.now, t))) (listed (items self.now)) }
+        ensures items { lazy_items_ahead result ≡ listed (lazy_items self.now) }
+        ensures parts { lazy_items_parts_ahead result ≡ map (λ t. (item_form self.now, (lazy_array_choice self.now, t))) (listed (lazy_items self.now)) }
     {
         match self {
             Array::Tape(items) => Iter::Tape(items.iter()),
@@ -80,12 +80,12 @@ impl<'b, 't, 'i> Iterator for Iter<'b, 't, 'i> {
     type Item = Value<'b, 't, 'i>;
 
     ghost use Rattle.std.specs.Iterator.{YieldsFirstBy, item_count};
-    ghost use Rattle.sj_lazy.specs.Array.{parts_ahead};
+    ghost use Rattle.sj_lazy.specs.Array.{lazy_items_parts_ahead};
     ghost use Rattle.sj_lazy.specs.Value.{formed};
 
-    ghost next_gives = { YieldsFirstBy formed parts_ahead };
+    ghost next_gives = { YieldsFirstBy formed lazy_items_parts_ahead };
 
-    ghost remaining = { item_count parts_ahead };
+    ghost remaining = { item_count lazy_items_parts_ahead };
 
     fn next(&mut self) -> Option<Value<'b, 't, 'i>> {
         match self {

@@ -2,8 +2,8 @@
 
 ghost use Rattle.std.specs.Prelude.{◌≡◌, ◌↔◌, IsTrue, Some, string_bytes};
 ghost use Rattle.std.specs.Cow.{cow_str_bytes};
-ghost use Rattle.sj_document.specs.Document.{tree as document_tree};
-ghost use Rattle.sj_lazy.specs.Value.{part};
+ghost use Rattle.sj_document.specs.Document.{document_tree};
+ghost use Rattle.sj_lazy.specs.Value.{value_part};
 ghost use Rattle.sj_text_core.specs.Reads.{as_boolean, as_signed, as_text, as_unsigned};
 ghost use Rattle.sj_text_core.specs.Repeats.{SameBy};
 ghost use Rattle.sj_text_core.specs.declared.repeats.Repeats.TheVariants.{First};
@@ -23,7 +23,7 @@ pub trait SameAsLazy {
 
     /// Whether the two are the same.
     fn same_as_lazy(&self, other: &Value) -> bool
-        ensures { IsTrue result ↔ same_lazy (part other.now) self.now };
+        ensures { IsTrue result ↔ same_lazy (value_part other.now) self.now };
 }
 
 /// Same exactly where the value is this truth value.

@@ -1,9 +1,9 @@
 //! What a lazy value is upgraded from: a part of a tape, or a document that is lent.
 
 ghost use Rattle.std.specs.Prelude.{◌≡◌, IfOk};
-ghost use Rattle.sj_document.specs.Document.{tree};
+ghost use Rattle.sj_document.specs.Document.{document_tree};
 ghost use Rattle.sj_lazy.specs.Value.{part_kept as tape_kept};
-ghost use Rattle.sj_tape.specs.Value.{tree as tape_tree};
+ghost use Rattle.sj_tape.specs.Value.{tape_tree};
 ghost use Rattle.sj_text_core.specs.Tree.{Tree};
 
 use sj_document::{BorrowedValue, CopyText, Document, borrowed_from_tape};
@@ -22,7 +22,7 @@ pub trait Upgrade<T: KeyText> {
 
     /// The document of what is kept. It is refused only for want of memory.
     fn upgrade(&self, alloc: Global) -> Result<Document<T>, AllocError>
-        ensures { IfOk result (λ v. tree T.text_of v ≡ part_kept self.now) };
+        ensures { IfOk result (λ v. document_tree T.text_of v ≡ part_kept self.now) };
 }
 
 /// A document that is lent.
@@ -32,7 +32,7 @@ pub trait Lent<T: KeyText> {
 
     /// A document of its own with the same tree. It is refused only for want of memory.
     fn copied(&self, alloc: Global) -> Result<Document<T>, AllocError>
-        ensures { IfOk result (λ v. tree T.text_of v ≡ lent_tree self.now) };
+        ensures { IfOk result (λ v. document_tree T.text_of v ≡ lent_tree self.now) };
 }
 
 /// By the choice of the part.
@@ -47,7 +47,7 @@ impl<'t, 'i> Upgrade<CowStr<'i>> for TapeValue<'t, 'i> {
 }
 
 impl<'b, T: CopyText + Drop> Lent<T> for &'b Document<T> {
-    ghost lent_tree = { λ v. tree T.text_of v.now };
+    ghost lent_tree = { λ v. document_tree T.text_of v.now };
 
     fn copied(&self, _alloc: Global) -> Result<Document<T>, AllocError> {
         let lent: &Document<T> = *self;

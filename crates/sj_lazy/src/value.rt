@@ -2,8 +2,8 @@
 
 ghost use Rattle.std.specs.Prelude.{◌≡◌, not, true, option_map, IfSome};
 ghost use Rattle.sj_text_core.specs.Tree.{null};
-ghost use Rattle.sj_tape.specs.Value.{tree as tape_tree, choice as tape_choice};
-ghost use Rattle.sj_lazy.specs.Value.{tree, choice, form, of_tape as tape_form, of_lent as lent_form, kept, lent_tree};
+ghost use Rattle.sj_tape.specs.Value.{tape_tree, tape_choice};
+ghost use Rattle.sj_lazy.specs.Value.{value_tree, value_choice, form, of_tape as tape_form, of_lent as lent_form, value_kept, lent_tree};
 ghost use Rattle.sj_text_core.specs.Repeats.{keep_by};
 ghost use Rattle.sj_text_core.specs.declared.repeats.Repeats.TheVariants.{First};
 
@@ -83,8 +83,8 @@ impl<'b, 't, 'i> Value<'b, 't, 'i> {
 
     /// Which member of several with one key counts: in a document there are none.
     pub fn repeats(&self) -> Repeats
-        ensures choice { result ≡ choice self.now }
-        ensures kept { kept self.now ≡ keep_by (choice self.now) (tree self.now) }
+        ensures choice { result ≡ value_choice self.now }
+        ensures kept { value_kept self.now ≡ keep_by (value_choice self.now) (value_tree self.now) }
     {
         match self {
             Lazy::Tape(part) => part.repeats(),
@@ -94,8 +94,8 @@ impl<'b, 't, 'i> Value<'b, 't, 'i> {
 
     /// A null, as a part of a tape.
     pub fn null() -> Self
-        ensures tree { tree result ≡ null }
-        ensures choice { choice result ≡ First }
+        ensures tree { value_tree result ≡ null }
+        ensures choice { value_choice result ≡ First }
         ensures form { on_tape result ≡ true }
     {
         Lazy::Tape(TapeValue::null())
@@ -105,7 +105,7 @@ impl<'b, 't, 'i> Value<'b, 't, 'i> {
 impl<'b, 't, 'i> Default for Value<'b, 't, 'i> {
     ghost use Rattle.sj_lazy.specs.Value.{on_tape};
 
-    ghost is_default = { λ v. (tree v ≡ null) × (choice v ≡ First) × (on_tape v ≡ true) };
+    ghost is_default = { λ v. (value_tree v ≡ null) × (value_choice v ≡ First) × (on_tape v ≡ true) };
 
     fn default() -> Self {
         Lazy::null()
@@ -114,8 +114,8 @@ impl<'b, 't, 'i> Default for Value<'b, 't, 'i> {
 
 /// A part of a tape as a lazy value, where there is one.
 pub(crate) fn of_tape<'b, 't, 'i>(found: Option<TapeValue<'t, 'i>>) -> Option<Value<'b, 't, 'i>>
-    ensures value { option_map tree result ≡ option_map tape_tree found.entry }
-    ensures choice { option_map choice result ≡ option_map tape_choice found.entry }
+    ensures value { option_map value_tree result ≡ option_map tape_tree found.entry }
+    ensures choice { option_map value_choice result ≡ option_map tape_choice found.entry }
     ensures form { IfSome result (λ v. form v ≡ tape_form) }
 {
     match found {
@@ -126,8 +126,8 @@ pub(crate) fn of_tape<'b, 't, 'i>(found: Option<TapeValue<'t, 'i>>) -> Option<Va
 
 /// A lent document as a lazy value, where there is one.
 pub(crate) fn of_lent<'b, 't, 'i>(found: Option<&'b BorrowedValue<'i>>) -> Option<Value<'b, 't, 'i>>
-    ensures value { option_map tree result ≡ option_map lent_tree found.entry }
-    ensures choice { IfSome result (λ v. choice v ≡ Repeats.First) }
+    ensures value { option_map value_tree result ≡ option_map lent_tree found.entry }
+    ensures choice { IfSome result (λ v. value_choice v ≡ Repeats.First) }
     ensures form { IfSome result (λ v. form v ≡ lent_form) }
 {
     match found {

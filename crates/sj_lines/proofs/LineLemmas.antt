@@ -3,7 +3,7 @@ use Rattle.std.proofs.Common.{◌≡◌, ℕ, zero, suc, ◌+◌, ◌-◌, ◌<�
 use Rattle.std.specs.List.{concat}
 use Rattle.std.proofs.lemmas.Bool.{eq-eqb, eqb-true}
 use Rattle.std.proofs.lemmas.List.{take_more, take_all, drop_all}
-use Rattle.sj_lines.specs.Lines.{onto_line, full_lines, without_last}
+use Rattle.sj_lines.specs.Lines.{onto_line, full_lines, without_end}
 
 concat-onto_line : (c : ℕ) (ls : List (List ℕ)) → concat (onto_line c ls) ≡ c ∷ concat ls
 concat-onto_line c [] = refl
@@ -51,24 +51,24 @@ onto_more : (t : Bool) (y z x : ℕ) (b : List ℕ) → y ∷ (if t then z ∷ b
 onto_more true y z x b = refl
 onto_more false y z x b = refl
 
-without_last-append : (c x : ℕ) (b : List ℕ) → without_last c (b ++ x ∷ []) ≡ (if x == c then b else b ++ x ∷ [])
+without_last-append : (c x : ℕ) (b : List ℕ) → without_end c (b ++ x ∷ []) ≡ (if x == c then b else b ++ x ∷ [])
 without_last-append c x [] = refl
 without_last-append c x (y ∷ []) = onto_single (x == c) y x
 without_last-append c x (y ∷ z ∷ b) = ap (λ l. y ∷ l) (without_last-append c x (z ∷ b)) ∙ onto_more (x == c) y z x b
 
 -- by whether the last of the first n bytes is c
-without_last-take : (c n : ℕ) (b : List ℕ) (t : Bool) → 0 < n → n ≤ length b → (get_or b (n - 1) 0 == c) ≡ t → without_last c (take n b) ≡ (if t then take (n - 1) b else take n b)
+without_last-take : (c n : ℕ) (b : List ℕ) (t : Bool) → 0 < n → n ≤ length b → (get_or b (n - 1) 0 == c) ≡ t → without_end c (take n b) ≡ (if t then take (n - 1) b else take n b)
 without_last-take c n b t some within e =
     let i = n - 1 in
     let split : take n b ≡ take i b ++ get_or b i 0 ∷ [] = (let k : n ≡ i + 1 = omega arith in ap (λ m. take m b) k) ∙ take_more b i 0 (omega arith) in
-    ap (λ l. without_last c l) split ∙ without_last-append c (get_or b i 0) (take i b)
+    ap (λ l. without_end c l) split ∙ without_last-append c (get_or b i 0) (take i b)
     ∙ (λ j. if e j then take i b else (take i b ++ get_or b i 0 ∷ [])) ∙ ap (λ l. if t then take i b else l) (sym split)
 
-pub trims : (c n : ℕ) (b : List ℕ) → 0 < n → n ≤ length b → get_or b (n - 1) 0 ≡ c → take (n - 1) b ≡ without_last c (take n b)
+pub trims : (c n : ℕ) (b : List ℕ) → 0 < n → n ≤ length b → get_or b (n - 1) 0 ≡ c → take (n - 1) b ≡ without_end c (take n b)
 trims c n b some within e = sym (without_last-take c n b true some within (eq-eqb (get_or b (n - 1) 0) c e))
 
-pub stays : (c n : ℕ) (b : List ℕ) → 0 < n → n ≤ length b → (get_or b (n - 1) 0 ≡ c → ⊥) → take n b ≡ without_last c (take n b)
+pub stays : (c n : ℕ) (b : List ℕ) → 0 < n → n ≤ length b → (get_or b (n - 1) 0 ≡ c → ⊥) → take n b ≡ without_end c (take n b)
 stays c n b some within e = sym (without_last-take c n b false some within (is_false (get_or b (n - 1) 0 == c) (λ k. e (eqb-true (get_or b (n - 1) 0) c k))))
 
-pub trims-nothing : (c n : ℕ) (b : List ℕ) → n ≤ 0 → take n b ≡ without_last c (take n b)
-trims-nothing c n b h = let k : n ≡ 0 = omega (arith, h) in (λ i. take (k i) b) ∙ sym (λ i. without_last c (take (k i) b))
+pub trims-nothing : (c n : ℕ) (b : List ℕ) → n ≤ 0 → take n b ≡ without_end c (take n b)
+trims-nothing c n b h = let k : n ≡ 0 = omega (arith, h) in (λ i. take (k i) b) ∙ sym (λ i. without_end c (take (k i) b))

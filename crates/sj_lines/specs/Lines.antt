@@ -13,14 +13,14 @@ full_lines [] = []
 full_lines (c ∷ b) = if c == 10 then (c ∷ []) ∷ full_lines b else onto_line c (full_lines b)
 
 -- without one byte c at the end
-abbrev pub without_last : ℕ → List ℕ → List ℕ
-without_last c [] = []
-without_last c (x ∷ []) = if x == c then [] else x ∷ []
-without_last c (x ∷ y ∷ b) = x ∷ without_last c (y ∷ b)
+abbrev pub without_end : ℕ → List ℕ → List ℕ
+without_end c [] = []
+without_end c (x ∷ []) = if x == c then [] else x ∷ []
+without_end c (x ∷ y ∷ b) = x ∷ without_end c (y ∷ b)
 
 -- a line without its line feed, and without one carriage return in front of that
 abbrev pub line_text : List ℕ → List ℕ
-line_text l = without_last 13 (without_last 10 l)
+line_text l = without_end 13 (without_end 10 l)
 
 -- the texts of the lines that have one
 abbrev pub line_texts : List (List ℕ) → List (List ℕ)
@@ -32,5 +32,5 @@ numbered n [] = []
 numbered n (l ∷ ls) = if is_empty (line_text l) then numbered (suc n) ls else (n, line_text l) ∷ numbered (suc n) ls
 
 -- the texts of an input, by the numbers of their lines from 1 on
-abbrev pub texts : List ℕ → List (ℕ × List ℕ)
-texts b = numbered 1 (full_lines b)
+abbrev pub numbered_lines : List ℕ → List (ℕ × List ℕ)
+numbered_lines b = numbered 1 (full_lines b)

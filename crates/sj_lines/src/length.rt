@@ -1,7 +1,7 @@
 //! How long a line is, and its text.
 
 ghost use Rattle.std.specs.Prelude.{◌≡◌, ◌<◌, ◌≤◌, ◌∷◌, length, take, drop};
-ghost use Rattle.sj_lines.specs.Lines.{full_lines, line_text, without_last};
+ghost use Rattle.sj_lines.specs.Lines.{full_lines, line_text, without_end};
 
 use memchr::memchr;
 
@@ -23,7 +23,7 @@ pub fn line_len(bytes: &[u8]) -> usize
 fn trimmed_len(bytes: &[u8], len: usize, last: u8) -> usize
     requires { len ≤ length bytes.now }
     ensures within { result ≤ len }
-    ensures trimmed { take result bytes.now ≡ without_last last (take len bytes.now) }
+    ensures trimmed { take result bytes.now ≡ without_end last (take len bytes.now) }
 {
     if len > 0 && bytes[len - 1] == last {
         len - 1

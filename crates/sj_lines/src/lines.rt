@@ -24,12 +24,12 @@ pub struct Lines<'i> {
 
 impl<'i> Lines<'i> {
     ghost use Rattle.std.specs.Prelude.{suc};
-    ghost use Rattle.sj_lines.specs.Lines.{full_lines, numbered, texts};
+    ghost use Rattle.sj_lines.specs.Lines.{full_lines, numbered, numbered_lines};
     ghost use Rattle.sj_lines.specs.Ahead.{ahead};
 
     /// Those of an input. It asks for no memory.
     pub fn new(input: &'i mut [u8]) -> Lines<'i>
-        ensures { ahead result ≡ texts input.entry.now }
+        ensures { ahead result ≡ numbered_lines input.entry.now }
     {
         Lines {
             rest: input,

@@ -13,7 +13,7 @@ use Rattle.sj_text_core.proofs.Single.{single-keep_by}
 use Rattle.sj_object.specs.Entries.{Entry}
 use Rattle.sj_object.specs.Members.{entry_members}
 use Rattle.sj_object.proofs.Kept.{object_kept}
-use Rattle.sj_document.specs.Document.{tree}
+use Rattle.sj_document.specs.Document.{document_tree}
 use Rattle.sj_document.specs.declared.value.Document.{Document}
 use Rattle.sj_document.proofs.Kept.{tree_kept}
 use Rattle.sj_document.proofs.Trees.{Map}
@@ -28,23 +28,23 @@ single-kept : (u : Tree) → IsKept u → IsSingle u
 single-kept u e = subst IsSingle e (single-keep_by First u)
 
 module _ {T : Type 0} (t : T → List ℕ) where
-  pub single_object : (m : Map T) → HasSingle (entry_members (tree t) m.entries)
-  single_object m = single-kept (obj (entry_members (tree t) m.entries)) (object_kept (tree t) (tree_kept t) m)
+  pub single_object : (m : Map T) → HasSingle (entry_members (document_tree t) m.entries)
+  single_object m = single-kept (obj (entry_members (document_tree t) m.entries)) (object_kept (document_tree t) (tree_kept t) m)
 
-  single_document : (v : Document T) → IsSingle (tree t v)
-  single_document v = single-kept (tree t v) (tree_kept t v)
+  single_document : (v : Document T) → IsSingle (document_tree t v)
+  single_document v = single-kept (document_tree t v) (tree_kept t v)
 
-  pub single_found : (o : Option (Bor (Document T))) → SingleFound (option_map (tree t) (option_copied o))
+  pub single_found : (o : Option (Bor (Document T))) → SingleFound (option_map (document_tree t) (option_copied o))
   single_found None = tt
   single_found (Some v) = single_document v.now
 
   -- what the patch of two documents does, and what there is where there is none
-  pub patch_leads : (from to : Document T) (r : Option (Document T)) → option_map (tree t) r ≡ merge_patch (Some (tree t from)) (tree t to) → IfSome r (λ p. Same (merged (Some (tree t from)) (tree t p)) (tree t to))
+  pub patch_leads : (from to : Document T) (r : Option (Document T)) → option_map (document_tree t) r ≡ merge_patch (Some (document_tree t from)) (document_tree t to) → IfSome r (λ p. Same (merged (Some (document_tree t from)) (document_tree t p)) (document_tree t to))
   patch_leads from to None h = tt
-  patch_leads from to (Some p) h = leads (Some (tree t from)) (tree t to) (tree t p) (single_document from) (single_document to) (sym h)
+  patch_leads from to (Some p) h = leads (Some (document_tree t from)) (document_tree t to) (document_tree t p) (single_document from) (single_document to) (sym h)
 
-  pub patch_nowhere : (from to : Document T) (r : Option (Document T)) → option_map (tree t) r ≡ merge_patch (Some (tree t from)) (tree t to) → r ≡ None → (p : Document T) → Same (merged (Some (tree t from)) (tree t p)) (tree t to) → ⊥
-  patch_nowhere from to r h e p s = without (Some (tree t from)) (tree t to) (single_document from) (single_document to) (sym h ∙ ap (option_map (tree t)) e) (tree t p) (single_document p) s
+  pub patch_nowhere : (from to : Document T) (r : Option (Document T)) → option_map (document_tree t) r ≡ merge_patch (Some (document_tree t from)) (document_tree t to) → r ≡ None → (p : Document T) → Same (merged (Some (document_tree t from)) (document_tree t p)) (document_tree t to) → ⊥
+  patch_nowhere from to r h e p s = without (Some (document_tree t from)) (document_tree t to) (single_document from) (single_document to) (sym h ∙ ap (option_map (document_tree t)) e) (document_tree t p) (single_document p) s
 
 -- an object
 eq_object : (u : Tree) (ns : Members) (P : Type 0) → tree_eq u (obj ns) ≡ true → ((ms : Members) → u ≡ obj ms → P) → P

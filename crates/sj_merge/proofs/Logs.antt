@@ -4,9 +4,9 @@ use Rattle.sj_text_core.specs.Tree.{Tree, Members}
 use Rattle.sj_text_core.specs.Edits.{cut}
 use Rattle.sj_object.specs.Entries.{Entry, entries_of}
 use Rattle.sj_object.specs.Members.{entry_members}
-use Rattle.sj_document.specs.Document.{tree}
+use Rattle.sj_document.specs.Document.{document_tree}
 use Rattle.sj_document.specs.declared.value.Document.{Document}
-use Rattle.sj_merge.specs.inner.Log.{changed, without_last, in_object, finished_one, undone_one, finished, undone}
+use Rattle.sj_merge.specs.inner.Log.{with_changed, without_last_member, in_object, finished_one, undone_one, finished, log_undone}
 use Rattle.sj_merge.specs.declared.in_place.Logged.{Logged, Goes, Added, Swapped, Within, fold-Logged, the_lemmas}
 use Rattle.sj_merge.specs.declared.in_place.Logged.TheOpen.{Logged-F}
 
@@ -45,19 +45,19 @@ module _ {T : Type 0} (t : T → List ℕ) where
   pub finished-Swapped : (k : T) (v : Document T) (ms : Members) → finished_one t (Swapped k v) ms ≡ ms
   finished-Swapped k v ms = search (rules, the_lemmas)
 
-  pub finished-Within : (k : T) (log : Vec (Logged T) Global) (ms : Members) → finished_one t (Within k log) ms ≡ changed (t k) (in_object (finished t log.items)) ms
+  pub finished-Within : (k : T) (log : Vec (Logged T) Global) (ms : Members) → finished_one t (Within k log) ms ≡ with_changed (t k) (in_object (finished t log.items)) ms
   finished-Within k log ms = search (rules, the_lemmas)
 
   pub undone-Goes : (k : T) (ms : Members) → undone_one t (Goes k) ms ≡ ms
   undone-Goes k ms = search (rules, the_lemmas)
 
-  pub undone-Added : (ms : Members) → undone_one t Added ms ≡ without_last ms
+  pub undone-Added : (ms : Members) → undone_one t Added ms ≡ without_last_member ms
   undone-Added ms = search (rules, the_lemmas)
 
-  pub undone-Swapped : (k : T) (v : Document T) (ms : Members) → undone_one t (Swapped k v) ms ≡ changed (t k) (λ _. tree t v) ms
+  pub undone-Swapped : (k : T) (v : Document T) (ms : Members) → undone_one t (Swapped k v) ms ≡ with_changed (t k) (λ _. document_tree t v) ms
   undone-Swapped k v ms = search (rules, the_lemmas)
 
-  pub undone-Within : (k : T) (log : Vec (Logged T) Global) (ms : Members) → undone_one t (Within k log) ms ≡ changed (t k) (in_object (undone t log.items)) ms
+  pub undone-Within : (k : T) (log : Vec (Logged T) Global) (ms : Members) → undone_one t (Within k log) ms ≡ with_changed (t k) (in_object (log_undone t log.items)) ms
   undone-Within k log ms = search (rules, the_lemmas)
 
   -- the last is finished last
@@ -66,18 +66,18 @@ module _ {T : Type 0} (t : T → List ℕ) where
   finished-last (y ∷ ys) x ms = finished-last ys x (finished_one t y ms)
 
   -- and undone first
-  pub undone-last : (xs : List (Logged T)) (x : Logged T) (ms : Members) → undone t (xs ++ x ∷ []) ms ≡ undone t xs (undone_one t x ms)
+  pub undone-last : (xs : List (Logged T)) (x : Logged T) (ms : Members) → log_undone t (xs ++ x ∷ []) ms ≡ log_undone t xs (undone_one t x ms)
   undone-last [] x ms = refl
   undone-last (y ∷ ys) x ms = ap (undone_one t y) (undone-last ys x ms)
 
 -- the last entry taken out
-pub without_last-entry : {K V : Type 0} (f : V → Tree) (es : List (Entry K V)) (e : Entry K V) → without_last (entry_members f (es ++ e ∷ [])) ≡ entry_members f es
+pub without_last-entry : {K V : Type 0} (f : V → Tree) (es : List (Entry K V)) (e : Entry K V) → without_last_member (entry_members f (es ++ e ∷ [])) ≡ entry_members f es
 without_last-entry f [] e = refl
 without_last-entry f (x ∷ []) e = refl
 without_last-entry f (x ∷ (y ∷ es)) e = search (rules, without_last-entry f (y ∷ es) e)
 
 -- what is left where the last of a map was taken out
 pub popped : {K V : Type 0} (t : K → List ℕ) (f : V → Tree) (es fs : List (Entry K V)) (r : Option (K × V)) → es ≡ fs ++ entries_of t (option_to_list r) → IfNone r (fs ≡ [])
-    → entry_members f fs ≡ without_last (entry_members f es)
-popped t f es fs None e h = ap (entry_members f) h ∙ ap (λ es. without_last (entry_members f es)) (sym (e ∙ ap (λ fs. fs ++ []) h))
-popped t f es fs (Some (k, v)) e h = sym (ap (λ es. without_last (entry_members f es)) e ∙ without_last-entry f fs ((k, t k), v))
+    → entry_members f fs ≡ without_last_member (entry_members f es)
+popped t f es fs None e h = ap (entry_members f) h ∙ ap (λ es. without_last_member (entry_members f es)) (sym (e ∙ ap (λ fs. fs ++ []) h))
+popped t f es fs (Some (k, v)) e h = sym (ap (λ es. without_last_member (entry_members f es)) e ∙ without_last-entry f fs ((k, t k), v))

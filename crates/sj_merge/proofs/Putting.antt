@@ -4,7 +4,7 @@ use Rattle.sj_text_core.specs.Tree.{Tree, null, Members, no_members, member}
 use Rattle.sj_text_core.specs.Find.{find_member}
 use Rattle.sj_text_core.specs.Edits.{put}
 use Rattle.sj_text_core.specs.Keep.{HasSingle}
-use Rattle.sj_document.specs.Document.{tree}
+use Rattle.sj_document.specs.Document.{document_tree}
 use Rattle.sj_document.specs.declared.value.Document.{Document}
 use Rattle.sj_merge.specs.Merge.{is_null}
 use Rattle.sj_merge.specs.MergeDiff.{removals, merge_patch, patch_members}
@@ -116,8 +116,8 @@ module _ {T : Type 0} (t : T → List ℕ) (k : List ℕ) (w : Tree) (ms ns done
       ap (option_map (put_each done)) (value_by (is_same (find_member k ms) w) (is_null w) k (merge_patch (find_member k ms) w) (patch_members ms ns) h.0
       ∙ ap (option_and_then (λ p. option_map (member k p) (patch_members ms ns))) h.1)
 
-  pub told_becomes : (d : Document T) → IsChange t (find_member k ms) w (Becomes d) → whole ≡ option_map (put_each (put k (tree t d) done)) (patch_members ms ns)
+  pub told_becomes : (d : Document T) → IsChange t (find_member k ms) w (Becomes d) → whole ≡ option_map (put_each (put k (document_tree t d) done)) (patch_members ms ns)
   told_becomes d h =
       ap (option_map (put_each done)) (value_by (is_same (find_member k ms) w) (is_null w) k (merge_patch (find_member k ms) w) (patch_members ms ns) h.0
       ∙ ap (option_and_then (λ p. option_map (member k p) (patch_members ms ns))) h.1)
-      ∙ put_by k (tree t d) done (patch_members ms ns)
+      ∙ put_by k (document_tree t d) done (patch_members ms ns)

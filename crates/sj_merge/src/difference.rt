@@ -7,7 +7,7 @@ ghost use Rattle.sj_text_core.specs.Equal.{passes, tree_eq};
 ghost use Rattle.sj_text_core.specs.Reads.{as_members};
 ghost use Rattle.sj_text_core.specs.Same.{Same};
 ghost use Rattle.sj_object.specs.Members.{entry_members};
-ghost use Rattle.sj_document.specs.Document.{tree};
+ghost use Rattle.sj_document.specs.Document.{document_tree};
 ghost use Rattle.sj_document.specs.declared.value.Document.{Document as DocumentOf};
 ghost use Rattle.sj_merge.specs.Merge.{merged};
 ghost use Rattle.sj_merge.specs.MergeDiff.{merge_patch, patch_members, removals};
@@ -35,7 +35,7 @@ fn removed<T: CopyText + Drop>(
     members: &Object<T>,
     wanted: &Object<T>,
 ) -> Result<Object<T>, AllocError>
-    ensures { IfOk result (λ m. entry_members (tree T.text_of) m.entries ≡ removals (entry_members (tree T.text_of) members.now.entries) (entry_members (tree T.text_of) wanted.now.entries) no_members) }
+    ensures { IfOk result (λ m. entry_members (document_tree T.text_of) m.entries ≡ removals (entry_members (document_tree T.text_of) members.now.entries) (entry_members (document_tree T.text_of) wanted.now.entries) no_members) }
 {
     let mut patch = HashMap::new(alloc);
     for (key, _value) in members.iter() {
@@ -53,7 +53,7 @@ fn patch_object<T: CopyText + Drop>(
     members: &Object<T>,
     wanted: &Object<T>,
 ) -> Result<Option<Object<T>>, AllocError>
-    ensures { IfOk result (λ r. option_map (λ m. entry_members (tree T.text_of) m.entries) r ≡ option_map (removals (entry_members (tree T.text_of) members.now.entries) (entry_members (tree T.text_of) wanted.now.entries)) (patch_members (entry_members (tree T.text_of) members.now.entries) (entry_members (tree T.text_of) wanted.now.entries))) }
+    ensures { IfOk result (λ r. option_map (λ m. entry_members (document_tree T.text_of) m.entries) r ≡ option_map (removals (entry_members (document_tree T.text_of) members.now.entries) (entry_members (document_tree T.text_of) wanted.now.entries)) (patch_members (entry_members (document_tree T.text_of) members.now.entries) (entry_members (document_tree T.text_of) wanted.now.entries))) }
 {
     let mut patch = removed(alloc, members, wanted)?;
     for (key, value) in wanted.iter() {
@@ -72,7 +72,7 @@ fn patch_new<T: CopyText + Drop>(
     alloc: Global,
     wanted: &Object<T>,
 ) -> Result<Option<Object<T>>, AllocError>
-    ensures { IfOk result (λ r. option_map (λ m. entry_members (tree T.text_of) m.entries) r ≡ option_map (removals no_members (entry_members (tree T.text_of) wanted.now.entries)) (patch_members no_members (entry_members (tree T.text_of) wanted.now.entries))) }
+    ensures { IfOk result (λ r. option_map (λ m. entry_members (document_tree T.text_of) m.entries) r ≡ option_map (removals no_members (entry_members (document_tree T.text_of) wanted.now.entries)) (patch_members no_members (entry_members (document_tree T.text_of) wanted.now.entries))) }
 {
     let none = HashMap::new(alloc);
     patch_object(alloc, &none, wanted)
@@ -85,7 +85,7 @@ fn patch_from<T: CopyText + Drop>(
     found: Option<&Document<T>>,
     wanted: &Object<T>,
 ) -> Result<Option<Object<T>>, AllocError>
-    ensures { IfOk result (λ r. option_map obj (option_map (λ m. entry_members (tree T.text_of) m.entries) r) ≡ merge_patch (option_map (tree T.text_of) (option_copied found.entry)) (obj (entry_members (tree T.text_of) wanted.now.entries))) }
+    ensures { IfOk result (λ r. option_map obj (option_map (λ m. entry_members (document_tree T.text_of) m.entries) r) ≡ merge_patch (option_map (document_tree T.text_of) (option_copied found.entry)) (obj (entry_members (document_tree T.text_of) wanted.now.entries))) }
 {
     match found {
         Some(old) => match old {
@@ -98,7 +98,7 @@ fn patch_from<T: CopyText + Drop>(
 
 /// Whether the value is there, and is an object.
 fn has_members<T: KeyText + Drop>(found: Option<&Document<T>>) -> bool
-    ensures { result ≡ is_some (option_and_then as_members (option_map (tree T.text_of) (option_copied found.entry))) }
+    ensures { result ≡ is_some (option_and_then as_members (option_map (document_tree T.text_of) (option_copied found.entry))) }
 {
     match found {
         Some(old) => old.is_object(),
@@ -114,7 +114,7 @@ fn change_object<T: CopyText + Drop>(
     found: Option<&Document<T>>,
     wanted: &Object<T>,
 ) -> Result<Change<T>, AllocError>
-    ensures { IfOk result (IsChange T.text_of (option_map (tree T.text_of) (option_copied found.entry)) (obj (entry_members (tree T.text_of) wanted.now.entries))) }
+    ensures { IfOk result (IsChange T.text_of (option_map (document_tree T.text_of) (option_copied found.entry)) (obj (entry_members (document_tree T.text_of) wanted.now.entries))) }
 {
     match patch_from(alloc, found, wanted)? {
         Some(patch) => {
@@ -129,8 +129,8 @@ fn change_object<T: CopyText + Drop>(
 
 /// What the patch says of a value that is no object, and which the target hasn't.
 fn replaced<T: CopyText + Drop>(value: &Document<T>) -> Result<Change<T>, AllocError>
-    requires { as_members (tree T.text_of value.now) ≡ None }
-    ensures { IfOk result (λ c. (old : Option Tree) → passes old (λ u. tree_eq u (tree T.text_of value.now)) ≡ false → IsChange T.text_of old (tree T.text_of value.now) c) }
+    requires { as_members (document_tree T.text_of value.now) ≡ None }
+    ensures { IfOk result (λ c. (old : Option Tree) → passes old (λ u. tree_eq u (document_tree T.text_of value.now)) ≡ false → IsChange T.text_of old (document_tree T.text_of value.now) c) }
 {
     if value.is_null() {
         return Ok(Change::Impossible);
@@ -143,8 +143,8 @@ fn change_whole<T: CopyText + Drop>(
     found: Option<&Document<T>>,
     value: &Document<T>,
 ) -> Result<Change<T>, AllocError>
-    requires { as_members (tree T.text_of value.now) ≡ None }
-    ensures { IfOk result (IsChange T.text_of (option_map (tree T.text_of) (option_copied found.entry)) (tree T.text_of value.now)) }
+    requires { as_members (document_tree T.text_of value.now) ≡ None }
+    ensures { IfOk result (IsChange T.text_of (option_map (document_tree T.text_of) (option_copied found.entry)) (document_tree T.text_of value.now)) }
 {
     match found {
         Some(old) => {
@@ -164,7 +164,7 @@ fn change_value<T: CopyText + Drop>(
     found: Option<&Document<T>>,
     value: &Document<T>,
 ) -> Result<Change<T>, AllocError>
-    ensures { IfOk result (IsChange T.text_of (option_map (tree T.text_of) (option_copied found.entry)) (tree T.text_of value.now)) }
+    ensures { IfOk result (IsChange T.text_of (option_map (document_tree T.text_of) (option_copied found.entry)) (document_tree T.text_of value.now)) }
 {
     match value {
         Document::Object(wanted) => change_object(alloc, found, wanted),
@@ -178,7 +178,7 @@ fn patch_to<T: CopyText + Drop>(
     from: &Document<T>,
     to: &Document<T>,
 ) -> Result<Option<Document<T>>, AllocError>
-    ensures { IfOk result (λ r. option_map (tree T.text_of) r ≡ merge_patch (Some (tree T.text_of from.now)) (tree T.text_of to.now)) }
+    ensures { IfOk result (λ r. option_map (document_tree T.text_of) r ≡ merge_patch (Some (document_tree T.text_of from.now)) (document_tree T.text_of to.now)) }
 {
     match to {
         Document::Object(wanted) => match patch_from(alloc, Some(from), wanted)? {
@@ -198,9 +198,9 @@ pub fn merge_diff<T: CopyText + Drop>(
     from: &Document<T>,
     to: &Document<T>,
 ) -> Result<Option<Document<T>>, AllocError>
-    ensures patch { IfOk result (λ r. option_map (tree T.text_of) r ≡ merge_patch (Some (tree T.text_of from.now)) (tree T.text_of to.now)) }
-    ensures leads { IfOk result (λ r. IfSome r (λ p. Same (merged (Some (tree T.text_of from.now)) (tree T.text_of p)) (tree T.text_of to.now))) }
-    ensures none { IfOk result (λ r. r ≡ None → (p : DocumentOf T) → Same (merged (Some (tree T.text_of from.now)) (tree T.text_of p)) (tree T.text_of to.now) → ⊥) }
+    ensures patch { IfOk result (λ r. option_map (document_tree T.text_of) r ≡ merge_patch (Some (document_tree T.text_of from.now)) (document_tree T.text_of to.now)) }
+    ensures leads { IfOk result (λ r. IfSome r (λ p. Same (merged (Some (document_tree T.text_of from.now)) (document_tree T.text_of p)) (document_tree T.text_of to.now))) }
+    ensures none { IfOk result (λ r. r ≡ None → (p : DocumentOf T) → Same (merged (Some (document_tree T.text_of from.now)) (document_tree T.text_of p)) (document_tree T.text_of to.now) → ⊥) }
 {
     patch_to(alloc, from, to)
 }

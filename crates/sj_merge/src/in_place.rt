@@ -6,10 +6,10 @@
 ghost use Rattle.std.specs.Prelude.{◌≡◌, ◌≢◌, ℕ, List, Some, OnOk, OnErr};
 ghost use Rattle.sj_text_core.specs.Tree.{obj};
 ghost use Rattle.sj_object.specs.Members.{entry_members};
-ghost use Rattle.sj_document.specs.Document.{tree};
+ghost use Rattle.sj_document.specs.Document.{document_tree};
 ghost use Rattle.sj_merge.specs.Merge.{merged, merged_members, target_members};
 ghost use Rattle.sj_merge.specs.inner.Merge.{merged_pair};
-ghost use Rattle.sj_merge.specs.inner.Log.{finished, finished_one, undone, undone_one, in_object, Passes, Merges, Changes, ChangesValue};
+ghost use Rattle.sj_merge.specs.inner.Log.{finished, finished_one, log_undone, undone_one, in_object, Passes, Merges, MergesAt, ChangesValue};
 
 use crate::merging::{into_merged, new_object};
 use sj_document::{Document, Object};
@@ -34,7 +34,7 @@ enum Logged<T: KeyText> {
 /// Finishes what was logged at a member.
 #[cycle(finish)]
 fn finish_one<T: KeyText + Drop>(into: &mut Object<T>, logged: Logged<T>)
-    ensures { entry_members (tree T.text_of) into.new.entries ≡ finished_one T.text_of logged (entry_members (tree T.text_of) into.old.entries) }
+    ensures { entry_members (document_tree T.text_of) into.new.entries ≡ finished_one T.text_of logged (entry_members (document_tree T.text_of) into.old.entries) }
 {
     match logged {
         Logged::Goes(key) => {
@@ -52,7 +52,7 @@ fn finish_one<T: KeyText + Drop>(into: &mut Object<T>, logged: Logged<T>)
 /// Finishes the log of the value, where it is an object.
 #[cycle(finish)]
 fn finish_within<T: KeyText + Drop>(value: &mut Document<T>, log: Vec<Logged<T>>)
-    ensures { tree T.text_of value.new ≡ in_object (finished T.text_of log.items) (tree T.text_of value.old) }
+    ensures { document_tree T.text_of value.new ≡ in_object (finished T.text_of log.items) (document_tree T.text_of value.old) }
 {
     match value {
         Document::Object(into) => finish(into, log),
@@ -63,7 +63,7 @@ fn finish_within<T: KeyText + Drop>(value: &mut Document<T>, log: Vec<Logged<T>>
 /// Finishes all that was logged, from the first to the last. It wants no memory.
 #[cycle(finish)]
 fn finish<T: KeyText + Drop>(into: &mut Object<T>, log: Vec<Logged<T>>)
-    ensures { entry_members (tree T.text_of) into.new.entries ≡ finished T.text_of log.items (entry_members (tree T.text_of) into.old.entries) }
+    ensures { entry_members (document_tree T.text_of) into.new.entries ≡ finished T.text_of log.items (entry_members (document_tree T.text_of) into.old.entries) }
 {
     for logged in log {
         finish_one(into, logged);
@@ -73,7 +73,7 @@ fn finish<T: KeyText + Drop>(into: &mut Object<T>, log: Vec<Logged<T>>)
 /// Undoes what was logged at a member.
 #[cycle(undo)]
 fn undo_one<T: KeyText + Drop>(into: &mut Object<T>, logged: Logged<T>)
-    ensures { entry_members (tree T.text_of) into.new.entries ≡ undone_one T.text_of logged (entry_members (tree T.text_of) into.old.entries) }
+    ensures { entry_members (document_tree T.text_of) into.new.entries ≡ undone_one T.text_of logged (entry_members (document_tree T.text_of) into.old.entries) }
 {
     match logged {
         Logged::Goes(_) => {}
@@ -96,7 +96,7 @@ fn undo_one<T: KeyText + Drop>(into: &mut Object<T>, logged: Logged<T>)
 /// Undoes the log of the value, where it is an object.
 #[cycle(undo)]
 fn undo_within<T: KeyText + Drop>(value: &mut Document<T>, log: Vec<Logged<T>>)
-    ensures { tree T.text_of value.new ≡ in_object (undone T.text_of log.items) (tree T.text_of value.old) }
+    ensures { document_tree T.text_of value.new ≡ in_object (log_undone T.text_of log.items) (document_tree T.text_of value.old) }
 {
     match value {
         Document::Object(into) => undo(into, log),
@@ -107,7 +107,7 @@ fn undo_within<T: KeyText + Drop>(value: &mut Document<T>, log: Vec<Logged<T>>)
 /// Undoes all that was logged, from the last to the first. It wants no memory.
 #[cycle(undo)]
 fn undo<T: KeyText + Drop>(into: &mut Object<T>, log: Vec<Logged<T>>)
-    ensures { entry_members (tree T.text_of) into.new.entries ≡ undone T.text_of log.items (entry_members (tree T.text_of) into.old.entries) }
+    ensures { entry_members (document_tree T.text_of) into.new.entries ≡ log_undone T.text_of log.items (entry_members (document_tree T.text_of) into.old.entries) }
 {
     let mut left = log;
     while let Some(last) = left.pop() {
@@ -123,7 +123,7 @@ fn merge_within<T: KeyText + Drop>(
     into: &mut Object<T>,
     members: Object<T>,
 ) -> Result<Vec<Logged<T>>, AllocError>
-    ensures { Merges T.text_of (entry_members (tree T.text_of) members.entries) (entry_members (tree T.text_of) into.old.entries) (entry_members (tree T.text_of) into.new.entries) result }
+    ensures { Merges T.text_of (entry_members (document_tree T.text_of) members.entries) (entry_members (document_tree T.text_of) into.old.entries) (entry_members (document_tree T.text_of) into.new.entries) result }
 {
     let mut log = Vec::new(alloc);
     for (key, value) in members {
@@ -147,9 +147,9 @@ fn merge_next<T: KeyText + Drop>(
     value: Document<T>,
     log: &mut Vec<Logged<T>>,
 ) -> Result<(), AllocError>
-    ensures finished { OnOk result (Passes (T.text_of key) (finished T.text_of log.old.items) → finished T.text_of log.new.items (entry_members (tree T.text_of) into.new.entries) ≡ merged_pair (T.text_of key) (tree T.text_of value) (finished T.text_of log.old.items (entry_members (tree T.text_of) into.old.entries))) }
+    ensures finished { OnOk result (Passes (T.text_of key) (finished T.text_of log.old.items) → finished T.text_of log.new.items (entry_members (document_tree T.text_of) into.new.entries) ≡ merged_pair (T.text_of key) (document_tree T.text_of value) (finished T.text_of log.old.items (entry_members (document_tree T.text_of) into.old.entries))) }
     ensures apart { (k : List ℕ) → k ≢ T.text_of key → Passes k (finished T.text_of log.old.items) → Passes k (finished T.text_of log.new.items) }
-    ensures undone { undone T.text_of log.new.items (entry_members (tree T.text_of) into.new.entries) ≡ undone T.text_of log.old.items (entry_members (tree T.text_of) into.old.entries) }
+    ensures undone { log_undone T.text_of log.new.items (entry_members (document_tree T.text_of) into.new.entries) ≡ log_undone T.text_of log.old.items (entry_members (document_tree T.text_of) into.old.entries) }
 {
     log.reserve(1)?;
     let logged = merge_member(alloc, into, key, value)?;
@@ -165,7 +165,7 @@ fn merge_member<T: KeyText + Drop>(
     key: T,
     value: Document<T>,
 ) -> Result<Logged<T>, AllocError>
-    ensures { Changes T.text_of (T.text_of key) (tree T.text_of value) (entry_members (tree T.text_of) into.old.entries) (entry_members (tree T.text_of) into.new.entries) result }
+    ensures { MergesAt T.text_of (T.text_of key) (document_tree T.text_of value) (entry_members (document_tree T.text_of) into.old.entries) (entry_members (document_tree T.text_of) into.new.entries) result }
 {
     if value.is_null() {
         return Ok(Logged::Goes(key));
@@ -188,7 +188,7 @@ fn merge_value<T: KeyText + Drop>(
     child: &mut Document<T>,
     value: Document<T>,
 ) -> Result<Logged<T>, AllocError>
-    ensures { ChangesValue T.text_of (T.text_of key) (tree T.text_of value) (tree T.text_of child.old) (tree T.text_of child.new) result }
+    ensures { ChangesValue T.text_of (T.text_of key) (document_tree T.text_of value) (document_tree T.text_of child.old) (document_tree T.text_of child.new) result }
 {
     if !value.is_object() {
         return Ok(Logged::Swapped(key, mem::replace(child, value)));
@@ -207,7 +207,7 @@ fn merge_object<T: KeyText + Drop>(
     child: &mut Document<T>,
     members: Object<T>,
 ) -> Result<Logged<T>, AllocError>
-    ensures { ChangesValue T.text_of (T.text_of key) (obj (entry_members (tree T.text_of) members.entries)) (tree T.text_of child.old) (tree T.text_of child.new) result }
+    ensures { ChangesValue T.text_of (T.text_of key) (obj (entry_members (document_tree T.text_of) members.entries)) (document_tree T.text_of child.old) (document_tree T.text_of child.new) result }
 {
     match child {
         Document::Object(into) => match merge_within(alloc, into, members) {
@@ -227,8 +227,8 @@ fn merge_all<T: KeyText + Drop>(
     into: &mut Object<T>,
     members: Object<T>,
 ) -> Result<(), AllocError>
-    ensures merged { OnOk result (entry_members (tree T.text_of) into.new.entries ≡ merged_members (entry_members (tree T.text_of) into.old.entries) (entry_members (tree T.text_of) members.entries)) }
-    ensures refused { OnErr result (entry_members (tree T.text_of) into.new.entries ≡ entry_members (tree T.text_of) into.old.entries) }
+    ensures merged { OnOk result (entry_members (document_tree T.text_of) into.new.entries ≡ merged_members (entry_members (document_tree T.text_of) into.old.entries) (entry_members (document_tree T.text_of) members.entries)) }
+    ensures refused { OnErr result (entry_members (document_tree T.text_of) into.new.entries ≡ entry_members (document_tree T.text_of) into.old.entries) }
 {
     let log = merge_within(alloc, into, members)?;
     finish(into, log);
@@ -242,8 +242,8 @@ fn merge_whole<T: KeyText + Drop>(
     target: &mut Document<T>,
     members: Object<T>,
 ) -> Result<(), AllocError>
-    ensures merged { OnOk result (tree T.text_of target.new ≡ obj (merged_members (target_members (Some (tree T.text_of target.old))) (entry_members (tree T.text_of) members.entries))) }
-    ensures refused { OnErr result (tree T.text_of target.new ≡ tree T.text_of target.old) }
+    ensures merged { OnOk result (document_tree T.text_of target.new ≡ obj (merged_members (target_members (Some (document_tree T.text_of target.old))) (entry_members (document_tree T.text_of) members.entries))) }
+    ensures refused { OnErr result (document_tree T.text_of target.new ≡ document_tree T.text_of target.old) }
 {
     match target {
         Document::Object(into) => merge_all(alloc, into, members),
@@ -261,8 +261,8 @@ pub fn merge<T: KeyText + Drop>(
     target: &mut Document<T>,
     patch: Document<T>,
 ) -> Result<(), AllocError>
-    ensures merged { OnOk result (tree T.text_of target.new ≡ merged (Some (tree T.text_of target.old)) (tree T.text_of patch)) }
-    ensures refused { OnErr result (tree T.text_of target.new ≡ tree T.text_of target.old) }
+    ensures merged { OnOk result (document_tree T.text_of target.new ≡ merged (Some (document_tree T.text_of target.old)) (document_tree T.text_of patch)) }
+    ensures refused { OnErr result (document_tree T.text_of target.new ≡ document_tree T.text_of target.old) }
 {
     if !patch.is_object() {
         *target = patch;

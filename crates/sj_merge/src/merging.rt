@@ -3,7 +3,7 @@
 ghost use Rattle.std.specs.Prelude.{◌≡◌, Some, IfOk, OnOk};
 ghost use Rattle.sj_text_core.specs.Tree.{obj, no_members};
 ghost use Rattle.sj_object.specs.Members.{entry_members};
-ghost use Rattle.sj_document.specs.Document.{tree};
+ghost use Rattle.sj_document.specs.Document.{document_tree};
 ghost use Rattle.sj_merge.specs.Merge.{merged, merged_members, target_members};
 ghost use Rattle.sj_merge.specs.inner.Merge.{merged_pair};
 
@@ -19,7 +19,7 @@ fn merge_value<T: KeyText + Drop>(
     target: &mut Document<T>,
     patch: Document<T>,
 ) -> Result<(), AllocError>
-    ensures { OnOk result (tree T.text_of target.new ≡ merged (Some (tree T.text_of target.old)) (tree T.text_of patch)) }
+    ensures { OnOk result (document_tree T.text_of target.new ≡ merged (Some (document_tree T.text_of target.old)) (document_tree T.text_of patch)) }
 {
     if !patch.is_object() {
         *target = patch;
@@ -38,7 +38,7 @@ fn merge_object<T: KeyText + Drop>(
     target: &mut Document<T>,
     members: Object<T>,
 ) -> Result<(), AllocError>
-    ensures { OnOk result (tree T.text_of target.new ≡ obj (merged_members (target_members (Some (tree T.text_of target.old))) (entry_members (tree T.text_of) members.entries))) }
+    ensures { OnOk result (document_tree T.text_of target.new ≡ obj (merged_members (target_members (Some (document_tree T.text_of target.old))) (entry_members (document_tree T.text_of) members.entries))) }
 {
     if !target.is_object() {
         let mut made = HashMap::with_capacity_and_hasher(alloc, 0, ObjectHasher::default())?;
@@ -59,7 +59,7 @@ fn merge_members<T: KeyText + Drop>(
     into: &mut Object<T>,
     members: Object<T>,
 ) -> Result<(), AllocError>
-    ensures { OnOk result (entry_members (tree T.text_of) into.new.entries ≡ merged_members (entry_members (tree T.text_of) into.old.entries) (entry_members (tree T.text_of) members.entries)) }
+    ensures { OnOk result (entry_members (document_tree T.text_of) into.new.entries ≡ merged_members (entry_members (document_tree T.text_of) into.old.entries) (entry_members (document_tree T.text_of) members.entries)) }
 {
     for (key, value) in members {
         merge_member(alloc, into, key, value)?;
@@ -75,7 +75,7 @@ fn merge_member<T: KeyText + Drop>(
     key: T,
     value: Document<T>,
 ) -> Result<(), AllocError>
-    ensures { OnOk result (entry_members (tree T.text_of) into.new.entries ≡ merged_pair (T.text_of key) (tree T.text_of value) (entry_members (tree T.text_of) into.old.entries)) }
+    ensures { OnOk result (entry_members (document_tree T.text_of) into.new.entries ≡ merged_pair (T.text_of key) (document_tree T.text_of value) (entry_members (document_tree T.text_of) into.old.entries)) }
 {
     if value.is_null() {
         into.remove(key.text());
@@ -97,7 +97,7 @@ pub(crate) fn new_object<T: KeyText + Drop>(
     alloc: Global,
     members: Object<T>,
 ) -> Result<Document<T>, AllocError>
-    ensures { IfOk result (λ made. tree T.text_of made ≡ obj (merged_members no_members (entry_members (tree T.text_of) members.entries))) }
+    ensures { IfOk result (λ made. document_tree T.text_of made ≡ obj (merged_members no_members (entry_members (document_tree T.text_of) members.entries))) }
 {
     let mut made = Document::null();
     merge_object(alloc, &mut made, members)?;
@@ -111,7 +111,7 @@ pub fn into_merged<T: KeyText + Drop>(
     mut target: Document<T>,
     patch: Document<T>,
 ) -> Result<Document<T>, AllocError>
-    ensures { IfOk result (λ made. tree T.text_of made ≡ merged (Some (tree T.text_of target)) (tree T.text_of patch)) }
+    ensures { IfOk result (λ made. document_tree T.text_of made ≡ merged (Some (document_tree T.text_of target)) (document_tree T.text_of patch)) }
 {
     merge_value(alloc, &mut target, patch)?;
     Ok(target)

@@ -7,7 +7,7 @@ use Rattle.std.proofs.lemmas.Bool.Decides.{nat_tests}
 use Rattle.std.proofs.lemmas.List.{length-set, length_push, get_or_append_left, get_or_push, length-take-le, get_or-take, take_all, drop_all}
 use Rattle.std.proofs.Math.Seq.{take-suc}
 use Rattle.std.proofs.lemmas.List.Edits.{get_or-remove_below, get_or-remove_above, length-remove}
-use Rattle.sj_object.specs.Chains.{is_in, last_below}
+use Rattle.sj_object.specs.Chains.{is_in_bucket, last_below}
 use Rattle.sj_object.specs.inner.Chains.{passed, lowered}
 use Rattle.sj_object.specs.Holes.{raised, raised_by, without, AreHoles, IsChained}
 use Rattle.sj_object.proofs.Chains.{last_le, last_in, last_out, last_same, last_before, last_after, passed_at, passed_other, passed_low, own_bucket, once}
@@ -15,18 +15,18 @@ use Rattle.sj_object.proofs.Holes
 
 -- one more member
 module _ (n b h : ℕ) (cs : List ℕ) where
-  last_push_in : is_in n b h ≡ true → last_below n b (cs ++ h ∷ []) (length (cs ++ h ∷ [])) ≡ suc (length cs)
+  last_push_in : is_in_bucket n b h ≡ true → last_below n b (cs ++ h ∷ []) (length (cs ++ h ∷ [])) ≡ suc (length cs)
   last_push_in e =
       ap (last_below n b (cs ++ h ∷ [])) (length_push cs h ∙ add-one (length cs))
-      ∙ last_in n b (cs ++ h ∷ []) (length cs) (ap (is_in n b) (get_or_push cs h 0 (length cs) refl) ∙ e)
+      ∙ last_in n b (cs ++ h ∷ []) (length cs) (ap (is_in_bucket n b) (get_or_push cs h 0 (length cs) refl) ∙ e)
 
   last_push_same : (k : ℕ) → k ≤ length cs → last_below n b (cs ++ h ∷ []) k ≡ last_below n b cs k
   last_push_same k l = last_same n b (cs ++ h ∷ []) cs k (λ j m. get_or_append_left cs (h ∷ []) 0 j (omega (arith, l, m)))
 
-  last_push_out : is_in n b h ≡ false → last_below n b (cs ++ h ∷ []) (length (cs ++ h ∷ [])) ≡ last_below n b cs (length cs)
+  last_push_out : is_in_bucket n b h ≡ false → last_below n b (cs ++ h ∷ []) (length (cs ++ h ∷ [])) ≡ last_below n b cs (length cs)
   last_push_out e =
       ap (last_below n b (cs ++ h ∷ [])) (length_push cs h ∙ add-one (length cs))
-      ∙ last_out n b (cs ++ h ∷ []) (length cs) (ap (is_in n b) (get_or_push cs h 0 (length cs) refl) ∙ e)
+      ∙ last_out n b (cs ++ h ∷ []) (length cs) (ap (is_in_bucket n b) (get_or_push cs h 0 (length cs) refl) ∙ e)
       ∙ last_push_same (length cs) (omega arith)
 
 module _ (n g : ℕ) (qs hs links heads : List ℕ) (h : ℕ) (p : 0 < n) (a : AreHoles g qs (length hs)) (k : IsChained n qs hs links heads) where
@@ -46,8 +46,8 @@ module _ (n g : ℕ) (qs hs links heads : List ℕ) (h : ℕ) (p : 0 < n) (a : A
   own = omega (arith, p)
 
   push_starts : (b : ℕ) → b < n → get_or (set heads (h % n) (length hs + 1)) b 0 ≡ raised_by qs (last_below n b (cs ++ h ∷ []) (length (cs ++ h ∷ [])))
-  push_starts b l = by_test (is_in n b h) refl where
-    by_test : (c : Bool) → is_in n b h ≡ c → get_or (set heads (h % n) (length hs + 1)) b 0 ≡ raised_by qs (last_below n b (cs ++ h ∷ []) (length (cs ++ h ∷ [])))
+  push_starts b l = by_test (is_in_bucket n b h) refl where
+    by_test : (c : Bool) → is_in_bucket n b h ≡ c → get_or (set heads (h % n) (length hs + 1)) b 0 ≡ raised_by qs (last_below n b (cs ++ h ∷ []) (length (cs ++ h ∷ [])))
     by_test true e =
         let q : h % n ≡ b = grind (arith, nat_tests) in
         let w : b < length heads = omega (arith, l, k.count) in
@@ -96,7 +96,7 @@ module _ (n g : ℕ) (qs hs links heads : List ℕ) (q s : ℕ) (a : AreHoles g 
   link : get_or links s 0 ≡ raised_by qs next
   link = k.nexts q s w at
 
-  linked : (b : ℕ) → is_in n b (get_or ds q 0) ≡ true → next ≡ last_below n b ds q
+  linked : (b : ℕ) → is_in_bucket n b (get_or ds q 0) ≡ true → next ≡ last_below n b ds q
   linked b e = let p : get_or ds q 0 % n ≡ b = grind (arith, nat_tests) in ap (λ x. last_below n x ds q) p
 
   -- no place goes to the member then
@@ -282,8 +282,8 @@ module _ (n g m : ℕ) (qs hs links heads : List ℕ) (p : 0 < n) (e : m + 1 ≡
   length-pop = ap length without-pop ∙ length_push ps last
 
   pop_starts : (b : ℕ) → b < n → get_or (set heads (last % n) (get_or links m 0)) b 0 ≡ raised_by qs (last_below n b ps (length ps))
-  pop_starts b l = by_test (is_in n b last) refl where
-    by_test : (c : Bool) → is_in n b last ≡ c → get_or (set heads (last % n) (get_or links m 0)) b 0 ≡ raised_by qs (last_below n b ps (length ps))
+  pop_starts b l = by_test (is_in_bucket n b last) refl where
+    by_test : (c : Bool) → is_in_bucket n b last ≡ c → get_or (set heads (last % n) (get_or links m 0)) b 0 ≡ raised_by qs (last_below n b ps (length ps))
     by_test true t =
         let d : last % n ≡ b = grind (arith, nat_tests) in
         let w : b < length heads = omega (arith, l, k.count) in

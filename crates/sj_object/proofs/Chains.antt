@@ -7,23 +7,23 @@ use Rattle.std.proofs.lemmas.List.{take-append-drop, drop-take, get_or-drop, len
 use Rattle.std.proofs.Math.ListN.{replicate, get_or-map}
 use Rattle.std.proofs.Math.Seq.{take-append_seam, drop-append_seam}
 use Rattle.std.proofs.lemmas.List.Edits.{get_or-remove_below, get_or-remove_above, remove-append_right}
-use Rattle.sj_object.specs.Chains.{is_in, last_below}
+use Rattle.sj_object.specs.Chains.{is_in_bucket, last_below}
 use Rattle.sj_object.specs.inner.Chains.{IsLinked, passed, lowered}
 
 module _ (n b : ℕ) where
   pub last_le : (hs : List ℕ) (k : ℕ) → last_below n b hs k ≤ k
   unfolding last_below
   last_le hs zero = omega arith
-  last_le hs (suc k) = by_test (is_in n b (get_or hs k 0)) (last_le hs k) where
+  last_le hs (suc k) = by_test (is_in_bucket n b (get_or hs k 0)) (last_le hs k) where
     by_test : (c : Bool) → last_below n b hs k ≤ k → (if c then suc k else last_below n b hs k) ≤ suc k
     by_test true h = omega arith
     by_test false h = omega arith
 
-  pub last_in : (hs : List ℕ) (k : ℕ) → is_in n b (get_or hs k 0) ≡ true → last_below n b hs (suc k) ≡ suc k
+  pub last_in : (hs : List ℕ) (k : ℕ) → is_in_bucket n b (get_or hs k 0) ≡ true → last_below n b hs (suc k) ≡ suc k
   unfolding last_below
   last_in hs k e = λ i. if e i then suc k else last_below n b hs k
 
-  pub last_out : (hs : List ℕ) (k : ℕ) → is_in n b (get_or hs k 0) ≡ false → last_below n b hs (suc k) ≡ last_below n b hs k
+  pub last_out : (hs : List ℕ) (k : ℕ) → is_in_bucket n b (get_or hs k 0) ≡ false → last_below n b hs (suc k) ≡ last_below n b hs k
   unfolding last_below
   last_out hs k e = λ i. if e i then suc k else last_below n b hs k
 
@@ -31,41 +31,41 @@ module _ (n b : ℕ) where
   pub last_again : (hs : List ℕ) (k : ℕ) → last_below n b hs (last_below n b hs k) ≡ last_below n b hs k
   unfolding last_below
   last_again hs zero = refl
-  last_again hs (suc k) = by_test (is_in n b (get_or hs k 0)) refl (last_again hs k) where
-    by_test : (c : Bool) → is_in n b (get_or hs k 0) ≡ c → last_below n b hs (last_below n b hs k) ≡ last_below n b hs k
+  last_again hs (suc k) = by_test (is_in_bucket n b (get_or hs k 0)) refl (last_again hs k) where
+    by_test : (c : Bool) → is_in_bucket n b (get_or hs k 0) ≡ c → last_below n b hs (last_below n b hs k) ≡ last_below n b hs k
         → last_below n b hs (if c then suc k else last_below n b hs k) ≡ (if c then suc k else last_below n b hs k)
     by_test true e h = last_in hs k e
     by_test false e h = h
 
   -- a place in the chain has its member in the bucket
-  pub place_in : (hs : List ℕ) (k : ℕ) → last_below n b hs (suc k) ≡ suc k → is_in n b (get_or hs k 0) ≡ true
-  place_in hs k h = by_test (is_in n b (get_or hs k 0)) refl where
-    by_test : (c : Bool) → is_in n b (get_or hs k 0) ≡ c → c ≡ true
+  pub place_in : (hs : List ℕ) (k : ℕ) → last_below n b hs (suc k) ≡ suc k → is_in_bucket n b (get_or hs k 0) ≡ true
+  place_in hs k h = by_test (is_in_bucket n b (get_or hs k 0)) refl where
+    by_test : (c : Bool) → is_in_bucket n b (get_or hs k 0) ≡ c → c ≡ true
     by_test true e = refl
     by_test false e = let o = last_out hs k e in let l = last_le hs k in absurd (omega arith)
 
   -- the last place is not below a member of the bucket
-  last_ge : (hs : List ℕ) (j k : ℕ) → is_in n b (get_or hs j 0) ≡ true → j < k → j < last_below n b hs k
+  last_ge : (hs : List ℕ) (j k : ℕ) → is_in_bucket n b (get_or hs j 0) ≡ true → j < k → j < last_below n b hs k
   unfolding last_below
   last_ge hs j zero e l = omega arith
-  last_ge hs j (suc k) e l = by_test (is_in n b (get_or hs k 0)) (nat_le k j) refl refl (last_ge hs j k e) where
-    by_test : (c d : Bool) → is_in n b (get_or hs k 0) ≡ c → nat_le k j ≡ d → (j < k → j < last_below n b hs k) → j < (if c then suc k else last_below n b hs k)
+  last_ge hs j (suc k) e l = by_test (is_in_bucket n b (get_or hs k 0)) (nat_le k j) refl refl (last_ge hs j k e) where
+    by_test : (c d : Bool) → is_in_bucket n b (get_or hs k 0) ≡ c → nat_le k j ≡ d → (j < k → j < last_below n b hs k) → j < (if c then suc k else last_below n b hs k)
     by_test true d p q h = l
-    by_test false true p q h = let same : j ≡ k = grind (arith, nat_tests) in absurd (true≢false (sym e ∙ ap (λ m. is_in n b (get_or hs m 0)) same ∙ p))
+    by_test false true p q h = let same : j ≡ k = grind (arith, nat_tests) in absurd (true≢false (sym e ∙ ap (λ m. is_in_bucket n b (get_or hs m 0)) same ∙ p))
     by_test false false p q h = let below : j < k = grind (arith, nat_tests) in h below
 
   -- it is a matter of the first k hashes
   pub last_same : (hs gs : List ℕ) (k : ℕ) → ((j : ℕ) → j < k → get_or hs j 0 ≡ get_or gs j 0) → last_below n b hs k ≡ last_below n b gs k
   unfolding last_below
   last_same hs gs zero f = refl
-  last_same hs gs (suc k) f = λ i. if is_in n b (f k (omega arith) i) then suc k else last_same hs gs k (λ j l. f j (omega arith)) i
+  last_same hs gs (suc k) f = λ i. if is_in_bucket n b (f k (omega arith) i) then suc k else last_same hs gs k (λ j l. f j (omega arith)) i
 
 -- one more member goes into its chain
 pub link_starts : (n : ℕ) (hs heads : List ℕ) (i : ℕ) → length heads ≡ n → get_or hs i 0 % n < n
     → ((b : ℕ) → b < n → get_or heads b 0 ≡ last_below n b hs i)
     → (b : ℕ) → b < n → get_or (set heads (get_or hs i 0 % n) (i + 1)) b 0 ≡ last_below n b hs (i + 1)
-link_starts n hs heads i s w f b l = by_test (is_in n b (get_or hs i 0)) refl where
-  by_test : (c : Bool) → is_in n b (get_or hs i 0) ≡ c → get_or (set heads (get_or hs i 0 % n) (i + 1)) b 0 ≡ last_below n b hs (i + 1)
+link_starts n hs heads i s w f b l = by_test (is_in_bucket n b (get_or hs i 0)) refl where
+  by_test : (c : Bool) → is_in_bucket n b (get_or hs i 0) ≡ c → get_or (set heads (get_or hs i 0 % n) (i + 1)) b 0 ≡ last_below n b hs (i + 1)
   by_test true e =
       let q : get_or hs i 0 % n ≡ b = grind (arith, nat_tests) in
       rw (add-one, last_in n b hs i e) (rw q (get_or-set_same heads b (suc i) 0 (omega arith)))
@@ -125,7 +125,7 @@ renumbered_at i next h = grind (arith, nat_tests)
 renumbered_high : (i next p : ℕ) → i < p → renumbered i next (suc p) ≡ p
 renumbered_high i next p h = grind (arith, nat_tests)
 
-module _ (n b : ℕ) (hs : List ℕ) (i next : ℕ) (within : i < length hs) (link : is_in n b (get_or hs i 0) ≡ true → next ≡ last_below n b hs i) where
+module _ (n b : ℕ) (hs : List ℕ) (i next : ℕ) (within : i < length hs) (link : is_in_bucket n b (get_or hs i 0) ≡ true → next ≡ last_below n b hs i) where
   -- the places below are the same
   pub last_before : (k : ℕ) → k ≤ i → last_below n b (remove hs i) k ≡ last_below n b hs k
   last_before k l = last_same n b (remove hs i) hs k (λ j m. get_or-remove_below hs i 0 j (omega arith) within)
@@ -134,19 +134,19 @@ module _ (n b : ℕ) (hs : List ℕ) (i next : ℕ) (within : i < length hs) (li
   Moved k = renumbered i next (last_below n b hs (suc k)) ≡ last_below n b (remove hs i) k
 
   moved_at : Moved i
-  moved_at = by_test (is_in n b (get_or hs i 0)) refl where
-    by_test : (c : Bool) → is_in n b (get_or hs i 0) ≡ c → Moved i
+  moved_at = by_test (is_in_bucket n b (get_or hs i 0)) refl where
+    by_test : (c : Bool) → is_in_bucket n b (get_or hs i 0) ≡ c → Moved i
     by_test true e = ap (renumbered i next) (last_in n b hs i e) ∙ renumbered_at i next (omega (arith, link e, last_le n b hs i)) ∙ link e ∙ sym (last_before i (omega arith))
     by_test false e = ap (renumbered i next) (last_out n b hs i e) ∙ renumbered_low i next (last_below n b hs i) (last_le n b hs i) ∙ sym (last_before i (omega arith))
 
   moved_more : (k : ℕ) → i ≤ k → Moved k → Moved (suc k)
-  moved_more k l h = by_test (is_in n b (get_or hs (suc k) 0)) refl where
+  moved_more k l h = by_test (is_in_bucket n b (get_or hs (suc k) 0)) refl where
     same : get_or (remove hs i) k 0 ≡ get_or hs (suc k) 0
     same = get_or-remove_above hs i 0 k l within ∙ ap (λ m. get_or hs m 0) (add-one k)
 
-    by_test : (c : Bool) → is_in n b (get_or hs (suc k) 0) ≡ c → Moved (suc k)
-    by_test true e = ap (renumbered i next) (last_in n b hs (suc k) e) ∙ renumbered_high i next (suc k) (omega arith) ∙ sym (last_in n b (remove hs i) k (ap (is_in n b) same ∙ e))
-    by_test false e = ap (renumbered i next) (last_out n b hs (suc k) e) ∙ h ∙ sym (last_out n b (remove hs i) k (ap (is_in n b) same ∙ e))
+    by_test : (c : Bool) → is_in_bucket n b (get_or hs (suc k) 0) ≡ c → Moved (suc k)
+    by_test true e = ap (renumbered i next) (last_in n b hs (suc k) e) ∙ renumbered_high i next (suc k) (omega arith) ∙ sym (last_in n b (remove hs i) k (ap (is_in_bucket n b) same ∙ e))
+    by_test false e = ap (renumbered i next) (last_out n b hs (suc k) e) ∙ h ∙ sym (last_out n b (remove hs i) k (ap (is_in_bucket n b) same ∙ e))
 
   -- the places from there on are renumbered
   pub last_after : (k : ℕ) → i ≤ k → Moved k
@@ -164,14 +164,14 @@ pub record IsAbove (n : ℕ) (hs : List ℕ) (i place : ℕ) : Type 0 where
 
 -- what goes to the member at position i
 module _ (n : ℕ) (hs : List ℕ) (i : ℕ) (w : i < length hs) where
-  in_own : is_in n (get_or hs i 0 % n) (get_or hs i 0) ≡ true
+  in_own : is_in_bucket n (get_or hs i 0 % n) (get_or hs i 0) ≡ true
   in_own = grind (arith, nat_tests)
 
   -- only the chain of its own bucket goes to it
   pub own_bucket : (b k : ℕ) → last_below n b hs k ≡ i + 1 → get_or hs i 0 % n ≡ b
   own_bucket b k e =
       let s : last_below n b hs k ≡ suc i = e ∙ add-one i in
-      let p : is_in n b (get_or hs i 0) ≡ true = place_in n b hs i (ap (last_below n b hs) (sym s) ∙ last_again n b hs k ∙ s) in
+      let p : is_in_bucket n b (get_or hs i 0) ≡ true = place_in n b hs i (ap (last_below n b hs) (sym s) ∙ last_again n b hs k ∙ s) in
       grind (arith, nat_tests)
 
   -- and only one place of that
@@ -180,7 +180,7 @@ module _ (n : ℕ) (hs : List ℕ) (i : ℕ) (w : i < length hs) where
       let x : get_or hs i 0 % n ≡ b = own_bucket b k e in
       let y : get_or hs i 0 % n ≡ c = own_bucket c j d in
       let q : get_or hs j 0 % n ≡ b = p ∙ sym y ∙ x in
-      let r : is_in n b (get_or hs j 0) ≡ true = grind (arith, nat_tests) in
+      let r : is_in_bucket n b (get_or hs j 0) ≡ true = grind (arith, nat_tests) in
       omega (arith, last_ge n b hs j k r l, last_le n c hs j)
 
   above_from : (k p : ℕ) → i < k → k ≤ length hs → p ≡ last_below n (get_or hs i 0 % n) hs k → (p ≡ i + 1 → ⊥) → IsAbove n hs i p
@@ -196,7 +196,7 @@ module _ (n : ℕ) (hs : List ℕ) (i : ℕ) (w : i < length hs) where
   -- a place above it has its member in its bucket
   above_in : (place k : ℕ) → place ≡ suc k → IsAbove n hs i place → get_or hs k 0 % n ≡ get_or hs i 0 % n
   above_in place k s h =
-      let p : is_in n (get_or hs i 0 % n) (get_or hs k 0) ≡ true = place_in n (get_or hs i 0 % n) hs k (subst (λ m. last_below n (get_or hs i 0 % n) hs m ≡ m) s h.ends) in
+      let p : is_in_bucket n (get_or hs i 0 % n) (get_or hs k 0) ≡ true = place_in n (get_or hs i 0 % n) hs k (subst (λ m. last_below n (get_or hs i 0 % n) hs m ≡ m) s h.ends) in
       grind (arith, nat_tests)
 
   pub above_next : (place k p : ℕ) → place ≡ suc k → IsAbove n hs i place → p ≡ last_below n (get_or hs k 0 % n) hs k → (p ≡ i + 1 → ⊥) → IsAbove n hs i p
@@ -213,16 +213,16 @@ module _ (n : ℕ) (hs : List ℕ) (g : ℕ) where
   pub last_dropped : (b k : ℕ) → last_below n b (drop g hs) k ≡ last_below n b hs (g + k) - g
   unfolding last_below
   last_dropped b zero = omega (arith, last_le n b hs (g + 0))
-  last_dropped b (suc k) = by_test (is_in n b (get_or (drop g hs) k 0)) refl (last_dropped b k) where
+  last_dropped b (suc k) = by_test (is_in_bucket n b (get_or (drop g hs) k 0)) refl (last_dropped b k) where
     next : g + suc k ≡ suc (g + k)
     next = omega arith
 
-    by_test : (c : Bool) → is_in n b (get_or (drop g hs) k 0) ≡ c → last_below n b (drop g hs) k ≡ last_below n b hs (g + k) - g → last_below n b (drop g hs) (suc k) ≡ last_below n b hs (g + suc k) - g
+    by_test : (c : Bool) → is_in_bucket n b (get_or (drop g hs) k 0) ≡ c → last_below n b (drop g hs) k ≡ last_below n b hs (g + k) - g → last_below n b (drop g hs) (suc k) ≡ last_below n b hs (g + suc k) - g
     by_test true e h =
         let same : suc k ≡ suc (g + k) - g = omega arith in
-        last_in n b (drop g hs) k e ∙ same ∙ ap (λ m. m - g) (sym (ap (last_below n b hs) next ∙ last_in n b hs (g + k) (ap (is_in n b) (sym (get_or-drop g hs k 0)) ∙ e)))
+        last_in n b (drop g hs) k e ∙ same ∙ ap (λ m. m - g) (sym (ap (last_below n b hs) next ∙ last_in n b hs (g + k) (ap (is_in_bucket n b) (sym (get_or-drop g hs k 0)) ∙ e)))
     by_test false e h =
-        last_out n b (drop g hs) k e ∙ h ∙ ap (λ m. m - g) (sym (ap (last_below n b hs) next ∙ last_out n b hs (g + k) (ap (is_in n b) (sym (get_or-drop g hs k 0)) ∙ e)))
+        last_out n b (drop g hs) k e ∙ h ∙ ap (λ m. m - g) (sym (ap (last_below n b hs) next ∙ last_out n b hs (g + k) (ap (is_in_bucket n b) (sym (get_or-drop g hs k 0)) ∙ e)))
 
   pub IsLinked-dropped : (links heads : List ℕ) → g ≤ length hs → IsLinked n hs links heads (length hs)
       → IsLinked n (drop g hs) (map (λ p. p - g) (drop g links)) (map (λ p. p - g) heads) (length (drop g hs))

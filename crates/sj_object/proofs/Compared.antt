@@ -3,7 +3,7 @@ use Rattle.std.proofs.Common.{◌≡◌, ℕ, ◌+◌, ◌≤◌, ◌%◌, ◌==
 use Rattle.std.specs.Bool.{if◌then◌else◌}
 use Rattle.std.proofs.lemmas.List.Sums.{sum_by-cons}
 use Rattle.sj_text_core.specs.Keep.{is_seen}
-use Rattle.sj_object.specs.Entries.{Entry, texts}
+use Rattle.sj_object.specs.Entries.{Entry, entry_texts}
 use Rattle.sj_object.specs.Steps.{chain, walk, found_on}
 
 module _ {K V : Type 0} where
@@ -18,7 +18,7 @@ module _ {K V : Type 0} where
         omega (arith, h, more)
 
   pub walk-le-chain : (h : List ℕ → ℕ) (n : ℕ) (k : List ℕ) (es : List (Entry K V)) → walk h n k es ≤ chain h n k es
-  walk-le-chain h n k es = by_test (is_seen k (texts es)) where
+  walk-le-chain h n k es = by_test (is_seen k (entry_texts es)) where
     by_test : (b : Bool) → chain h n k (if b then found_on k es else es) ≤ chain h n k es
     by_test true = on-le (λ (e : Entry K V). h e.0.1 % n == h k % n) k es
     by_test false = omega arith

@@ -14,8 +14,8 @@ use Rattle.sj_object.specs.declared.key.KeyText as text
 use Rattle.sj_object.specs.declared.hasher.KeyHasher as hasher
 use Rattle.sj_object.specs.declared.map.HashMap.TheInside.{Inside}
 use Rattle.sj_object.specs.Texts.{no_repeats}
-use Rattle.sj_object.specs.Entries.{Entry, texts, entries_of}
-use Rattle.sj_object.specs.Chains.{is_in}
+use Rattle.sj_object.specs.Entries.{Entry, entry_texts, entries_of}
+use Rattle.sj_object.specs.Chains.{is_in_bucket}
 use Rattle.sj_object.specs.declared.map.store.Store.{Store}
 use Rattle.sj_object.specs.declared.map.store.Store.TheVariants.{Plain, Hashed}
 use Rattle.sj_object.specs.Index.{NeedsHash, HasRoom, buckets_for}
@@ -25,7 +25,7 @@ use Rattle.sj_object.specs.Steps.{chain, walk, found_on}
 use Rattle.sj_object.proofs.Walked.{Agrees, count}
 use Rattle.sj_object.proofs.Position.{IsFound}
 
-pub text_at : {K V : Type 0} (t : K → List ℕ) (ps : List (K × V)) (i : ℕ) (q : K × V) → i < length ps → q ≡ get_or ps i q → get_or (texts (entries_of t ps)) i [] ≡ t q.0
+pub text_at : {K V : Type 0} (t : K → List ℕ) (ps : List (K × V)) (i : ℕ) (q : K × V) → i < length ps → q ≡ get_or ps i q → get_or (entry_texts (entries_of t ps)) i [] ≡ t q.0
 text_at t [] i q l e = absurd (omega arith)
 text_at t (p ∷ ps) zero q l e = ap (λ r. t r.0) (sym e)
 text_at t (p ∷ ps) (suc i) q l e = text_at t ps i q (omega arith) e
@@ -34,7 +34,7 @@ sum_by-map : {X Y : Type 0} (F : Y → ℕ) (f : X → Y) (xs : List X) → sum_
 sum_by-map F f [] = refl
 sum_by-map F f (x ∷ xs) = sum_by-cons F (f x) (map f xs) ∙ ap (λ m. F (f x) + m) (sum_by-map F f xs) ∙ sym (sum_by-cons (λ y. F (f y)) x xs)
 
-pub texts-length : {K V : Type 0} (t : K → List ℕ) (ps : List (K × V)) → length (texts (entries_of t ps)) ≡ length ps
+pub texts-length : {K V : Type 0} (t : K → List ℕ) (ps : List (K × V)) → length (entry_texts (entries_of t ps)) ≡ length ps
 texts-length {K} {V} t ps = length-map (entries_of t ps) (λ (f : Entry K V). f.0.1) ∙ length-map ps (λ (p : K × V). ((p.0, t p.0), p.1))
 
 -- where a key is compared by its hash first
@@ -56,12 +56,12 @@ pub entries-length : {K V : Type 0} (t : K → List ℕ) (ps : List (K × V)) �
 entries-length {K} {V} t ps = length-map ps (λ (p : K × V). ((p.0, t p.0), p.1))
 
 module _ {K V : Type 0} (t : K → List ℕ) (H : List ℕ → ℕ) (k : List ℕ) where
-  same_at : (ps : List (K × V)) (i : ℕ) → i < length (texts (entries_of t ps)) → bytes_eq k (get_or (texts (entries_of t ps)) i []) ≡ true → get_or (hashes t H ps) i 0 ≡ H k
+  same_at : (ps : List (K × V)) (i : ℕ) → i < length (entry_texts (entries_of t ps)) → bytes_eq k (get_or (entry_texts (entries_of t ps)) i []) ≡ true → get_or (hashes t H ps) i 0 ≡ H k
   same_at [] i l e = absurd (omega arith)
   same_at (p ∷ ps) zero l e = ap H (sym ((bytes_eq-Decides k (t p.0)).0 e))
   same_at (p ∷ ps) (suc i) l e = same_at ps i (omega arith) e
 
-  pub agrees : (ps : List (K × V)) (hs : List ℕ) (x : ℕ) → hs ≡ hashes t H ps → x ≡ H k → Agrees x k hs (texts (entries_of t ps))
+  pub agrees : (ps : List (K × V)) (hs : List ℕ) (x : ℕ) → hs ≡ hashes t H ps → x ≡ H k → Agrees x k hs (entry_texts (entries_of t ps))
   agrees ps hs x e q = record {
     size = ap length e ∙ length-map ps (λ (p : K × V). H (t p.0)) ∙ sym (texts-length t ps);
     same = λ i l b. ap (λ gs. get_or gs i 0) e ∙ same_at ps i l b ∙ sym q;
@@ -70,13 +70,13 @@ module _ {K V : Type 0} (t : K → List ℕ) (H : List ℕ → ℕ) (k : List �
   chained : (n i : ℕ) (ps : List (K × V)) → chain H n k (drop i (entries_of t ps)) ≡ count n (H k % n) (hashes t H ps) i
   chained n i ps =
       ap (chain H n k) (drop-map (λ (p : K × V). ((p.0, t p.0), p.1)) i ps) ∙ sum_by-map (λ (e : Entry K V). if H e.0.1 % n == H k % n then 1 else 0) (λ (p : K × V). ((p.0, t p.0), p.1)) (drop i ps)
-      ∙ sym (ap (count_by (is_in n (H k % n))) (drop-map (λ (p : K × V). H (t p.0)) i ps) ∙ sum_by-map (λ h. if is_in n (H k % n) h then 1 else 0) (λ (p : K × V). H (t p.0)) (drop i ps))
+      ∙ sym (ap (count_by (is_in_bucket n (H k % n))) (drop-map (λ (p : K × V). H (t p.0)) i ps) ∙ sum_by-map (λ h. if is_in_bucket n (H k % n) h then 1 else 0) (λ (p : K × V). H (t p.0)) (drop i ps))
 
   pub walk_found : (n i x : ℕ) (ps : List (K × V)) (hs : List ℕ) → IsFound t k ps i → hs ≡ hashes t H ps → x ≡ H k → walk H n k (entries_of t ps) ≡ count n (x % n) hs i
   walk_found n i x ps hs f e q =
       (λ j. chain H n k (if f.seen j then f.onward j else entries_of t ps)) ∙ chained n i ps ∙ (λ j. count n (sym q j % n) (sym e j) i)
 
-  pub walk_absent : (n x : ℕ) (ps : List (K × V)) (hs : List ℕ) → is_seen k (texts (entries_of t ps)) ≡ false → hs ≡ hashes t H ps → x ≡ H k → walk H n k (entries_of t ps) ≡ count n (x % n) hs 0
+  pub walk_absent : (n x : ℕ) (ps : List (K × V)) (hs : List ℕ) → is_seen k (entry_texts (entries_of t ps)) ≡ false → hs ≡ hashes t H ps → x ≡ H k → walk H n k (entries_of t ps) ≡ count n (x % n) hs 0
   walk_absent n x ps hs u e q =
       (λ j. chain H n k (if u j then found_on k (entries_of t ps) else entries_of t ps)) ∙ chained n 0 ps ∙ (λ j. count n (sym q j % n) (sym e j) 0)
 
@@ -119,12 +119,12 @@ IsIndexOf-read t H old b h x k e f =
     IsIndexOf-last (hashes t H ps) h x (buckets_of old) b k (e ∙ ap (λ m. buckets_for (m + 1) (buckets_of old)) (sym n)) (λ z. f (subst (λ m. NeedsHash m (buckets_of old)) (n ∙ sym (entries-length t ps)) z))
 
 -- fields that agree in what is data are the same
-pub same_inside : {K V S : Type 0} {G : text.Ghosts K} {E : eq.Ghosts K} {H : hasher.Ghosts S} (m : Inside K V S G E H) (d : no_repeats (texts (entries_of G.text_of (pairs_of m.store))) ≡ true)
+pub same_inside : {K V S : Type 0} {G : text.Ghosts K} {E : eq.Ghosts K} {H : hasher.Ghosts S} (m : Inside K V S G E H) (d : no_repeats (entry_texts (entries_of G.text_of (pairs_of m.store))) ≡ true)
     (r : HasRoom (length (entries_of G.text_of (pairs_of m.store))) (buckets_of m.store)) → ◌≡◌ {A = Inside K V S G E H} (record { store = m.store; hasher = m.hasher; distinct = d; room = r }) m
 same_inside {K} {V} {S} {G} m d r = λ i. record {
   store = m.store;
   hasher = m.hasher;
-  distinct = Coded-set coded_bool (no_repeats (texts (entries_of G.text_of (pairs_of m.store)))) true d m.distinct i;
+  distinct = Coded-set coded_bool (no_repeats (entry_texts (entries_of G.text_of (pairs_of m.store)))) true d m.distinct i;
   room = HasRoom-prop (length (entries_of G.text_of (pairs_of m.store))) (buckets_of m.store) r m.room i;
 }
 

@@ -6,7 +6,7 @@ use Rattle.std.proofs.lemmas.List.{map-append}
 use Rattle.sj_text_core.specs.Keep.{is_seen}
 use Rattle.sj_object.specs.Texts.{no_repeats}
 use Rattle.sj_object.specs.inner.Texts.{or_false, or_of_false, not_and, not_and_of, bytes_eq-sym}
-use Rattle.sj_object.specs.Entries.{Entry, texts, entries_of}
+use Rattle.sj_object.specs.Entries.{Entry, entry_texts, entries_of}
 use Rattle.sj_object.proofs.Hashed.{hashes}
 
 map-insert : {X Y : Type 0} (f : X → Y) (xs : List X) (i : ℕ) (x : X) → map f (insert xs i x) ≡ insert (map f xs) i (f x)
@@ -36,7 +36,7 @@ no_repeats-insert k (t ∷ ts) (suc i) d h =
     let r = or_false (bytes_eq k t) _ h in
     not_and_of _ _ (seen-insert t k ts i n.0 (bytes_eq-sym k t r.0)) (no_repeats-insert k ts i n.1 r.1)
 
-pub texts-insert : {K V : Type 0} (es : List (Entry K V)) (i : ℕ) (e : Entry K V) → texts (insert es i e) ≡ insert (texts es) i e.0.1
+pub texts-insert : {K V : Type 0} (es : List (Entry K V)) (i : ℕ) (e : Entry K V) → entry_texts (insert es i e) ≡ insert (entry_texts es) i e.0.1
 texts-insert {K} {V} es i e = map-insert (λ (f : Entry K V). f.0.1) es i e
 
 module _ {K V : Type 0} (t : K → List ℕ) where
@@ -46,5 +46,5 @@ module _ {K V : Type 0} (t : K → List ℕ) where
   pub hashes-insert : (H : List ℕ → ℕ) (ps : List (K × V)) (i : ℕ) (p : K × V) → hashes t H (insert ps i p) ≡ insert (hashes t H ps) i (H (t p.0))
   hashes-insert H ps i p = map-insert (λ (p : K × V). H (t p.0)) ps i p
 
-  pub distinct-insert : (ps : List (K × V)) (i : ℕ) (p : K × V) → no_repeats (texts (entries_of t ps)) ≡ true → is_seen (t p.0) (texts (entries_of t ps)) ≡ false → no_repeats (texts (entries_of t (insert ps i p))) ≡ true
-  distinct-insert ps i p d h = ap (λ es. no_repeats (texts es)) (entries-insert ps i p) ∙ ap no_repeats (texts-insert (entries_of t ps) i ((p.0, t p.0), p.1)) ∙ no_repeats-insert (t p.0) (texts (entries_of t ps)) i d h
+  pub distinct-insert : (ps : List (K × V)) (i : ℕ) (p : K × V) → no_repeats (entry_texts (entries_of t ps)) ≡ true → is_seen (t p.0) (entry_texts (entries_of t ps)) ≡ false → no_repeats (entry_texts (entries_of t (insert ps i p))) ≡ true
+  distinct-insert ps i p d h = ap (λ es. no_repeats (entry_texts es)) (entries-insert ps i p) ∙ ap no_repeats (texts-insert (entries_of t ps) i ((p.0, t p.0), p.1)) ∙ no_repeats-insert (t p.0) (entry_texts (entries_of t ps)) i d h

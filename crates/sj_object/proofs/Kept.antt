@@ -5,7 +5,7 @@ use Rattle.sj_text_core.specs.Tree.{Tree, list, obj, Items, no_items, item, memb
 use Rattle.sj_text_core.specs.Keep.{is_seen, keep, keep_items, keep_members, IsKept}
 use Rattle.sj_object.specs.Texts.{no_repeats}
 use Rattle.sj_object.specs.inner.Texts.{or_false, or_of_false, not_and, bytes_eq-sym}
-use Rattle.sj_object.specs.Entries.{Entry, texts}
+use Rattle.sj_object.specs.Entries.{Entry, entry_texts}
 use Rattle.sj_object.specs.HashMap.{Contents}
 use Rattle.sj_object.specs.Members.{entry_members}
 
@@ -36,13 +36,13 @@ Apart-none [] = tt
 Apart-none (k ∷ ks) = (refl, Apart-none ks)
 
 module _ {K V : Type 0} (tree : V → Tree) (kept : (v : V) → IsKept (tree v)) where
-  kept_after : (seen : List (List ℕ)) (es : List (Entry K V)) → Apart seen (texts es) → no_repeats (texts es) ≡ true → keep_members seen (entry_members tree es) ≡ entry_members tree es
+  kept_after : (seen : List (List ℕ)) (es : List (Entry K V)) → Apart seen (entry_texts es) → no_repeats (entry_texts es) ≡ true → keep_members seen (entry_members tree es) ≡ entry_members tree es
   kept_after seen [] a d = refl
   kept_after seen (e ∷ es) a d =
-      let n = not_and (is_seen e.0.1 (texts es)) _ d in
+      let n = not_and (is_seen e.0.1 (entry_texts es)) _ d in
       (λ i. if a.0 i then keep_members seen (entry_members tree es) else member e.0.1 (keep (tree e.1)) (keep_members (e.0.1 ∷ seen) (entry_members tree es)))
-      ∙ (λ i. member e.0.1 (kept e.1 i) (kept_after (e.0.1 ∷ seen) es (Apart-more e.0.1 seen (texts es) n.0 a.1) n.1 i))
+      ∙ (λ i. member e.0.1 (kept e.1 i) (kept_after (e.0.1 ∷ seen) es (Apart-more e.0.1 seen (entry_texts es) n.0 a.1) n.1 i))
 
   -- the object of a map whose values are kept
   pub object_kept : {S : Type 0} (m : Contents K V S) → IsKept (obj (entry_members tree m.entries))
-  object_kept m = ap obj (kept_after [] m.entries (Apart-none (texts m.entries)) m.distinct)
+  object_kept m = ap obj (kept_after [] m.entries (Apart-none (entry_texts m.entries)) m.distinct)

@@ -7,7 +7,7 @@ use Rattle.sj_text_core.specs.Edits as members
 use Rattle.sj_text_core.specs.Repeats.{keep_by, keep_last_items, keep_last_values, put_all}
 use Rattle.sj_text_core.specs.declared.repeats.Repeats.{Repeats}
 use Rattle.sj_text_core.specs.declared.repeats.Repeats.TheVariants.{First, Last}
-use Rattle.sj_object.specs.inner.Piles.{pair_texts, kept, kept_by, put_pair, in_turn}
+use Rattle.sj_object.specs.inner.Piles.{pair_texts, kept_pairs, kept_by, put_pair, put_in_turn}
 
 abbrev pub items_by : Repeats → Items → Items
 items_by First is = keep_items is
@@ -84,18 +84,18 @@ agree_more : (done : List (List ℕ × Tree)) (ks : List (List ℕ)) (l : List �
 agree_more done ks l t a = λ k. has_last k done l t ∙ ap (λ b. bytes_eq k l || b) (a k)
 
 choose : (a b : Bool) → a ≡ b → (k : List ℕ) (t : Tree) (done rest : List (List ℕ × Tree)) (u v : Members)
-    → members_from (kept done rest) ≡ join done u
-    → members_from (kept (done ++ (k, t) ∷ []) rest) ≡ join (done ++ (k, t) ∷ []) v
-    → members_from (kept (if a then done else done ++ (k, t) ∷ []) rest) ≡ join done (if b then u else member k t v)
+    → members_from (kept_pairs done rest) ≡ join done u
+    → members_from (kept_pairs (done ++ (k, t) ∷ []) rest) ≡ join (done ++ (k, t) ∷ []) v
+    → members_from (kept_pairs (if a then done else done ++ (k, t) ∷ []) rest) ≡ join done (if b then u else member k t v)
 choose true true e k t done rest u v x y = x
 choose false false e k t done rest u v x y = y ∙ join_push done k t v
 choose true false e k t done rest u v x y = cc
 choose false true e k t done rest u v x y = cc
 
-keeps_first : (ms : Members) (done : List (List ℕ × Tree)) (ks : List (List ℕ)) → Agree done ks → members_from (kept done (pairs_by First ms)) ≡ join done (keep_members ks ms)
+keeps_first : (ms : Members) (done : List (List ℕ × Tree)) (ks : List (List ℕ)) → Agree done ks → members_from (kept_pairs done (pairs_by First ms)) ≡ join done (keep_members ks ms)
 keeps_first no_members done ks a = join_end done
 keeps_first (member s t ms) done ks a =
-    ap (λ u. members_from (kept (if is_seen s (pair_texts done) then done else done ++ (s, u) ∷ []) (pairs_by First ms))) (tree_kept First t)
+    ap (λ u. members_from (kept_pairs (if is_seen s (pair_texts done) then done else done ++ (s, u) ∷ []) (pairs_by First ms))) (tree_kept First t)
     ∙ choose (is_seen s (pair_texts done)) (is_seen s ks) (a s) s (keep t) done (pairs_by First ms) _ _
     (keeps_first ms done ks a)
     (keeps_first ms (done ++ (s, keep t) ∷ []) (s ∷ ks) (agree_more done ks s (keep t) a))
@@ -109,7 +109,7 @@ members_from-put k t (p ∷ ps) = by_test (bytes_eq k p.0) (members_from-put k t
     by_test true e = refl
     by_test false e = ap (member p.0 p.1) e
 
-puts_last : (ms : Members) (done : List (List ℕ × Tree)) → members_from (in_turn done (pairs_by Last ms)) ≡ put_all (members_from done) (keep_last_values ms)
+puts_last : (ms : Members) (done : List (List ℕ × Tree)) → members_from (put_in_turn done (pairs_by Last ms)) ≡ put_all (members_from done) (keep_last_values ms)
 puts_last no_members done = refl
 puts_last (member s t ms) done =
     puts_last ms (put_pair s (tree_by Last t) done)

@@ -13,7 +13,7 @@ use Rattle.sj_tape.proofs.Preorders.{AllBegin-drop, AllBegin-preorder}
 use Rattle.sj_object.specs.Entries.{Entry}
 use Rattle.sj_object.specs.Members.{entry_members}
 use Rattle.sj_object.proofs.KeptBy.{tree_by, tree_kept, items_kept, pairs_by, members_kept}
-use Rattle.sj_object.specs.inner.Piles.{pile_onto, pile, made_of, left_of, IsThere, first_mark, key_of_mark, behind, CanTake, taken, left, CanTakeItems, taken_pairs, left_pairs, CanTakePairs, kept_by, shown, Needs, grown}
+use Rattle.sj_object.specs.inner.Piles.{pile_onto, pile, made_of, left_of, IsThere, first_mark, key_of_mark, behind, CanTake, taken, trees_left, CanTakeItems, taken_pairs, left_pairs, CanTakePairs, kept_by, entry_pairs, Needs, grown}
 
 -- ---- one value more, or less
 
@@ -84,7 +84,7 @@ pub record OneItem (ns : List Mark) (i m : ℕ) (x : Mark) (ps : List Tree) : Ty
   pub whole : Whole ns i x ps
   pub can : CanTakeItems m (drop (i + width x) ns) (left_of x ps)
   pub made : taken (suc m) (drop i ns) ps ≡ made_of x ps ∷ taken m (drop (i + width x) ns) (left_of x ps)
-  pub less : left (suc m) (drop i ns) ps ≡ left m (drop (i + width x) ns) (left_of x ps)
+  pub less : trees_left (suc m) (drop i ns) ps ≡ trees_left m (drop (i + width x) ns) (left_of x ps)
 
 pub one_item : (ns : List Mark) (i n m : ℕ) (x : Mark) (ps : List Tree) → n ≡ suc m → x ≡ get_or ns i nothing → CanTakeItems n (drop i ns) ps → OneItem ns i m x ps
 one_item ns i n m x ps e f h =
@@ -94,7 +94,7 @@ one_item ns i n m x ps e f h =
       whole = w;
       can = subst (λ (p : List Mark × List Tree). CanTakeItems m p.0 p.1) (λ j. (w.after j, left_of (w.first j) ps)) can.1;
       made = λ j. made_of (w.first j) ps ∷ taken m (w.after j) (left_of (w.first j) ps);
-      less = λ j. left m (w.after j) (left_of (w.first j) ps);
+      less = λ j. trees_left m (w.after j) (left_of (w.first j) ps);
     }
 
 -- one member less, whose key is k
@@ -181,7 +181,7 @@ take_one c (obj ms) ns =
 record TakesItems (c : Repeats) (is : Items) (ns : List Mark) : Type 0 where
   can : CanTakeItems (items_len is) (flat_items is ++ ns) (ahead c (flat_items is ++ ns))
   made : taken (items_len is) (flat_items is ++ ns) (ahead c (flat_items is ++ ns)) ≡ map (tree_by c) (listed is)
-  less : left (items_len is) (flat_items is ++ ns) (ahead c (flat_items is ++ ns)) ≡ ahead c ns
+  less : trees_left (items_len is) (flat_items is ++ ns) (ahead c (flat_items is ++ ns)) ≡ ahead c ns
 
 take_all : (c : Repeats) (is : Items) (ns : List Mark) → TakesItems c is ns
 take_all c no_items ns = record { can = tt; made = refl; less = refl }
@@ -192,11 +192,11 @@ take_all c (item t is) ns =
     let n = items_len is in
     let all : (CanTakeItems (suc n) ((flat t ++ flat_items is) ++ ns) (ahead c ((flat t ++ flat_items is) ++ ns)))
     × (taken (suc n) ((flat t ++ flat_items is) ++ ns) (ahead c ((flat t ++ flat_items is) ++ ns)) ≡ map (tree_by c) (listed (item t is)))
-    × (left (suc n) ((flat t ++ flat_items is) ++ ns) (ahead c ((flat t ++ flat_items is) ++ ns)) ≡ ahead c ns) =
-    subst (λ l. (CanTakeItems (suc n) l (ahead c l)) × (taken (suc n) l (ahead c l) ≡ map (tree_by c) (listed (item t is))) × (left (suc n) l (ahead c l) ≡ ahead c ns)) (sym apart) (
+    × (trees_left (suc n) ((flat t ++ flat_items is) ++ ns) (ahead c ((flat t ++ flat_items is) ++ ns)) ≡ ahead c ns) =
+    subst (λ l. (CanTakeItems (suc n) l (ahead c l)) × (taken (suc n) l (ahead c l) ≡ map (tree_by c) (listed (item t is))) × (trees_left (suc n) l (ahead c l) ≡ ahead c ns)) (sym apart) (
       (one.can, subst (λ (p : List Mark × List Tree). CanTakeItems n p.0 p.1) (λ i. (sym one.rest i, sym one.less i)) more.can),
       (λ i. one.made i ∷ taken n (one.rest i) (one.less i)) ∙ ap (λ l. tree_by c t ∷ l) more.made,
-      (λ i. left n (one.rest i) (one.less i)) ∙ more.less,
+      (λ i. trees_left n (one.rest i) (one.less i)) ∙ more.less,
     ) in
     record { can = all.0; made = all.1; less = all.2 }
 
@@ -291,7 +291,7 @@ last_one c ns h =
 
 -- ---- one container on the pile
 
-members_from-shown : {K V : Type 0} (tree : V → Tree) (es : List (Entry K V)) → entry_members tree es ≡ members_from (shown tree es)
+members_from-shown : {K V : Type 0} (tree : V → Tree) (es : List (Entry K V)) → entry_members tree es ≡ members_from (entry_pairs tree es)
 members_from-shown tree [] = refl
 members_from-shown tree (e ∷ es) = ap (member e.0.1 (tree e.1)) (members_from-shown tree es)
 
@@ -300,7 +300,7 @@ pub array_on : {V : Type 0} (tree : V → Tree) (mid new : List V) (v : V) (vs :
 array_on tree mid new v vs ts ps means rest is e = popped tree new mid v e ∙ (λ i. (is ∙ ap (λ l. list (items_from l)) means) i ∷ rest i)
 
 pub object_on : {K V : Type 0} (tree : V → Tree) (mid new : List V) (v : V) (es : List (Entry K V)) (qs : List (List ℕ × Tree)) (ps : List Tree)
-    → shown tree es ≡ qs → pile tree mid ≡ ps → tree v ≡ obj (entry_members tree es) → new ≡ mid ++ v ∷ [] → pile tree new ≡ obj (members_from qs) ∷ ps
+    → entry_pairs tree es ≡ qs → pile tree mid ≡ ps → tree v ≡ obj (entry_members tree es) → new ≡ mid ++ v ∷ [] → pile tree new ≡ obj (members_from qs) ∷ ps
 object_on tree mid new v es qs ps means rest is e = popped tree new mid v e ∙ (λ i. (is ∙ ap obj (members_from-shown tree es) ∙ ap (λ l. obj (members_from l)) means) i ∷ rest i)
 
 -- ---- one item more

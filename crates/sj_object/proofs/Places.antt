@@ -4,7 +4,7 @@ use Rattle.std.specs.List.{position_from}
 use Rattle.std.specs.Bool.{if◌then◌else◌}
 use Rattle.sj_object.specs.Entries.{Entry, entries_of}
 use Rattle.sj_object.specs.HashMap.{Contents, same_contents}
-use Rattle.sj_object.specs.Edits.{lookup, position, set_value, value_at, set_value_at, with_value, with_value_at}
+use Rattle.sj_object.specs.Edits.{lookup, position, set_value, nth_value, set_value_at, with_value, with_value_at}
 
 further : (o : ℕ) (x : Option ℕ) → option_map (λ j. o + 1 + j) x ≡ option_map (λ j. o + j) (option_map suc x)
 further o None = refl
@@ -31,7 +31,7 @@ module _ {K V : Type 0} (k : List ℕ) where
   -- the first entry with the text stands at i
   pub record IsPlace (es : List (Entry K V)) (i : ℕ) : Type 0 where
     pub within : i < length es
-    pub value : value_at i es ≡ lookup k es
+    pub value : nth_value i es ≡ lookup k es
     pub set : (w : V) → set_value_at i w es ≡ set_value k w es
 
   here : (e : Entry K V) (es : List (Entry K V)) → bytes_eq k e.0.1 ≡ true → IsPlace (e ∷ es) 0

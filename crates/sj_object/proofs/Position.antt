@@ -7,8 +7,8 @@ use Rattle.std.proofs.lemmas.Slice.Eq.{bytes_eq-Decides}
 use Rattle.sj_object.specs.Texts.{no_repeats}
 use Rattle.sj_object.specs.inner.Texts.{or_false, not_and}
 use Rattle.sj_object.specs.Steps.{found_on}
-use Rattle.sj_object.specs.Entries.{Entry, texts, entries_of}
-use Rattle.sj_object.specs.Edits.{lookup, set_value, put, cut, value_at, set_value_at}
+use Rattle.sj_object.specs.Entries.{Entry, entry_texts, entries_of}
+use Rattle.sj_object.specs.Edits.{lookup, set_value, put_entry, cut_entry, nth_value, set_value_at}
 
 module _ {K V : Type 0} (t : K → List ℕ) (k : List ℕ) where
   abbrev pub test : K × V → Bool
@@ -19,21 +19,21 @@ module _ {K V : Type 0} (t : K → List ℕ) (k : List ℕ) where
     pub within : j < length ps
     pub lookup_at : (x : K × V) → x ≡ get_or ps j x → lookup k (entries_of t ps) ≡ Some x.1
     pub set_at : (x : K × V) (w : V) → x ≡ get_or ps j x → entries_of t (slice_set ps j (x.0, w)) ≡ set_value k w (entries_of t ps)
-    pub put_at : (x : K × V) (q : K) (w : V) → x ≡ get_or ps j x → t q ≡ k → entries_of t (slice_set ps j (x.0, w)) ≡ put (q, t q) w (entries_of t ps)
-    pub cut_at : entries_of t (remove ps j) ≡ cut k (entries_of t ps)
+    pub put_at : (x : K × V) (q : K) (w : V) → x ≡ get_or ps j x → t q ≡ k → entries_of t (slice_set ps j (x.0, w)) ≡ put_entry (q, t q) w (entries_of t ps)
+    pub cut_at : entries_of t (remove ps j) ≡ cut_entry k (entries_of t ps)
     pub place : (o : ℕ) → position_from test o ps ≡ Some (o + j)
-    pub seen : is_seen k (texts (entries_of t ps)) ≡ true
-    pub there : (w : V) (q : K) → t q ≡ k → set_value_at j w (entries_of t ps) ≡ put (q, t q) w (entries_of t ps)
+    pub seen : is_seen k (entry_texts (entries_of t ps)) ≡ true
+    pub there : (w : V) (q : K) → t q ≡ k → set_value_at j w (entries_of t ps) ≡ put_entry (q, t q) w (entries_of t ps)
     pub set_there : (w : V) → set_value_at j w (entries_of t ps) ≡ set_value k w (entries_of t ps)
-    pub value_there : value_at j (entries_of t ps) ≡ lookup k (entries_of t ps)
+    pub value_there : nth_value j (entries_of t ps) ≡ lookup k (entries_of t ps)
     pub onward : found_on k (entries_of t ps) ≡ drop j (entries_of t ps)
 
   -- no pair has the text k
   pub record IsAbsent (ps : List (K × V)) : Type 0 where
     pub lookup_none : lookup k (entries_of t ps) ≡ None
-    pub put_last : (q : K) (w : V) → t q ≡ k → entries_of t (ps ++ (q, w) ∷ []) ≡ put (q, t q) w (entries_of t ps)
-    pub cut_none : cut k (entries_of t ps) ≡ entries_of t ps
-    pub unseen : is_seen k (texts (entries_of t ps)) ≡ false
+    pub put_last : (q : K) (w : V) → t q ≡ k → entries_of t (ps ++ (q, w) ∷ []) ≡ put_entry (q, t q) w (entries_of t ps)
+    pub cut_none : cut_entry k (entries_of t ps) ≡ entries_of t ps
+    pub unseen : is_seen k (entry_texts (entries_of t ps)) ≡ false
     pub placeless : (o : ℕ) → position_from test o ps ≡ None
 
   module _ (p : K × V) (ps : List (K × V)) where
@@ -42,10 +42,10 @@ module _ {K V : Type 0} (t : K → List ℕ) (k : List ℕ) where
     after_set b w = if b then ((p.0, t p.0), w) ∷ entries_of t ps else ((p.0, t p.0), p.1) ∷ set_value k w (entries_of t ps)
 
     abbrev after_put : Bool → K → V → List ((K × List ℕ) × V)
-    after_put b q w = if b then ((p.0, t p.0), w) ∷ entries_of t ps else ((p.0, t p.0), p.1) ∷ put (q, t q) w (entries_of t ps)
+    after_put b q w = if b then ((p.0, t p.0), w) ∷ entries_of t ps else ((p.0, t p.0), p.1) ∷ put_entry (q, t q) w (entries_of t ps)
 
     abbrev after_cut : Bool → List ((K × List ℕ) × V)
-    after_cut b = if b then entries_of t ps else ((p.0, t p.0), p.1) ∷ cut k (entries_of t ps)
+    after_cut b = if b then entries_of t ps else ((p.0, t p.0), p.1) ∷ cut_entry k (entries_of t ps)
 
     here : test p ≡ true → IsFound (p ∷ ps) 0
     here e = record {
@@ -59,7 +59,7 @@ module _ {K V : Type 0} (t : K → List ℕ) (k : List ℕ) where
       there = λ w q h. sym ((λ i. after_put (bytes_eq (h i) (t p.0)) q w) ∙ (λ i. after_put (e i) q w));
       set_there = λ w. sym (λ i. after_set (e i) w);
       value_there = sym (λ i. if e i then Some p.1 else lookup k (entries_of t ps));
-      seen = λ i. e i || is_seen k (texts (entries_of t ps));
+      seen = λ i. e i || is_seen k (entry_texts (entries_of t ps));
       onward = λ i. if e i then ((p.0, t p.0), p.1) ∷ entries_of t ps else found_on k (entries_of t ps);
     }
 
@@ -75,7 +75,7 @@ module _ {K V : Type 0} (t : K → List ℕ) (k : List ℕ) where
       there = λ w q h. ap (λ l. ((p.0, t p.0), p.1) ∷ l) (f.there w q h) ∙ sym ((λ i. after_put (bytes_eq (h i) (t p.0)) q w) ∙ (λ i. after_put (e i) q w));
       set_there = λ w. ap (λ l. ((p.0, t p.0), p.1) ∷ l) (f.set_there w) ∙ sym (λ i. after_set (e i) w);
       value_there = f.value_there ∙ sym (λ i. if e i then Some p.1 else lookup k (entries_of t ps));
-      seen = (λ i. e i || is_seen k (texts (entries_of t ps))) ∙ f.seen;
+      seen = (λ i. e i || is_seen k (entry_texts (entries_of t ps))) ∙ f.seen;
       onward = (λ i. if e i then ((p.0, t p.0), p.1) ∷ entries_of t ps else found_on k (entries_of t ps)) ∙ f.onward;
     }
 
@@ -85,7 +85,7 @@ module _ {K V : Type 0} (t : K → List ℕ) (k : List ℕ) where
       put_last = λ q w h. ap (λ l. ((p.0, t p.0), p.1) ∷ l) (a.put_last q w h)
           ∙ sym ((λ i. after_put (bytes_eq (h i) (t p.0)) q w) ∙ (λ i. after_put (e i) q w));
       cut_none = (λ i. after_cut (e i)) ∙ ap (λ l. ((p.0, t p.0), p.1) ∷ l) a.cut_none;
-      unseen = (λ i. e i || is_seen k (texts (entries_of t ps))) ∙ a.unseen;
+      unseen = (λ i. e i || is_seen k (entry_texts (entries_of t ps))) ∙ a.unseen;
       placeless = λ o. (λ i. if e i then Some o else position_from test (o + 1) ps) ∙ a.placeless (o + 1);
     }
 
@@ -93,19 +93,19 @@ module _ {K V : Type 0} (t : K → List ℕ) (k : List ℕ) where
   absent_none = record { lookup_none = refl; put_last = λ q w h. refl; cut_none = refl; unseen = refl; placeless = λ o. refl }
 
   -- where no text stands twice, a pair with the text k is the first one
-  pub found_at : (ps : List (K × V)) (i : ℕ) (x : K × V) → no_repeats (texts (entries_of t ps)) ≡ true → i < length ps → x ≡ get_or ps i x → test x ≡ true → IsFound ps i
+  pub found_at : (ps : List (K × V)) (i : ℕ) (x : K × V) → no_repeats (entry_texts (entries_of t ps)) ≡ true → i < length ps → x ≡ get_or ps i x → test x ≡ true → IsFound ps i
   found_at [] i x d l q e = absurd (omega arith)
   found_at (p ∷ ps) zero x d l q e = here p ps (ap test (sym q) ∙ e)
   found_at (p ∷ ps) (suc i) x d l q e =
-      let n = not_and (is_seen (t p.0) (texts (entries_of t ps))) _ d in
+      let n = not_and (is_seen (t p.0) (entry_texts (entries_of t ps))) _ d in
       let f = found_at ps i x n.1 (omega arith) q e in
       later p ps i (by_test (test p) refl f.seen n.0) f where
-        by_test : (b : Bool) → bytes_eq k (t p.0) ≡ b → is_seen k (texts (entries_of t ps)) ≡ true → is_seen (t p.0) (texts (entries_of t ps)) ≡ false → b ≡ false
+        by_test : (b : Bool) → bytes_eq k (t p.0) ≡ b → is_seen k (entry_texts (entries_of t ps)) ≡ true → is_seen (t p.0) (entry_texts (entries_of t ps)) ≡ false → b ≡ false
         by_test false r s u = refl
-        by_test true r s u = absurd (true≢false (sym s ∙ ap (λ y. is_seen y (texts (entries_of t ps))) ((bytes_eq-Decides k (t p.0)).0 r) ∙ u))
+        by_test true r s u = absurd (true≢false (sym s ∙ ap (λ y. is_seen y (entry_texts (entries_of t ps))) ((bytes_eq-Decides k (t p.0)).0 r) ∙ u))
 
   -- what no text is seen in has no pair with it
-  pub absent_at : (ps : List (K × V)) → is_seen k (texts (entries_of t ps)) ≡ false → IsAbsent ps
+  pub absent_at : (ps : List (K × V)) → is_seen k (entry_texts (entries_of t ps)) ≡ false → IsAbsent ps
   absent_at [] u = absent_none
   absent_at (p ∷ ps) u = let r = or_false (test p) _ u in passed p ps r.0 (absent_at ps r.1)
 
@@ -146,14 +146,14 @@ is_some_by : {V : Type 0} (b : Bool) (v : V) (r : Option V) (c : Bool) → is_so
 is_some_by true v r c e = refl
 is_some_by false v r c e = e
 
-pub is_some-lookup : {K V : Type 0} (k : List ℕ) (es : List (Entry K V)) → is_some (lookup k es) ≡ is_seen k (texts es)
+pub is_some-lookup : {K V : Type 0} (k : List ℕ) (es : List (Entry K V)) → is_some (lookup k es) ≡ is_seen k (entry_texts es)
 is_some-lookup k [] = refl
 is_some-lookup k (e ∷ es) = is_some_by (bytes_eq k e.0.1) e.1 (lookup k es) _ (is_some-lookup k es)
 
-pub unseen_where_none : {K V : Type 0} (k : List ℕ) (es : List (Entry K V)) → lookup k es ≡ None → is_seen k (texts es) ≡ false
+pub unseen_where_none : {K V : Type 0} (k : List ℕ) (es : List (Entry K V)) → lookup k es ≡ None → is_seen k (entry_texts es) ≡ false
 unseen_where_none k es e = sym (is_some-lookup k es) ∙ ap is_some e
 
-pub none_where_unseen : {K V : Type 0} (k : List ℕ) (es : List (Entry K V)) → is_seen k (texts es) ≡ false → lookup k es ≡ None
+pub none_where_unseen : {K V : Type 0} (k : List ℕ) (es : List (Entry K V)) → is_seen k (entry_texts es) ≡ false → lookup k es ≡ None
 none_where_unseen {K} {V} k es u = by_value (lookup k es) (is_some-lookup k es ∙ u) where
   by_value : (o : Option V) → is_some o ≡ false → o ≡ None
   by_value None e = refl
@@ -165,7 +165,7 @@ entries-set_value_at t [] i x w e = refl
 entries-set_value_at {K} {V} t (p ∷ ps) zero x w e = ap (λ (r : K × V). ((r.0, t r.0), w) ∷ entries_of t ps) e
 entries-set_value_at t (p ∷ ps) (suc i) x w e = ap (λ l. ((p.0, t p.0), p.1) ∷ l) (entries-set_value_at t ps i x w e)
 
-pub value_at-get : {K V : Type 0} (t : K → List ℕ) (ps : List (K × V)) (i : ℕ) (x : K × V) → i < length ps → x ≡ get_or ps i x → value_at i (entries_of t ps) ≡ Some x.1
+pub value_at-get : {K V : Type 0} (t : K → List ℕ) (ps : List (K × V)) (i : ℕ) (x : K × V) → i < length ps → x ≡ get_or ps i x → nth_value i (entries_of t ps) ≡ Some x.1
 value_at-get t [] i x l e = absurd (omega arith)
 value_at-get {K} {V} t (p ∷ ps) zero x l e = ap (λ (r : K × V). Some r.1) (sym e)
 value_at-get t (p ∷ ps) (suc i) x l e = value_at-get t ps i x (omega arith) e
@@ -174,6 +174,6 @@ pub set_value_at-last : {K V : Type 0} (es : List (Entry K V)) (q : K × List �
 set_value_at-last [] q v w = refl
 set_value_at-last (e ∷ es) q v w = ap (λ l. e ∷ l) (set_value_at-last es q v w)
 
-pub value_at-last : {K V : Type 0} (es : List (Entry K V)) (q : K × List ℕ) (v : V) → value_at (length es) (es ++ (q, v) ∷ []) ≡ Some v
+pub value_at-last : {K V : Type 0} (es : List (Entry K V)) (q : K × List ℕ) (v : V) → nth_value (length es) (es ++ (q, v) ∷ []) ≡ Some v
 value_at-last [] q v = refl
 value_at-last (e ∷ es) q v = value_at-last es q v

@@ -6,7 +6,7 @@ use Rattle.std.proofs.lemmas.Bool.Decides.{nat_tests}
 use Rattle.std.proofs.lemmas.List.Edits.{length-insert}
 use Rattle.sj_text_core.specs.Keep.{is_seen}
 use Rattle.sj_object.specs.Texts.{no_repeats}
-use Rattle.sj_object.specs.Entries.{Entry, texts, entries_of}
+use Rattle.sj_object.specs.Entries.{Entry, entry_texts, entries_of}
 use Rattle.sj_object.specs.Rooms.{takes, restored, restored_all}
 use Rattle.sj_object.proofs.Position.{is_some-lookup}
 use Rattle.sj_object.proofs.Hashed.{entries-length}
@@ -25,7 +25,7 @@ module _ {K V : Type 0} (n i : ℕ) (k : List ℕ) (es : List (Entry K V)) where
   record IsTaken : Type 0 where
     few : length es < n
     within : i ≤ length es
-    unseen : is_seen k (texts es) ≡ false
+    unseen : is_seen k (entry_texts es) ≡ false
 
   taken : takes n i k es ≡ true → IsTaken
   taken e =
@@ -50,11 +50,11 @@ module _ {K V : Type 0} (n i : ℕ) (q : K × List ℕ) (v : V) (es : List (Entr
     by_test true e = let h = taken n i q.1 es e in omega (arith, ap length (restored-taken e), length-insert es i (q, v) h.within, h.few)
     by_test false e = omega (arith, ap length (restored-left e), l)
 
-  pub restored-distinct : no_repeats (texts es) ≡ true → no_repeats (texts (restored n i q v es)) ≡ true
+  pub restored-distinct : no_repeats (entry_texts es) ≡ true → no_repeats (entry_texts (restored n i q v es)) ≡ true
   restored-distinct d = by_test (takes n i q.1 es) refl where
-    by_test : (b : Bool) → takes n i q.1 es ≡ b → no_repeats (texts (restored n i q v es)) ≡ true
-    by_test true e = ap (λ l. no_repeats (texts l)) (restored-taken e) ∙ ap no_repeats (texts-insert es i (q, v)) ∙ no_repeats-insert q.1 (texts es) i d (taken n i q.1 es e).unseen
-    by_test false e = ap (λ l. no_repeats (texts l)) (restored-left e) ∙ d
+    by_test : (b : Bool) → takes n i q.1 es ≡ b → no_repeats (entry_texts (restored n i q v es)) ≡ true
+    by_test true e = ap (λ l. no_repeats (entry_texts l)) (restored-taken e) ∙ ap no_repeats (texts-insert es i (q, v)) ∙ no_repeats-insert q.1 (entry_texts es) i d (taken n i q.1 es e).unseen
+    by_test false e = ap (λ l. no_repeats (entry_texts l)) (restored-left e) ∙ d
 
   -- where there is no place for one more
   pub restored-full : n ≤ length es → restored n i q v es ≡ es
@@ -73,7 +73,7 @@ module _ {K V : Type 0} (t : K → List ℕ) (n : ℕ) where
   restored_all-within [] es l = l
   restored_all-within (g ∷ gs) es l = restored-within n g.0 (g.1, t g.1) g.2 (restored_all t n gs es) (restored_all-within gs es l)
 
-  pub restored_all-distinct : (gs : List (ℕ × K × V)) (es : List (Entry K V)) → no_repeats (texts es) ≡ true → no_repeats (texts (restored_all t n gs es)) ≡ true
+  pub restored_all-distinct : (gs : List (ℕ × K × V)) (es : List (Entry K V)) → no_repeats (entry_texts es) ≡ true → no_repeats (entry_texts (restored_all t n gs es)) ≡ true
   restored_all-distinct [] es d = d
   restored_all-distinct (g ∷ gs) es d = restored-distinct n g.0 (g.1, t g.1) g.2 (restored_all t n gs es) (restored_all-distinct gs es d)
 

@@ -6,7 +6,7 @@ use Rattle.std.specs.Map.Calls.{RetainsPairs}
 use Rattle.sj_text_core.specs.Keep.{is_seen}
 use Rattle.sj_object.specs.Texts.{no_repeats}
 use Rattle.sj_object.specs.inner.Texts.{or_false, or_of_false, not_and, not_and_of}
-use Rattle.sj_object.specs.Entries.{texts, entries_of}
+use Rattle.sj_object.specs.Entries.{entry_texts, entries_of}
 use Rattle.sj_object.proofs.Hashed.{hashes}
 
 module _ {F K V : Type 0} (T : F → K → V → Bool → V → F → Type 0) (first : F) (old : List (K × V)) where
@@ -65,22 +65,22 @@ module _ {F K V : Type 0} (T : F → K → V → Bool → V → F → Type 0) wh
     at false e l = omega (arith, ap length e, l)
 
 module _ {F K V : Type 0} (T : F → K → V → Bool → V → F → Type 0) (t : K → List ℕ) where
-  retained_unseen : (k : List ℕ) (f : F) (ps qs : List (K × V)) → RetainsPairs T f ps qs → is_seen k (texts (entries_of t ps)) ≡ false → is_seen k (texts (entries_of t qs)) ≡ false
-  retained_unseen k f [] qs r u = ap (λ l. is_seen k (texts (entries_of t l))) r
+  retained_unseen : (k : List ℕ) (f : F) (ps qs : List (K × V)) → RetainsPairs T f ps qs → is_seen k (entry_texts (entries_of t ps)) ≡ false → is_seen k (entry_texts (entries_of t qs)) ≡ false
+  retained_unseen k f [] qs r u = ap (λ l. is_seen k (entry_texts (entries_of t l))) r
   retained_unseen k f (p ∷ ps) qs (b, w, g, rest, s, more, e) u = let parts = or_false (bytes_eq k (t p.0)) _ u in at b e parts.0 (retained_unseen k g ps rest more parts.1) where
-    at : (c : Bool) → qs ≡ cond c ((p.0, w) ∷ rest) rest → bytes_eq k (t p.0) ≡ false → is_seen k (texts (entries_of t rest)) ≡ false → is_seen k (texts (entries_of t qs)) ≡ false
-    at true e n unseen = ap (λ l. is_seen k (texts (entries_of t l))) e ∙ or_of_false _ _ n unseen
-    at false e n unseen = ap (λ l. is_seen k (texts (entries_of t l))) e ∙ unseen
+    at : (c : Bool) → qs ≡ cond c ((p.0, w) ∷ rest) rest → bytes_eq k (t p.0) ≡ false → is_seen k (entry_texts (entries_of t rest)) ≡ false → is_seen k (entry_texts (entries_of t qs)) ≡ false
+    at true e n unseen = ap (λ l. is_seen k (entry_texts (entries_of t l))) e ∙ or_of_false _ _ n unseen
+    at false e n unseen = ap (λ l. is_seen k (entry_texts (entries_of t l))) e ∙ unseen
 
   -- no two keys that are kept have one text
-  pub retained_distinct : (f : F) (ps qs : List (K × V)) → RetainsPairs T f ps qs → no_repeats (texts (entries_of t ps)) ≡ true → no_repeats (texts (entries_of t qs)) ≡ true
-  retained_distinct f [] qs r d = ap (λ l. no_repeats (texts (entries_of t l))) r
+  pub retained_distinct : (f : F) (ps qs : List (K × V)) → RetainsPairs T f ps qs → no_repeats (entry_texts (entries_of t ps)) ≡ true → no_repeats (entry_texts (entries_of t qs)) ≡ true
+  retained_distinct f [] qs r d = ap (λ l. no_repeats (entry_texts (entries_of t l))) r
   retained_distinct f (p ∷ ps) qs (b, w, g, rest, s, more, e) d =
-      let parts = not_and (is_seen (t p.0) (texts (entries_of t ps))) _ d in
+      let parts = not_and (is_seen (t p.0) (entry_texts (entries_of t ps))) _ d in
       at b e (retained_unseen (t p.0) g ps rest more parts.0) (retained_distinct g ps rest more parts.1) where
-        at : (c : Bool) → qs ≡ cond c ((p.0, w) ∷ rest) rest → is_seen (t p.0) (texts (entries_of t rest)) ≡ false → no_repeats (texts (entries_of t rest)) ≡ true → no_repeats (texts (entries_of t qs)) ≡ true
-        at true e unseen distinct = ap (λ l. no_repeats (texts (entries_of t l))) e ∙ not_and_of _ _ unseen distinct
-        at false e unseen distinct = ap (λ l. no_repeats (texts (entries_of t l))) e ∙ distinct
+        at : (c : Bool) → qs ≡ cond c ((p.0, w) ∷ rest) rest → is_seen (t p.0) (entry_texts (entries_of t rest)) ≡ false → no_repeats (entry_texts (entries_of t rest)) ≡ true → no_repeats (entry_texts (entries_of t qs)) ≡ true
+        at true e unseen distinct = ap (λ l. no_repeats (entry_texts (entries_of t l))) e ∙ not_and_of _ _ unseen distinct
+        at false e unseen distinct = ap (λ l. no_repeats (entry_texts (entries_of t l))) e ∙ distinct
 
   -- where all are kept, so are their hashes
   pub retained_hashes : (H : List ℕ → ℕ) (f : F) (ps qs : List (K × V)) → RetainsPairs T f ps qs → length ps ≤ length qs → hashes t H qs ≡ hashes t H ps

@@ -6,7 +6,7 @@ use Rattle.sj_text_core.specs.Find.{find_member}
 use Rattle.sj_text_core.specs.Edits as members
 use Rattle.sj_object.specs.Entries.{Entry}
 use Rattle.sj_object.specs.Members.{entry_members}
-use Rattle.sj_object.specs.Edits.{lookup, set_value, put, cut}
+use Rattle.sj_object.specs.Edits.{lookup, set_value, put_entry, cut_entry}
 
 -- values seen by one map after another
 pub entry_members-map : {K V W : Type 0} (f : V → W) (g : W → Tree) (es : List (Entry K V)) → entry_members g (map (λ (e : Entry K V). (e.0, f e.1)) es) ≡ entry_members (λ v. g (f v)) es
@@ -30,7 +30,7 @@ module _ {K V : Type 0} (tree : V → Tree) where
   put_by true w e es fs ms h = refl
   put_by false w e es fs ms h = ap (member e.0.1 (tree e.1)) h
 
-  pub entry_members-put : (q : K × List ℕ) (w : V) (es : List (Entry K V)) → all (put q w es) ≡ members.put q.1 (tree w) (all es)
+  pub entry_members-put : (q : K × List ℕ) (w : V) (es : List (Entry K V)) → all (put_entry q w es) ≡ members.put q.1 (tree w) (all es)
   entry_members-put q w [] = refl
   entry_members-put q w (e ∷ es) = put_by (bytes_eq q.1 e.0.1) w e es _ _ (entry_members-put q w es)
 
@@ -50,6 +50,6 @@ module _ {K V : Type 0} (tree : V → Tree) where
   cut_by true e es fs ms h = refl
   cut_by false e es fs ms h = ap (member e.0.1 (tree e.1)) h
 
-  pub entry_members-cut : (k : List ℕ) (es : List (Entry K V)) → all (cut k es) ≡ members.cut k (all es)
+  pub entry_members-cut : (k : List ℕ) (es : List (Entry K V)) → all (cut_entry k es) ≡ members.cut k (all es)
   entry_members-cut k [] = refl
   entry_members-cut k (e ∷ es) = cut_by (bytes_eq k e.0.1) e es _ _ (entry_members-cut k es)

@@ -2,10 +2,10 @@
 use Rattle.std.proofs.Common.{◌≡◌, ℕ, true, List, [], ◌∷◌, ◌++◌, length, get_or, slice_set, sym, ap, ◌∙◌, subst, arith}
 use Rattle.std.proofs.lemmas.List.{length_push}
 use Rattle.sj_object.specs.Texts.{no_repeats}
-use Rattle.sj_object.specs.Entries.{texts, entries_of}
+use Rattle.sj_object.specs.Entries.{entry_texts, entries_of}
 use Rattle.sj_object.specs.Edits.{set_value_at, texts-set_value_at, length-set_value_at}
 use Rattle.sj_object.specs.Index.{HasRoom}
-use Rattle.sj_object.specs.Stored.{members_of, pairs_of, buckets_of, IsIndexOf}
+use Rattle.sj_object.specs.Stored.{stored_members, pairs_of, buckets_of, IsIndexOf}
 use Rattle.sj_object.specs.inner.Stored.{IsIndexed, IsIndexedAhead}
 use Rattle.sj_object.specs.declared.map.store.Store.{Store}
 use Rattle.sj_object.specs.declared.map.store.Store.TheVariants.{Plain, Hashed}
@@ -15,7 +15,7 @@ use Rattle.sj_object.proofs.Hashed.{hashes, hashes-length, hashes-set}
 -- an index of the members' hashes keeps one for each
 pub indexed : {K V : Type 0} (t : K → List ℕ) (H : List ℕ → ℕ) (s : Store K V) → IsIndexOf (hashes t H (pairs_of s)) s → IsIndexed s
 indexed t H (Plain v) i = tt
-indexed t H (Hashed b) i = (i.table, ap length i.same ∙ hashes-length t H (members_of b.value.members))
+indexed t H (Hashed b) i = (i.table, ap length i.same ∙ hashes-length t H (stored_members b.value.members))
 
 -- so too with one more, which stands last
 pub indexed_ahead : {K V : Type 0} (t : K → List ℕ) (H : List ℕ → ℕ) (h : ℕ) (s : Store K V) (ps : List (K × V)) → pairs_of s ≡ ps → IsIndexOf (hashes t H ps ++ h ∷ []) s → IsIndexedAhead s
@@ -32,8 +32,8 @@ module _ {K V : Type 0} {old new : Store K V} {i : ℕ} {x : K × V} {w : V} (t 
   pub entries_changed : entries_of t (pairs_of new) ≡ set_value_at i w (entries_of t (pairs_of old))
   entries_changed = ap (entries_of t) c.pairs ∙ entries-set_value_at t (pairs_of old) i x w q
 
-  pub distinct_kept : no_repeats (texts (entries_of t (pairs_of old))) ≡ true → no_repeats (texts (entries_of t (pairs_of new))) ≡ true
-  distinct_kept d = ap (λ es. no_repeats (texts es)) entries_changed ∙ ap no_repeats (texts-set_value_at i w (entries_of t (pairs_of old))) ∙ d
+  pub distinct_kept : no_repeats (entry_texts (entries_of t (pairs_of old))) ≡ true → no_repeats (entry_texts (entries_of t (pairs_of new))) ≡ true
+  distinct_kept d = ap (λ es. no_repeats (entry_texts es)) entries_changed ∙ ap no_repeats (texts-set_value_at i w (entries_of t (pairs_of old))) ∙ d
 
   pub room_kept : HasRoom (length (entries_of t (pairs_of old))) (buckets_of old) → HasRoom (length (entries_of t (pairs_of new))) (buckets_of new)
   room_kept r = subst (HasRoom (length (entries_of t (pairs_of new)))) (sym c.buckets)

@@ -5,7 +5,7 @@ use mathlib.Core.Path.{ap, ◌∙◌, sym, subst}
 use Rattle.sj_text_core.specs.Keep.{is_seen}
 use Rattle.sj_object.specs.Texts.{no_repeats}
 use Rattle.sj_object.specs.inner.Texts.{or_false, or_of_false, not_and, not_and_of, bytes_eq-sym}
-use Rattle.sj_object.specs.Entries.{Entry, texts}
+use Rattle.sj_object.specs.Entries.{Entry, entry_texts}
 use Rattle.sj_object.specs.HashMap.{Contents}
 use Rattle.sj_object.specs.Index.{buckets_for, HasRoom, HasRoom-more}
 
@@ -26,17 +26,17 @@ module _ {K V : Type 0} where
   set_value k w (e ∷ es) = if bytes_eq k e.0.1 then (e.0, w) ∷ es else e ∷ set_value k w es
 
   -- so too, and where no entry has the key's text, the key and w go last
-  abbrev pub put : K × List ℕ → V → List (Entry K V) → List (Entry K V)
-  put q w [] = (q, w) ∷ []
-  put q w (e ∷ es) = if bytes_eq q.1 e.0.1 then (e.0, w) ∷ es else e ∷ put q w es
+  abbrev pub put_entry : K × List ℕ → V → List (Entry K V) → List (Entry K V)
+  put_entry q w [] = (q, w) ∷ []
+  put_entry q w (e ∷ es) = if bytes_eq q.1 e.0.1 then (e.0, w) ∷ es else e ∷ put_entry q w es
 
   -- without the first entry with the text
-  abbrev pub cut : List ℕ → List (Entry K V) → List (Entry K V)
-  cut k [] = []
-  cut k (e ∷ es) = if bytes_eq k e.0.1 then es else e ∷ cut k es
+  abbrev pub cut_entry : List ℕ → List (Entry K V) → List (Entry K V)
+  cut_entry k [] = []
+  cut_entry k (e ∷ es) = if bytes_eq k e.0.1 then es else e ∷ cut_entry k es
 
-  texts-if : (b : Bool) (e : Entry K V) (w : V) (es fs : List (Entry K V)) → texts fs ≡ texts es → texts (if b then (e.0, w) ∷ es else e ∷ fs) ≡ e.0.1 ∷ texts es
-  texts-if b e w es fs h = elim b as (λ c. texts (if c then (e.0, w) ∷ es else e ∷ fs) ≡ e.0.1 ∷ texts es) [ true ↦ refl | _ ↦ ap (λ l. e.0.1 ∷ l) h ]
+  texts-if : (b : Bool) (e : Entry K V) (w : V) (es fs : List (Entry K V)) → entry_texts fs ≡ entry_texts es → entry_texts (if b then (e.0, w) ∷ es else e ∷ fs) ≡ e.0.1 ∷ entry_texts es
+  texts-if b e w es fs h = elim b as (λ c. entry_texts (if c then (e.0, w) ∷ es else e ∷ fs) ≡ e.0.1 ∷ entry_texts es) [ true ↦ refl | _ ↦ ap (λ l. e.0.1 ∷ l) h ]
 
   length-if : (b : Bool) (e : Entry K V) (w : V) (es fs : List (Entry K V)) → length fs ≡ length es → length (if b then (e.0, w) ∷ es else e ∷ fs) ≡ suc (length es)
   length-if b e w es fs h = elim b as (λ c. length (if c then (e.0, w) ∷ es else e ∷ fs) ≡ suc (length es)) [ true ↦ refl | _ ↦ ap suc h ]
@@ -45,7 +45,7 @@ module _ {K V : Type 0} where
   length-set_value k w [] = refl
   length-set_value k w (e ∷ es) = length-if (bytes_eq k e.0.1) e w es (set_value k w es) (length-set_value k w es)
 
-  pub texts-set_value : (k : List ℕ) (w : V) (es : List (Entry K V)) → texts (set_value k w es) ≡ texts es
+  pub texts-set_value : (k : List ℕ) (w : V) (es : List (Entry K V)) → entry_texts (set_value k w es) ≡ entry_texts es
   texts-set_value k w [] = refl
   texts-set_value k w (e ∷ es) = texts-if (bytes_eq k e.0.1) e w es (set_value k w es) (texts-set_value k w es)
 
@@ -55,10 +55,10 @@ with_value m k w = record { entries = set_value k w m.entries; hasher = m.hasher
 
 module _ {K V : Type 0} where
   -- the value of the i-th entry
-  abbrev pub value_at : ℕ → List (Entry K V) → Option V
-  value_at i [] = None
-  value_at zero (e ∷ es) = Some e.1
-  value_at (suc i) (e ∷ es) = value_at i es
+  abbrev pub nth_value : ℕ → List (Entry K V) → Option V
+  nth_value i [] = None
+  nth_value zero (e ∷ es) = Some e.1
+  nth_value (suc i) (e ∷ es) = nth_value i es
 
   -- the i-th entry has the value w; its key stays
   abbrev pub set_value_at : ℕ → V → List (Entry K V) → List (Entry K V)
@@ -66,7 +66,7 @@ module _ {K V : Type 0} where
   set_value_at zero w (e ∷ es) = (e.0, w) ∷ es
   set_value_at (suc i) w (e ∷ es) = e ∷ set_value_at i w es
 
-  pub texts-set_value_at : (i : ℕ) (w : V) (es : List (Entry K V)) → texts (set_value_at i w es) ≡ texts es
+  pub texts-set_value_at : (i : ℕ) (w : V) (es : List (Entry K V)) → entry_texts (set_value_at i w es) ≡ entry_texts es
   texts-set_value_at i w [] = refl
   texts-set_value_at zero w (e ∷ es) = refl
   texts-set_value_at (suc i) w (e ∷ es) = ap (λ l. e.0.1 ∷ l) (texts-set_value_at i w es)
@@ -76,24 +76,24 @@ module _ {K V : Type 0} where
   length-set_value_at zero w (e ∷ es) = refl
   length-set_value_at (suc i) w (e ∷ es) = ap suc (length-set_value_at i w es)
 
-  pub length-put : (q : K × List ℕ) (w : V) (es : List (Entry K V)) → length (put q w es) ≤ length es + 1
+  pub length-put : (q : K × List ℕ) (w : V) (es : List (Entry K V)) → length (put_entry q w es) ≤ length es + 1
   length-put q w [] = omega arith
   length-put q w (e ∷ es) = by_test (bytes_eq q.1 e.0.1) (length-put q w es) where
-    by_test : (b : Bool) → length (put q w es) ≤ length es + 1 → length (if b then (e.0, w) ∷ es else e ∷ put q w es) ≤ length (e ∷ es) + 1
+    by_test : (b : Bool) → length (put_entry q w es) ≤ length es + 1 → length (if b then (e.0, w) ∷ es else e ∷ put_entry q w es) ≤ length (e ∷ es) + 1
     by_test true h = omega arith
     by_test false h = omega (arith, h)
 
-  unseen-put : (x : List ℕ) (q : K × List ℕ) (w : V) (es : List (Entry K V)) → bytes_eq x q.1 ≡ false → is_seen x (texts es) ≡ false → is_seen x (texts (put q w es)) ≡ false
+  unseen-put : (x : List ℕ) (q : K × List ℕ) (w : V) (es : List (Entry K V)) → bytes_eq x q.1 ≡ false → is_seen x (entry_texts es) ≡ false → is_seen x (entry_texts (put_entry q w es)) ≡ false
   unseen-put x q w [] n u = or_of_false _ _ n refl
   unseen-put x q w (e ∷ es) n u = let r = or_false (bytes_eq x e.0.1) _ u in by_test (bytes_eq q.1 e.0.1) r.0 (unseen-put x q w es n r.1) where
-    by_test : (b : Bool) → bytes_eq x e.0.1 ≡ false → is_seen x (texts (put q w es)) ≡ false → is_seen x (texts (if b then (e.0, w) ∷ es else e ∷ put q w es)) ≡ false
+    by_test : (b : Bool) → bytes_eq x e.0.1 ≡ false → is_seen x (entry_texts (put_entry q w es)) ≡ false → is_seen x (entry_texts (if b then (e.0, w) ∷ es else e ∷ put_entry q w es)) ≡ false
     by_test true r m = u
     by_test false r m = or_of_false _ _ r m
 
-  pub no_repeats-put : (q : K × List ℕ) (w : V) (es : List (Entry K V)) → no_repeats (texts es) ≡ true → no_repeats (texts (put q w es)) ≡ true
+  pub no_repeats-put : (q : K × List ℕ) (w : V) (es : List (Entry K V)) → no_repeats (entry_texts es) ≡ true → no_repeats (entry_texts (put_entry q w es)) ≡ true
   no_repeats-put q w [] d = refl
-  no_repeats-put q w (e ∷ es) d = let n = not_and (is_seen e.0.1 (texts es)) _ d in by_test (bytes_eq q.1 e.0.1) refl n.0 (no_repeats-put q w es n.1) where
-    by_test : (b : Bool) → bytes_eq q.1 e.0.1 ≡ b → is_seen e.0.1 (texts es) ≡ false → no_repeats (texts (put q w es)) ≡ true → no_repeats (texts (if b then (e.0, w) ∷ es else e ∷ put q w es)) ≡ true
+  no_repeats-put q w (e ∷ es) d = let n = not_and (is_seen e.0.1 (entry_texts es)) _ d in by_test (bytes_eq q.1 e.0.1) refl n.0 (no_repeats-put q w es n.1) where
+    by_test : (b : Bool) → bytes_eq q.1 e.0.1 ≡ b → is_seen e.0.1 (entry_texts es) ≡ false → no_repeats (entry_texts (put_entry q w es)) ≡ true → no_repeats (entry_texts (if b then (e.0, w) ∷ es else e ∷ put_entry q w es)) ≡ true
     by_test true h u m = d
     by_test false h u m = not_and_of _ _ (unseen-put e.0.1 q w es (bytes_eq-sym q.1 e.0.1 h) u) m
 
@@ -103,4 +103,4 @@ with_value_at m i w = record { entries = set_value_at i w m.entries; hasher = m.
 
 -- the map after an insert
 abbrev pub with_entry : {K V S : Type 0} → Contents K V S → K × List ℕ → V → Contents K V S
-with_entry m q w = record { entries = put q w m.entries; hasher = m.hasher; buckets = buckets_for (length (put q w m.entries)) m.buckets; distinct = no_repeats-put q w m.entries m.distinct; room = HasRoom-more (length (put q w m.entries)) (length m.entries) m.buckets (length-put q w m.entries) m.room }
+with_entry m q w = record { entries = put_entry q w m.entries; hasher = m.hasher; buckets = buckets_for (length (put_entry q w m.entries)) m.buckets; distinct = no_repeats-put q w m.entries m.distinct; room = HasRoom-more (length (put_entry q w m.entries)) (length m.entries) m.buckets (length-put q w m.entries) m.room }

@@ -5,8 +5,8 @@ use Rattle.std.specs.Prelude.{ℕ, List, map}
 abbrev pub Entry : Type 0 → Type 0 → Type 0
 Entry K V = (K × List ℕ) × V
 
-abbrev pub texts : {K V : Type 0} → List (Entry K V) → List (List ℕ)
-texts es = map (λ e. e.0.1) es
+abbrev pub entry_texts : {K V : Type 0} → List (Entry K V) → List (List ℕ)
+entry_texts es = map (λ e. e.0.1) es
 
 abbrev pub keys : {K V : Type 0} → List (Entry K V) → List K
 keys es = map (λ e. e.0.0) es

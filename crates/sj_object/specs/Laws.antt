@@ -7,7 +7,7 @@ use Rattle.sj_text_core.specs.Keep.{IsKept}
 use Rattle.sj_object.specs.Entries.{Entry}
 use Rattle.sj_object.specs.HashMap.{Contents}
 use Rattle.sj_object.specs.Members.{entry_members}
-use Rattle.sj_object.specs.Edits.{lookup, put, cut}
+use Rattle.sj_object.specs.Edits.{lookup, put_entry, cut_entry}
 use Rattle.sj_object.specs.Steps.{chain, walk}
 
 -- a text is found among entries where it is found among their members
@@ -16,11 +16,11 @@ LooksUpMembers K V = (tree : V → Tree) (k : List ℕ) (es : List (Entry K V)) 
 
 -- a put leaves of entries what it leaves of their members
 abbrev pub PutsMembers : (K V : Type 0) → Type 0
-PutsMembers K V = (tree : V → Tree) (q : K × List ℕ) (v : V) (es : List (Entry K V)) → entry_members tree (put q v es) ≡ members.put q.1 (tree v) (entry_members tree es)
+PutsMembers K V = (tree : V → Tree) (q : K × List ℕ) (v : V) (es : List (Entry K V)) → entry_members tree (put_entry q v es) ≡ members.put q.1 (tree v) (entry_members tree es)
 
 -- a cut leaves of entries what it leaves of their members
 abbrev pub CutsMembers : (K V : Type 0) → Type 0
-CutsMembers K V = (tree : V → Tree) (k : List ℕ) (es : List (Entry K V)) → entry_members tree (cut k es) ≡ members.cut k (entry_members tree es)
+CutsMembers K V = (tree : V → Tree) (k : List ℕ) (es : List (Entry K V)) → entry_members tree (cut_entry k es) ≡ members.cut k (entry_members tree es)
 
 -- the object of a map whose values are kept is kept
 abbrev pub KeepsObjects : (K V S : Type 0) → Type 0

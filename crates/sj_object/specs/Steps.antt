@@ -1,13 +1,13 @@
 -- How many members a lookup compares.
 use Rattle.std.specs.Prelude.{ℕ, suc, ◌%◌, ◌==◌, if◌then◌else◌, List, [], ◌∷◌, bytes_eq, count_by}
 use Rattle.sj_text_core.specs.Keep.{is_seen}
-use Rattle.sj_object.specs.Entries.{Entry, texts}
+use Rattle.sj_object.specs.Entries.{Entry, entry_texts}
 
 module _ {K V : Type 0} where
   -- the entries up to the first with the text; all where there is none
-  abbrev pub visited : List ℕ → List (Entry K V) → ℕ
-  visited k [] = 0
-  visited k (e ∷ es) = if bytes_eq k e.0.1 then 1 else suc (visited k es)
+  abbrev pub entries_visited : List ℕ → List (Entry K V) → ℕ
+  entries_visited k [] = 0
+  entries_visited k (e ∷ es) = if bytes_eq k e.0.1 then 1 else suc (entries_visited k es)
 
   -- the entries from the first with the text on
   abbrev pub found_on : List ℕ → List (Entry K V) → List (Entry K V)
@@ -20,4 +20,4 @@ module _ {K V : Type 0} where
 
   -- how many of these stand at or after the entry with the text; all where there is none
   abbrev pub walk : (List ℕ → ℕ) → ℕ → List ℕ → List (Entry K V) → ℕ
-  walk h n k es = chain h n k (if is_seen k (texts es) then found_on k es else es)
+  walk h n k es = chain h n k (if is_seen k (entry_texts es) then found_on k es else es)

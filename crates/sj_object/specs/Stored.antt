@@ -8,14 +8,14 @@ use Rattle.sj_object.specs.Index.{IsTableOf}
 
 module _ {K V : Type 0} where
   -- the members beside an index, in order
-  abbrev pub members_of : Members K V → List (K × V)
-  members_of (Listed v) = v.items
-  members_of (Ring r) = r.items
+  abbrev pub stored_members : Members K V → List (K × V)
+  stored_members (Listed v) = v.items
+  stored_members (Ring r) = r.items
 
   -- the members in order
   abbrev pub pairs_of : Store K V → List (K × V)
   pairs_of (Plain v) = v.items
-  pairs_of (Hashed b) = members_of b.value.members
+  pairs_of (Hashed b) = stored_members b.value.members
 
   -- how many buckets there are
   abbrev pub buckets_of : Store K V → Option ℕ

@@ -7,9 +7,9 @@ ghost use Rattle.sj_text_core.specs.Nodes.{tree_of, width, IsPreorder};
 ghost use Rattle.sj_text_core.specs.Repeats.{keep_by};
 ghost use Rattle.sj_tape.specs.Marks.{mark};
 ghost use Rattle.sj_tape.specs.Stretches.{nodes_in};
-ghost use Rattle.sj_tape.specs.Value.{tree, choice};
+ghost use Rattle.sj_tape.specs.Value.{tape_tree, tape_choice};
 ghost use Rattle.sj_object.specs.Builder.{AreMade};
-ghost use Rattle.sj_object.specs.inner.Piles.{pile, first_mark, made_of, left_of, IsThere, CanTake, CanTakeItems, CanTakePairs, taken, left, taken_pairs, left_pairs, kept, kept_by, put_pair, shown, Needs, grown};
+ghost use Rattle.sj_object.specs.inner.Piles.{pile, first_mark, made_of, left_of, IsThere, CanTake, CanTakeItems, CanTakePairs, taken, trees_left, taken_pairs, left_pairs, kept_pairs, kept_by, put_pair, entry_pairs, Needs, grown};
 
 use crate::builder::{Builder, Made, MapOf};
 use crate::key::KeyOf;
@@ -70,7 +70,7 @@ fn take_items<'de, V: Builder<'de, Key>, Key: KeyOf<'de>>(
 ) -> Result<Vec<V>, AllocError>
     requires { CanTakeItems len (nodes_in nodes) (pile V.tree made.old.items) }
     ensures means { IfOk result (λ vs. map V.tree vs.items ≡ taken len (nodes_in nodes.entry) (pile V.tree made.old.items)) }
-    ensures rest { OnOk result (pile V.tree made.new.items ≡ left len (nodes_in nodes.entry) (pile V.tree made.old.items)) }
+    ensures rest { OnOk result (pile V.tree made.new.items ≡ trees_left len (nodes_in nodes.entry) (pile V.tree made.old.items)) }
     ensures property { All V.built made.old.items → IfOk result (λ vs. All V.built vs.items × All V.built made.new.items) }
 {
     let mut items = Vec::with_capacity(alloc, len)?;
@@ -92,7 +92,7 @@ fn take_members<'de, V: Builder<'de, Key>, Key: KeyOf<'de>>(
     repeats: Repeats,
 ) -> Result<V::Map, AllocError>
     requires { CanTakePairs len (nodes_in nodes) (pile V.tree made.old.items) }
-    ensures means { IfOk result (λ m. shown V.tree (V.Map.entries m) ≡ kept_by repeats [] (taken_pairs len (nodes_in nodes.entry) (pile V.tree made.old.items))) }
+    ensures means { IfOk result (λ m. entry_pairs V.tree (V.Map.entries m) ≡ kept_by repeats [] (taken_pairs len (nodes_in nodes.entry) (pile V.tree made.old.items))) }
     ensures rest { OnOk result (pile V.tree made.new.items ≡ left_pairs len (nodes_in nodes.entry) (pile V.tree made.old.items)) }
     ensures property { All V.built made.old.items → IfOk result (λ m. AreMade Key.is_made V.built (V.Map.entries m) × All V.built made.new.items) }
 {
@@ -121,7 +121,7 @@ fn put_member<'de, V: Builder<'de, Key>, Key: KeyOf<'de>>(
     repeats: Repeats,
 ) -> Result<usize, AllocError>
     requires { CanTake (nodes_in nodes) (pile V.tree made.old.items) }
-    ensures means { OnOk result (shown V.tree (V.Map.entries members.new) ≡ kept_by repeats (shown V.tree (V.Map.entries members.old)) ((text.now, made_of (first_mark (nodes_in nodes.entry)) (pile V.tree made.old.items)) ∷ [])) }
+    ensures means { OnOk result (entry_pairs V.tree (V.Map.entries members.new) ≡ kept_by repeats (entry_pairs V.tree (V.Map.entries members.old)) ((text.now, made_of (first_mark (nodes_in nodes.entry)) (pile V.tree made.old.items)) ∷ [])) }
     ensures rest { OnOk result (pile V.tree made.new.items ≡ left_of (first_mark (nodes_in nodes.entry)) (pile V.tree made.old.items)) }
     ensures width { IfOk result (λ w. w ≡ width (first_mark (nodes_in nodes.entry))) }
     ensures property { AreMade Key.is_made V.built (V.Map.entries members.old) → All V.built made.old.items → OnOk result (AreMade Key.is_made V.built (V.Map.entries members.new) × All V.built made.new.items) }
@@ -143,7 +143,7 @@ fn add_member<'de, V: Builder<'de, Key>, Key: KeyOf<'de>>(
     nodes: Nodes<'_, 'de>,
 ) -> Result<usize, AllocError>
     requires { CanTake (nodes_in nodes) (pile V.tree made.old.items) }
-    ensures means { OnOk result (shown V.tree (V.Map.entries members.new) ≡ kept (shown V.tree (V.Map.entries members.old)) ((text.now, made_of (first_mark (nodes_in nodes.entry)) (pile V.tree made.old.items)) ∷ [])) }
+    ensures means { OnOk result (entry_pairs V.tree (V.Map.entries members.new) ≡ kept_pairs (entry_pairs V.tree (V.Map.entries members.old)) ((text.now, made_of (first_mark (nodes_in nodes.entry)) (pile V.tree made.old.items)) ∷ [])) }
     ensures rest { OnOk result (pile V.tree made.new.items ≡ left_of (first_mark (nodes_in nodes.entry)) (pile V.tree made.old.items)) }
     ensures width { IfOk result (λ w. w ≡ width (first_mark (nodes_in nodes.entry))) }
     ensures property { AreMade Key.is_made V.built (V.Map.entries members.old) → All V.built made.old.items → OnOk result (AreMade Key.is_made V.built (V.Map.entries members.new) × All V.built made.new.items) }
@@ -170,7 +170,7 @@ fn set_member<'de, V: Builder<'de, Key>, Key: KeyOf<'de>>(
     nodes: Nodes<'_, 'de>,
 ) -> Result<usize, AllocError>
     requires { CanTake (nodes_in nodes) (pile V.tree made.old.items) }
-    ensures means { OnOk result (shown V.tree (V.Map.entries members.new) ≡ put_pair text.now (made_of (first_mark (nodes_in nodes.entry)) (pile V.tree made.old.items)) (shown V.tree (V.Map.entries members.old))) }
+    ensures means { OnOk result (entry_pairs V.tree (V.Map.entries members.new) ≡ put_pair text.now (made_of (first_mark (nodes_in nodes.entry)) (pile V.tree made.old.items)) (entry_pairs V.tree (V.Map.entries members.old))) }
     ensures rest { OnOk result (pile V.tree made.new.items ≡ left_of (first_mark (nodes_in nodes.entry)) (pile V.tree made.old.items)) }
     ensures width { IfOk result (λ w. w ≡ width (first_mark (nodes_in nodes.entry))) }
     ensures property { AreMade Key.is_made V.built (V.Map.entries members.old) → All V.built made.old.items → OnOk result (AreMade Key.is_made V.built (V.Map.entries members.new) × All V.built made.new.items) }
@@ -233,7 +233,7 @@ pub fn build_from_tape<'de, V: Builder<'de, Key>, Key: KeyOf<'de>>(
     alloc: Global,
     value: Value<'_, 'de>,
 ) -> Result<V, AllocError>
-    ensures means { IfOk result (λ v. V.tree v ≡ keep_by (choice value.entry) (tree value.entry)) }
+    ensures means { IfOk result (λ v. V.tree v ≡ keep_by (tape_choice value.entry) (tape_tree value.entry)) }
     ensures property { IfOk result V.built }
 {
     build::<V, Key>(alloc, value.nodes(), value.repeats())

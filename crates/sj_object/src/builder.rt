@@ -5,8 +5,8 @@ ghost use Rattle.sj_text_core.specs.Tree.{Tree, text, list, obj, items_from};
 ghost use Rattle.sj_text_core.specs.Scalars.{static_tree};
 ghost use Rattle.sj_text_core.specs.Keep.{is_seen};
 ghost use Rattle.sj_text_core.specs.Hash.{hash as hash_of_text};
-ghost use Rattle.sj_object.specs.Edits.{put};
-ghost use Rattle.sj_object.specs.Entries.{Entry, texts};
+ghost use Rattle.sj_object.specs.Edits.{put_entry};
+ghost use Rattle.sj_object.specs.Entries.{Entry, entry_texts};
 ghost use Rattle.sj_object.specs.Members.{entry_members};
 ghost use Rattle.sj_object.specs.Builder.{AreMade};
 ghost use Rattle.sj_object.specs.Index.{NeedsHash};
@@ -28,12 +28,12 @@ pub trait MapOf<Key: KeyText, V>: Sized + Drop {
 
     /// Whether a member has the key.
     fn has(&self, key: &str) -> bool
-        ensures { result ≡ is_seen key.now (texts (entries self.now)) };
+        ensures { result ≡ is_seen key.now (entry_texts (entries self.now)) };
 
     /// Puts a member last, whose key is not there. It is refused only for want of memory, and the
     /// key and the value are then given up.
     fn add(&mut self, key: Key, value: V) -> Result<(), AllocError>
-        requires { is_seen (Key.text_of key) (texts (entries self.old)) ≡ false }
+        requires { is_seen (Key.text_of key) (entry_texts (entries self.old)) ≡ false }
         ensures { OnOk result (entries self.new ≡ entries self.old ++ ((key, Key.text_of key), value) ∷ []) };
 
     /// Holds of the numbers that the map takes as the hash of a text.
@@ -46,18 +46,18 @@ pub trait MapOf<Key: KeyText, V>: Sized + Drop {
     /// The same as `has`, where the hash is known.
     fn has_hashed(&self, hash: u64, key: &str) -> bool
         requires { takes self.now hash key.now }
-        ensures { result ≡ is_seen key.now (texts (entries self.now)) };
+        ensures { result ≡ is_seen key.now (entry_texts (entries self.now)) };
 
     /// The same as `add`, where the hash is known.
     fn add_hashed(&mut self, hash: u64, key: Key, value: V) -> Result<(), AllocError>
-        requires absent { is_seen (Key.text_of key) (texts (entries self.old)) ≡ false }
+        requires absent { is_seen (Key.text_of key) (entry_texts (entries self.old)) ≡ false }
         requires hash { takes self.old hash (Key.text_of key) }
         ensures { OnOk result (entries self.new ≡ entries self.old ++ ((key, Key.text_of key), value) ∷ []) };
 
     /// Sets the value of the key, in its place where it is there, else last. It is refused only for
     /// want of memory, and the key and the value are then given up.
     fn set(&mut self, key: Key, value: V) -> Result<(), AllocError>
-        ensures { OnOk result (entries self.new ≡ put (key, Key.text_of key) value (entries self.old)) };
+        ensures { OnOk result (entries self.new ≡ put_entry (key, Key.text_of key) value (entries self.old)) };
 }
 
 impl<K: KeyText + Drop, V: Drop> MapOf<K, V> for HashMap<K, V, ObjectHasher> {
@@ -70,13 +70,13 @@ impl<K: KeyText + Drop, V: Drop> MapOf<K, V> for HashMap<K, V, ObjectHasher> {
     }
 
     fn has(&self, key: &str) -> bool
-        ensures { result ≡ is_seen key.now (texts self.now.entries) }
+        ensures { result ≡ is_seen key.now (entry_texts self.now.entries) }
     {
         self.contains_key(key)
     }
 
     fn add(&mut self, key: K, value: V) -> Result<(), AllocError>
-        requires { is_seen (K.text_of key) (texts self.old.entries) ≡ false }
+        requires { is_seen (K.text_of key) (entry_texts self.old.entries) ≡ false }
         ensures { OnOk result (self.new.entries ≡ self.old.entries ++ ((key, K.text_of key), value) ∷ []) }
     {
         let hash = HashMap::hash_for(self, key.text());
@@ -93,13 +93,13 @@ impl<K: KeyText + Drop, V: Drop> MapOf<K, V> for HashMap<K, V, ObjectHasher> {
 
     fn has_hashed(&self, hash: u64, key: &str) -> bool
         requires { NeedsHash (length self.now.entries) self.now.buckets → hash ≡ hash_of_text key.now }
-        ensures { result ≡ is_seen key.now (texts self.now.entries) }
+        ensures { result ≡ is_seen key.now (entry_texts self.now.entries) }
     {
         self.find(hash, key).is_some()
     }
 
     fn add_hashed(&mut self, hash: u64, key: K, value: V) -> Result<(), AllocError>
-        requires absent { is_seen (K.text_of key) (texts self.old.entries) ≡ false }
+        requires absent { is_seen (K.text_of key) (entry_texts self.old.entries) ≡ false }
         requires hash { NeedsHash (length self.old.entries) self.old.buckets → hash ≡ hash_of_text (K.text_of key) }
         ensures { OnOk result (self.new.entries ≡ self.old.entries ++ ((key, K.text_of key), value) ∷ []) }
     {
@@ -110,7 +110,7 @@ impl<K: KeyText + Drop, V: Drop> MapOf<K, V> for HashMap<K, V, ObjectHasher> {
     }
 
     fn set(&mut self, key: K, value: V) -> Result<(), AllocError>
-        ensures { OnOk result (self.new.entries ≡ put (key, K.text_of key) value self.old.entries) }
+        ensures { OnOk result (self.new.entries ≡ put_entry (key, K.text_of key) value self.old.entries) }
     {
         match self.insert(key, value) {
             Ok(_) => Ok(()),

@@ -2,7 +2,7 @@
 
 ghost use Rattle.std.specs.Prelude.{◌≡◌, ◌↔◌, [], length, true, None, IsTrue, IfOk};
 ghost use Rattle.sj_object.specs.Texts.{no_repeats};
-ghost use Rattle.sj_object.specs.Entries.{texts, keys, values, entries_of};
+ghost use Rattle.sj_object.specs.Entries.{entry_texts, keys, values, entries_of};
 ghost use Rattle.sj_object.specs.Index.{HasRoom};
 ghost use Rattle.sj_object.specs.inner.Index.{HasRoom-prop};
 ghost use Rattle.sj_object.specs.Stored.{pairs_of, buckets_of};
@@ -44,7 +44,7 @@ use store::Store;
 pub struct HashMap<K: KeyText, V, S: KeyHasher> {
     store: Store<K, V>,
     hasher: S,
-    ghost distinct: { no_repeats (texts (entries_of K.text_of (pairs_of store))) ≡ true },
+    ghost distinct: { no_repeats (entry_texts (entries_of K.text_of (pairs_of store))) ≡ true },
     ghost room: { HasRoom (length (entries_of K.text_of (pairs_of store))) (buckets_of store) } by { HasRoom-prop _ _ },
 }
 

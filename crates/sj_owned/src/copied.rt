@@ -4,7 +4,7 @@ ghost use Rattle.std.specs.Prelude.{◌≡◌, ◌≢◌, ◌⊎◌, IfOk, IfErr
 ghost use Rattle.sj_text_core.specs.Tree.{Tree, IsWithin};
 ghost use Rattle.sj_text_core.specs.Grammar.{Spells, IsReadable};
 ghost use Rattle.sj_text_core.specs.Keep.{keep};
-ghost use Rattle.sj_document.specs.Document.{tree};
+ghost use Rattle.sj_document.specs.Document.{document_tree};
 
 use crate::Value;
 use crate::read::to_value;
@@ -14,8 +14,8 @@ use std::alloc::Global;
 /// Reads bytes that stay as they are, as `to_value` reads a copy of them; want of memory for the copy
 /// is `OutOfMemory` too.
 pub fn from_slice(alloc: Global, bytes: &[u8]) -> Result<Value, ErrorKind>
-    ensures means { IfOk result (λ v. (t : Tree) × Spells bytes.now t × IsWithin t × (tree string_bytes v ≡ keep t)) }
-    ensures only { IfOk result (λ v. (u : Tree) → Spells bytes.now u → tree string_bytes v ≡ keep u) }
+    ensures means { IfOk result (λ v. (t : Tree) × Spells bytes.now t × IsWithin t × (document_tree string_bytes v ≡ keep t)) }
+    ensures only { IfOk result (λ v. (u : Tree) → Spells bytes.now u → document_tree string_bytes v ≡ keep u) }
     ensures utf8 { IsErrOf result ErrorKind.InvalidUtf8 → ¬ (IsUtf8 bytes.now) }
     ensures broken { ¬ (IsUtf8 bytes.now) → IsErrOf result ErrorKind.InvalidUtf8 ⊎ IsErrOf result ErrorKind.OutOfMemory }
     ensures err { IfErr result (λ e. e ≢ ErrorKind.InvalidUtf8 → e ≢ ErrorKind.OutOfMemory → ¬ (IsReadable bytes.now)) }
@@ -27,8 +27,8 @@ pub fn from_slice(alloc: Global, bytes: &[u8]) -> Result<Value, ErrorKind>
 /// Reads a text that stays as it is, as `to_value` reads a copy of it; want of memory for the copy is
 /// `OutOfMemory` too.
 pub fn from_str(alloc: Global, text: &str) -> Result<Value, ErrorKind>
-    ensures means { IfOk result (λ v. (t : Tree) × Spells text.now t × IsWithin t × (tree string_bytes v ≡ keep t)) }
-    ensures only { IfOk result (λ v. (u : Tree) → Spells text.now u → tree string_bytes v ≡ keep u) }
+    ensures means { IfOk result (λ v. (t : Tree) × Spells text.now t × IsWithin t × (document_tree string_bytes v ≡ keep t)) }
+    ensures only { IfOk result (λ v. (u : Tree) → Spells text.now u → document_tree string_bytes v ≡ keep u) }
     ensures err { IfErr result (λ e. e ≢ ErrorKind.OutOfMemory → ¬ (IsReadable text.now)) }
 {
     from_slice(alloc, text.as_bytes())

@@ -5,7 +5,7 @@ ghost use Rattle.sj_text_core.specs.Tree.{Tree, IsWithin};
 ghost use Rattle.sj_text_core.specs.Grammar.{Spells, IsReadable};
 ghost use Rattle.sj_text_core.specs.Keep.{keep};
 ghost use Rattle.sj_text_core.specs.Repeats.{keep_by};
-ghost use Rattle.sj_document.specs.Document.{tree};
+ghost use Rattle.sj_document.specs.Document.{document_tree};
 
 use crate::Value;
 use sj_object::{deserialize, deserialize_repeats, deserialize_with_buffers};
@@ -18,8 +18,8 @@ use std::alloc::Global;
 /// `OutOfMemory` where memory for the document was refused; nothing is then said of the bytes.
 pub fn to_value(alloc: Global, bytes: &mut [u8]) -> Result<Value, ErrorKind>
     // What is read is spelled so, within the limit, and nothing else is.
-    ensures means { IfOk result (λ v. (t : Tree) × Spells bytes.old t × IsWithin t × (tree string_bytes v ≡ keep t)) }
-    ensures only { IfOk result (λ v. (u : Tree) → Spells bytes.old u → tree string_bytes v ≡ keep u) }
+    ensures means { IfOk result (λ v. (t : Tree) × Spells bytes.old t × IsWithin t × (document_tree string_bytes v ≡ keep t)) }
+    ensures only { IfOk result (λ v. (u : Tree) → Spells bytes.old u → document_tree string_bytes v ≡ keep u) }
     // The bytes are no UTF-8.
     ensures utf8 { IsErrOf result ErrorKind.InvalidUtf8 ↔ ¬ (IsUtf8 bytes.old) }
     ensures err { IfErr result (λ e. e ≢ ErrorKind.InvalidUtf8 → e ≢ ErrorKind.OutOfMemory → ¬ (IsReadable bytes.old)) }
@@ -35,8 +35,8 @@ pub fn to_value_with_buffers(
     buffers: &mut Buffers,
 ) -> Result<Value, ErrorKind>
     // What is read is spelled so, within the limit, and nothing else is.
-    ensures means { IfOk result (λ v. (t : Tree) × Spells bytes.old t × IsWithin t × (tree string_bytes v ≡ keep t)) }
-    ensures only { IfOk result (λ v. (u : Tree) → Spells bytes.old u → tree string_bytes v ≡ keep u) }
+    ensures means { IfOk result (λ v. (t : Tree) × Spells bytes.old t × IsWithin t × (document_tree string_bytes v ≡ keep t)) }
+    ensures only { IfOk result (λ v. (u : Tree) → Spells bytes.old u → document_tree string_bytes v ≡ keep u) }
     // The bytes are no UTF-8.
     ensures utf8 { IsErrOf result ErrorKind.InvalidUtf8 ↔ ¬ (IsUtf8 bytes.old) }
     ensures err { IfErr result (λ e. e ≢ ErrorKind.InvalidUtf8 → e ≢ ErrorKind.OutOfMemory → ¬ (IsReadable bytes.old)) }
@@ -51,8 +51,8 @@ pub fn to_value_repeats(
     repeats: Repeats,
 ) -> Result<Value, ErrorKind>
     // What is read is spelled so, within the limit, and nothing else is.
-    ensures means { IfOk result (λ v. (t : Tree) × Spells bytes.old t × IsWithin t × (tree string_bytes v ≡ keep_by repeats t)) }
-    ensures only { IfOk result (λ v. (u : Tree) → Spells bytes.old u → tree string_bytes v ≡ keep_by repeats u) }
+    ensures means { IfOk result (λ v. (t : Tree) × Spells bytes.old t × IsWithin t × (document_tree string_bytes v ≡ keep_by repeats t)) }
+    ensures only { IfOk result (λ v. (u : Tree) → Spells bytes.old u → document_tree string_bytes v ≡ keep_by repeats u) }
     // The bytes are no UTF-8.
     ensures utf8 { IsErrOf result ErrorKind.InvalidUtf8 ↔ ¬ (IsUtf8 bytes.old) }
     ensures err { IfErr result (λ e. e ≢ ErrorKind.InvalidUtf8 → e ≢ ErrorKind.OutOfMemory → ¬ (IsReadable bytes.old)) }
@@ -63,8 +63,8 @@ pub fn to_value_repeats(
 /// The same as `to_value`.
 pub fn to_owned_value(alloc: Global, bytes: &mut [u8]) -> Result<Value, ErrorKind>
     // What is read is spelled so, within the limit, and nothing else is.
-    ensures means { IfOk result (λ v. (t : Tree) × Spells bytes.old t × IsWithin t × (tree string_bytes v ≡ keep t)) }
-    ensures only { IfOk result (λ v. (u : Tree) → Spells bytes.old u → tree string_bytes v ≡ keep u) }
+    ensures means { IfOk result (λ v. (t : Tree) × Spells bytes.old t × IsWithin t × (document_tree string_bytes v ≡ keep t)) }
+    ensures only { IfOk result (λ v. (u : Tree) → Spells bytes.old u → document_tree string_bytes v ≡ keep u) }
     // The bytes are no UTF-8.
     ensures utf8 { IsErrOf result ErrorKind.InvalidUtf8 ↔ ¬ (IsUtf8 bytes.old) }
     ensures err { IfErr result (λ e. e ≢ ErrorKind.InvalidUtf8 → e ≢ ErrorKind.OutOfMemory → ¬ (IsReadable bytes.old)) }
@@ -79,8 +79,8 @@ pub fn to_owned_value_with_buffers(
     buffers: &mut Buffers,
 ) -> Result<Value, ErrorKind>
     // What is read is spelled so, within the limit, and nothing else is.
-    ensures means { IfOk result (λ v. (t : Tree) × Spells bytes.old t × IsWithin t × (tree string_bytes v ≡ keep t)) }
-    ensures only { IfOk result (λ v. (u : Tree) → Spells bytes.old u → tree string_bytes v ≡ keep u) }
+    ensures means { IfOk result (λ v. (t : Tree) × Spells bytes.old t × IsWithin t × (document_tree string_bytes v ≡ keep t)) }
+    ensures only { IfOk result (λ v. (u : Tree) → Spells bytes.old u → document_tree string_bytes v ≡ keep u) }
     // The bytes are no UTF-8.
     ensures utf8 { IsErrOf result ErrorKind.InvalidUtf8 ↔ ¬ (IsUtf8 bytes.old) }
     ensures err { IfErr result (λ e. e ≢ ErrorKind.InvalidUtf8 → e ≢ ErrorKind.OutOfMemory → ¬ (IsReadable bytes.old)) }

@@ -8,7 +8,7 @@ use Rattle.sj_text_core.specs.Find.{find_member, nth_item}
 use Rattle.sj_text_core.specs.Keep.{is_seen}
 use Rattle.sj_object.specs.Texts.{no_repeats}
 use Rattle.sj_object.specs.inner.Texts.{or_false, or_of_false, not_and, bytes_eq-sym}
-use Rattle.sj_object.specs.Entries.{Entry, texts}
+use Rattle.sj_object.specs.Entries.{Entry, entry_texts}
 use Rattle.sj_object.proofs.Position.{none_where_unseen}
 use Rattle.sj_object.proofs.Shown.{lookup-entry_members}
 use Rattle.sj_object.specs.Members.{entry_members}
@@ -85,7 +85,7 @@ new-insert k (t ∷ ts) (suc i) d =
     or_of_false _ _ (bytes_eq-sym t k (unseen-insert k t ts i n.0).1) (new-insert k ts i n.1)
 
 module _ {K V : Type 0} where
-  texts-inserted : (es : List (Entry K V)) (i : ℕ) (e : Entry K V) → texts (insert es i e) ≡ insert (texts es) i e.0.1
+  texts-inserted : (es : List (Entry K V)) (i : ℕ) (e : Entry K V) → entry_texts (insert es i e) ≡ insert (entry_texts es) i e.0.1
   texts-inserted [] zero e = refl
   texts-inserted [] (suc i) e = refl
   texts-inserted (x ∷ es) zero e = refl
@@ -98,7 +98,7 @@ module _ {K V : Type 0} where
   entries-longer (x ∷ es) (suc i) e = ap suc (entries-longer es i e)
 
   -- a member that was taken out is not among the others
-  pub gone : (f : V → Tree) (es fs : List (Entry K V)) (i : ℕ) (e : Entry K V) → insert fs i e ≡ es → no_repeats (texts es) ≡ true → find_member e.0.1 (entry_members f fs) ≡ None
+  pub gone : (f : V → Tree) (es fs : List (Entry K V)) (i : ℕ) (e : Entry K V) → insert fs i e ≡ es → no_repeats (entry_texts es) ≡ true → find_member e.0.1 (entry_members f fs) ≡ None
   gone f es fs i e b d =
       sym (lookup-entry_members f e.0.1 fs)
-      ∙ ap (option_map f) (none_where_unseen e.0.1 fs (new-insert e.0.1 (texts fs) i (ap no_repeats (sym (texts-inserted fs i e) ∙ ap texts b) ∙ d)))
+      ∙ ap (option_map f) (none_where_unseen e.0.1 fs (new-insert e.0.1 (entry_texts fs) i (ap no_repeats (sym (texts-inserted fs i e) ∙ ap entry_texts b) ∙ d)))

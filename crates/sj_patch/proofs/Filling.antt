@@ -2,7 +2,7 @@
 use Rattle.std.proofs.Common.{◌≡◌, ℕ, zero, suc, ◌<◌, List, [], ◌∷◌, ◌++◌, Option, Some, None, unwrap_or, option_map, length, get_or, map, take, drop, slice_set, refl, sym, ap, ◌∙◌, arith}
 use Rattle.std.specs.Option.{UnwrapsOrElse}
 use Rattle.sj_text_core.specs.Tree.{Tree, null, no_items}
-use Rattle.sj_document.specs.Document.{tree}
+use Rattle.sj_document.specs.Document.{document_tree}
 use Rattle.sj_document.specs.declared.value.Document.{Document}
 use Rattle.sj_patch.specs.declared.operation.Operation.{Operation}
 use Rattle.sj_patch.specs.Patch.{PlainOperation}
@@ -29,16 +29,16 @@ module _ {T : Type 0} (t : T → List ℕ) where
 
   more_by : (xs : List (Operation T)) (vs : List (Document T)) (v : Document T) (o : PlainOperation)
       → length xs < length vs → v ≡ get_or vs (length xs) v
-      → filled_all (map (meant t) xs ++ o ∷ []) (seen t vs) ≡ filled_all (map (meant t) xs) (seen t vs) ++ filled o (tree t v) ∷ []
+      → filled_all (map (meant t) xs ++ o ∷ []) (seen t vs) ≡ filled_all (map (meant t) xs) (seen t vs) ++ filled o (document_tree t v) ∷ []
   more_by [] [] v o h e = absurd (omega (arith, h))
-  more_by [] (u ∷ us) v o h e = ap (λ x. filled o (tree t x) ∷ []) (sym e)
+  more_by [] (u ∷ us) v o h e = ap (λ x. filled o (document_tree t x) ∷ []) (sym e)
   more_by (x ∷ xs) [] v o h e = absurd (omega (arith, h))
-  more_by (x ∷ xs) (u ∷ us) v o h e = ap (λ os. filled (meant t x) (tree t u) ∷ os) (more_by xs us v o (omega (arith, h)) e)
+  more_by (x ∷ xs) (u ∷ us) v o h e = ap (λ os. filled (meant t x) (document_tree t u) ∷ os) (more_by xs us v o (omega (arith, h)) e)
 
   -- one more operation, which has the value of the item behind those of the others
   pub filled-more : (xs : List (Operation T)) (vs : List (Document T)) (i : ℕ) (v : Document T) (o : PlainOperation)
       → length xs ≡ i → i < length vs → v ≡ get_or vs i v
-      → filled_all (map (meant t) xs ++ o ∷ []) (seen t vs) ≡ filled_all (map (meant t) xs) (seen t vs) ++ filled o (tree t v) ∷ []
+      → filled_all (map (meant t) xs ++ o ∷ []) (seen t vs) ≡ filled_all (map (meant t) xs) (seen t vs) ++ filled o (document_tree t v) ∷ []
   filled-more xs vs i v o n h e = more_by xs vs v o (omega (arith, n, h)) (e ∙ ap (λ k. get_or vs k v) (sym n))
 
   -- one operation more is given what the next item has

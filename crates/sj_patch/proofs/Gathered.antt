@@ -4,7 +4,7 @@ use Rattle.std.specs.List.{insert}
 use Rattle.std.specs.Option.{is_some}
 use Rattle.std.specs.Vec.{vec_capacity}
 use Rattle.sj_text_core.specs.Tree.{Tree, text, list, obj, Items, items_len, Members, members_len}
-use Rattle.sj_document.specs.Document.{tree}
+use Rattle.sj_document.specs.Document.{document_tree}
 use Rattle.sj_text_core.specs.Scalars.{static_tree}
 use Rattle.sj_text_core.specs.declared.static_node.StaticNode.{StaticNode}
 use Rattle.sj_text_core.specs.declared.static_node.StaticNode.TheVariants.{Null, Bool, I64, U64, I128, U128}
@@ -54,7 +54,7 @@ stay_by b u w e = ap (λ b. or_same u (where_so b w)) e
 
 module _ {T : Type 0} (t : T → List ℕ) where
   -- an item with a place
-  pub item_placed : (n i : ℕ) (v : Document T) (is : Items) → is_placed (items_len is) n i ≡ true → item_step t n (i, v) (list is) ≡ list (insert_at i (tree t v) is)
+  pub item_placed : (n i : ℕ) (v : Document T) (is : Items) → is_placed (items_len is) n i ≡ true → item_step t n (i, v) (list is) ≡ list (insert_at i (document_tree t v) is)
   item_placed n i v is e = step_by _ (list is) _ e
 
   -- an item without one
@@ -102,16 +102,16 @@ module _ {T : Type 0} (t : T → List ℕ) where
   static_filled gs (U128 n) = none_filled gs (static_tree (U128 n)) (λ n g. refl) (λ n g. refl)
 
   -- a scalar has no gaps
-  pub scalar_filled : (gs : Gaps T) (d : Document T) → ((s : StaticNode) × (d ≡ Static s)) ⊎ ((s : T) × (d ≡ String s)) → tree t d ≡ gaps_filled t gs (tree t d)
-  scalar_filled gs d (inl h) = let e = ap (tree t) h.1 ∙ tree-Static t h.0 in e ∙ sym (static_filled gs h.0) ∙ ap (gaps_filled t gs) (sym e)
+  pub scalar_filled : (gs : Gaps T) (d : Document T) → ((s : StaticNode) × (d ≡ Static s)) ⊎ ((s : T) × (d ≡ String s)) → document_tree t d ≡ gaps_filled t gs (document_tree t d)
+  scalar_filled gs d (inl h) = let e = ap (document_tree t) h.1 ∙ tree-Static t h.0 in e ∙ sym (static_filled gs h.0) ∙ ap (gaps_filled t gs) (sym e)
   scalar_filled gs d (inr h) =
-      let e : tree t d ≡ text (t h.0) = ap (tree t) h.1 ∙ search (rules, the_lemmas) in
+      let e : document_tree t d ≡ text (t h.0) = ap (document_tree t) h.1 ∙ search (rules, the_lemmas) in
       e ∙ sym (none_filled gs (text (t h.0)) (λ n g. refl) (λ n g. refl)) ∙ ap (gaps_filled t gs) (sym e)
 
   -- one that was taken out, filled
   back_by : (gs : Gaps T) (k : List ℕ) (u v : Tree) (g : Gap T) → Takes t gs k u v g → gap_filled t gs g v ≡ u
-  back_by (gaps.Members room taken) k u v (gap.Member i l x) h = ap (or_same v) (member_any (places room) i (t l) [] k (tree t x) v ∙ h.undo)
-  back_by (gaps.Items room taken) k u v (gap.Item i x) h = ap (or_same v) (item_any (vec_capacity room) i [] k (tree t x) v ∙ h.undo)
+  back_by (gaps.Members room taken) k u v (gap.Member i l x) h = ap (or_same v) (member_any (places room) i (t l) [] k (document_tree t x) v ∙ h.undo)
+  back_by (gaps.Items room taken) k u v (gap.Item i x) h = ap (or_same v) (item_any (vec_capacity room) i [] k (document_tree t x) v ∙ h.undo)
   back_by (gaps.Members room taken) k u v (gap.Item i x) h = absurd h
   back_by (gaps.Items room taken) k u v (gap.Member i l x) h = absurd h
 
@@ -133,37 +133,37 @@ module _ {T : Type 0} (t : T → List ℕ) where
 
   -- a removal is the first of several gaps
   pub first_member : (room : Room T (Document T)) (taken : Vec (ℕ × T × Document T) Global) (i : ℕ) (k : T) (v : Document T) → taken.items ≡ (i, k, v) ∷ [] → IsFirstGap t (reversal.MemberBack room i k) v (gaps.Members room taken)
-  first_member room taken i k v e l u = ap (λ gs. stepped (member_step t (places room)) gs u) e ∙ ap (or_same u) (member_any (places room) i (t k) [] l (tree t v) u)
+  first_member room taken i k v e l u = ap (λ gs. stepped (member_step t (places room)) gs u) e ∙ ap (or_same u) (member_any (places room) i (t k) [] l (document_tree t v) u)
 
   pub first_item : (room : Vec (Document T) Global) (taken : Vec (ℕ × Document T) Global) (i : ℕ) (v : Document T) → taken.items ≡ (i, v) ∷ [] → IsFirstGap t (reversal.ItemBack room i) v (gaps.Items room taken)
-  first_item room taken i v e l u = ap (λ gs. stepped (item_step t (vec_capacity room)) gs u) e ∙ ap (or_same u) (item_any (vec_capacity room) i [] l (tree t v) u)
+  first_item room taken i v e l u = ap (λ gs. stepped (item_step t (vec_capacity room)) gs u) e ∙ ap (or_same u) (item_any (vec_capacity room) i [] l (document_tree t v) u)
 
   -- and fills what the removal left at tokens
-  pub gathered_gap : (gs : Gaps T) (r : Reversal T) (v : Document T) (ls : List (List ℕ)) (k : List ℕ) (u : Tree) → IsFirstGap t r v gs → filled_below (gaps_filled t gs) ls u ≡ undone_at t r (tree t v) (ls ++ k ∷ []) u
-  gathered_gap gs r v ls k u h = filled-last (reversed_whole t r (tree t v)) (reversed_in t r (tree t v)) (gaps_filled t gs) ls k u (h k)
+  pub gathered_gap : (gs : Gaps T) (r : Reversal T) (v : Document T) (ls : List (List ℕ)) (k : List ℕ) (u : Tree) → IsFirstGap t r v gs → filled_below (gaps_filled t gs) ls u ≡ undone_at t r (document_tree t v) (ls ++ k ∷ []) u
+  gathered_gap gs r v ls k u h = filled-last (reversed_whole t r (document_tree t v)) (reversed_in t r (document_tree t v)) (gaps_filled t gs) ls k u (h k)
 
   -- what a map makes of a member that goes back is what the tree makes of it
-  taken_seen : (n i : ℕ) (k : List ℕ) (es : List (Entry T (Document T))) → (is_placed (members_len (entry_members (tree t) es)) n i && not (is_some (find_member k (entry_members (tree t) es)))) ≡ takes n i k es
+  taken_seen : (n i : ℕ) (k : List ℕ) (es : List (Entry T (Document T))) → (is_placed (members_len (entry_members (document_tree t) es)) n i && not (is_some (find_member k (entry_members (document_tree t) es)))) ≡ takes n i k es
   taken_seen n i k es =
-      let found : is_some (find_member k (entry_members (tree t) es)) ≡ is_some (lookup k es) = ap is_some (sym (lookup-entry_members (tree t) k es)) ∙ some-map (tree t) (lookup k es) in
-      (λ j. is_placed (members_len-seen (tree t) es j) n i && not (found j))
+      let found : is_some (find_member k (entry_members (document_tree t) es)) ≡ is_some (lookup k es) = ap is_some (sym (lookup-entry_members (document_tree t) k es)) ∙ some-map (document_tree t) (lookup k es) in
+      (λ j. is_placed (members_len-seen (document_tree t) es j) n i && not (found j))
 
   placed_of : (a b : Boolean) → a && b ≡ true → a ≡ true
   placed_of true b e = refl
   placed_of false b e = e
 
   step_seen : (n i : ℕ) (k : T) (v : Document T) (es : List (Entry T (Document T))) (b : Boolean) → takes n i (t k) es ≡ b
-      → obj (entry_members (tree t) (if b then insert es i ((k, t k), v) else es)) ≡ or_same (obj (entry_members (tree t) es)) (where_so b (obj (insert_member i (t k) (tree t v) (entry_members (tree t) es))))
-  step_seen n i k v es true e = ap obj (members-insert (tree t) es i ((k, t k), v) (placed-within _ n i (placed_of _ _ e)))
+      → obj (entry_members (document_tree t) (if b then insert es i ((k, t k), v) else es)) ≡ or_same (obj (entry_members (document_tree t) es)) (where_so b (obj (insert_member i (t k) (document_tree t v) (entry_members (document_tree t) es))))
+  step_seen n i k v es true e = ap obj (members-insert (document_tree t) es i ((k, t k), v) (placed-within _ n i (placed_of _ _ e)))
   step_seen n i k v es false e = refl
 
-  restored_seen : (n i : ℕ) (k : T) (v : Document T) (es : List (Entry T (Document T))) → obj (entry_members (tree t) (restored n i (k, t k) v es)) ≡ member_step t n (i, k, v) (obj (entry_members (tree t) es))
+  restored_seen : (n i : ℕ) (k : T) (v : Document T) (es : List (Entry T (Document T))) → obj (entry_members (document_tree t) (restored n i (k, t k) v es)) ≡ member_step t n (i, k, v) (obj (entry_members (document_tree t) es))
   restored_seen n i k v es =
-      let ms = entry_members (tree t) es in
-      step_seen n i k v es (takes n i (t k) es) refl ∙ ap (λ b. or_same (obj ms) (where_so b (obj (insert_member i (t k) (tree t v) ms)))) (sym (taken_seen n i (t k) es))
+      let ms = entry_members (document_tree t) es in
+      step_seen n i k v es (takes n i (t k) es) refl ∙ ap (λ b. or_same (obj ms) (where_so b (obj (insert_member i (t k) (document_tree t v) ms)))) (sym (taken_seen n i (t k) es))
 
   -- so too of several
-  pub restored_all-seen : (n : ℕ) (gs : List (ℕ × T × Document T)) (es : List (Entry T (Document T))) → obj (entry_members (tree t) (restored_all t n gs es)) ≡ stepped (member_step t n) gs (obj (entry_members (tree t) es))
+  pub restored_all-seen : (n : ℕ) (gs : List (ℕ × T × Document T)) (es : List (Entry T (Document T))) → obj (entry_members (document_tree t) (restored_all t n gs es)) ≡ stepped (member_step t n) gs (obj (entry_members (document_tree t) es))
   restored_all-seen n [] es = refl
   restored_all-seen n (g ∷ gs) es = restored_seen n g.0 g.1 g.2 (restored_all t n gs es) ∙ ap (member_step t n g) (restored_all-seen n gs es)
 

@@ -6,7 +6,7 @@ use Rattle.sj_text_core.specs.Edits.{put, cut}
 use Rattle.sj_text_core.specs.Places.{place_of}
 use Rattle.sj_text_core.specs.Paths.{by_token, set_found}
 use Rattle.sj_text_core.specs.declared.repeats.Repeats.TheVariants.{First}
-use Rattle.sj_document.specs.Document.{tree}
+use Rattle.sj_document.specs.Document.{document_tree}
 use Rattle.sj_document.specs.declared.value.Document.{Document}
 use Rattle.sj_pointer.specs.Pointed.{token_into}
 use Rattle.sj_document.specs.Items.{insert_at, remove_at}
@@ -55,35 +55,35 @@ not_swapped k v t f = ap (λ o. onwards (or_missing o) (λ _. Ok (set_found (by_
 
 module _ {T : Type 0} (t : T → List ℕ) where
   -- what stood there, swapped
-  pub swap_done : (k : List ℕ) (v : Tree) (old r : Document T) (before after : Tree) → r ≡ old → token_into First k before ≡ Some (tree t old) → after ≡ set_found (by_token k) v before
-      → (swapped_in v k before ≡ Ok after) × (tree t r ≡ or_null (token_into First k before))
-  swap_done k v old r before after q f e = let f' = f ∙ ap (λ d. Some (tree t d)) (sym q) in (swapped k v (tree t r) before f' ∙ ap Ok (sym e), sym (ap or_null f'))
+  pub swap_done : (k : List ℕ) (v : Tree) (old r : Document T) (before after : Tree) → r ≡ old → token_into First k before ≡ Some (document_tree t old) → after ≡ set_found (by_token k) v before
+      → (swapped_in v k before ≡ Ok after) × (document_tree t r ≡ or_null (token_into First k before))
+  swap_done k v old r before after q f e = let f' = f ∙ ap (λ d. Some (document_tree t d)) (sym q) in (swapped k v (document_tree t r) before f' ∙ ap Ok (sym e), sym (ap or_null f'))
 
   -- a new value of a member that was there
-  pub member_put_over : (k : List ℕ) (v old : Document T) (ms : Members) (after : Tree) → find_member k ms ≡ Some (tree t old) → after ≡ obj (put k (tree t v) ms)
+  pub member_put_over : (k : List ℕ) (v old : Document T) (ms : Members) (after : Tree) → find_member k ms ≡ Some (document_tree t old) → after ≡ obj (put k (document_tree t v) ms)
       → Does t (Put v) (k ∷ []) (obj ms) after (record { undo = reversal.Swap; taken = old })
   member_put_over k v old ms after f e = record {
     made = ap Ok (sym e);
-    undo = ap (swapped_in (tree t old) k) e ∙ swap_back k (tree t old) (tree t v) (obj ms) f;
-    answer = ap (λ u. or_null (token_into First k u)) e ∙ ap or_null (find-put_same k (tree t v) ms);
+    undo = ap (swapped_in (document_tree t old) k) e ∙ swap_back k (document_tree t old) (document_tree t v) (obj ms) f;
+    answer = ap (λ u. or_null (token_into First k u)) e ∙ ap or_null (find-put_same k (document_tree t v) ms);
   }
 
   -- a new member
-  pub member_put : (k : List ℕ) (v : Document T) (ms : Members) (after : Tree) (taken : Document T) → find_member k ms ≡ None → after ≡ obj (put k (tree t v) ms)
+  pub member_put : (k : List ℕ) (v : Document T) (ms : Members) (after : Tree) (taken : Document T) → find_member k ms ≡ None → after ≡ obj (put k (document_tree t v) ms)
       → Does t (Put v) (k ∷ []) (obj ms) after (record { undo = reversal.Out; taken = taken })
   member_put k v ms after taken f e = record {
     made = ap Ok (sym e);
-    undo = ap (removed_in k) e ∙ out_back k (tree t v) ms f;
-    answer = ap (λ u. or_null (token_into First k u)) e ∙ ap or_null (find-put_same k (tree t v) ms);
+    undo = ap (removed_in k) e ∙ out_back k (document_tree t v) ms f;
+    answer = ap (λ u. or_null (token_into First k u)) e ∙ ap or_null (find-put_same k (document_tree t v) ms);
   }
 
   -- a new item
-  pub item_put : (k : List ℕ) (i : ℕ) (v : Document T) (is : Items) (after : Tree) (taken : Document T) → place_among (items_len is) k ≡ Some i → i ≤ items_len is → after ≡ list (insert_at i (tree t v) is)
+  pub item_put : (k : List ℕ) (i : ℕ) (v : Document T) (is : Items) (after : Tree) (taken : Document T) → place_among (items_len is) k ≡ Some i → i ≤ items_len is → after ≡ list (insert_at i (document_tree t v) is)
       → Does t (Put v) (k ∷ []) (list is) after (record { undo = reversal.OutItem i; taken = taken })
   item_put k i v is after taken f h e = record {
-    made = ap (λ o. added_at o (tree t v) is) f ∙ ap Ok (sym e);
-    undo = ap (without_item i k) e ∙ item_back i k (tree t v) is h;
-    answer = ap (λ u. or_null (nth i u)) e ∙ ap or_null (nth-insert i (tree t v) is h);
+    made = ap (λ o. added_at o (document_tree t v) is) f ∙ ap Ok (sym e);
+    undo = ap (without_item i k) e ∙ item_back i k (document_tree t v) is h;
+    answer = ap (λ u. or_null (nth i u)) e ∙ ap or_null (nth-insert i (document_tree t v) is h);
   }
 
   -- no place for an item

@@ -3,14 +3,14 @@ use Rattle.std.proofs.Common.{◌≡◌, ℕ, List, [], ◌∷◌, ◌++◌, len
 use Rattle.sj_text_core.specs.Tree.{Tree}
 use Rattle.sj_pointer.specs.Pointed.{pointed}
 use Rattle.sj_patch.specs.Patch.{added, onwards, or_missing, removed, replaced}
-use Rattle.sj_patch.specs.inner.Changed.{carried, or_same, undone, undone_at, undo_one, refilled, reversed_at, taken_at, changed_at, IsNoUndo, Undoes}
+use Rattle.sj_patch.specs.inner.Changed.{carried, or_same, undone, undone_at, undo_one, refilled, reversed_at, taken_at, change_at, IsNoUndo, Undoes}
 use Rattle.sj_patch.specs.declared.steps.Undo.{Undo}
 use Rattle.sj_patch.specs.declared.change.Change.{Change}
 use Rattle.sj_patch.specs.declared.change.Change.TheVariants.{Put, Take, Swap}
 use Rattle.sj_patch.specs.declared.change.Change.TheVariants as change
 use Rattle.sj_patch.specs.declared.reversal.Reversal.{Reversal}
 use Rattle.sj_patch.proofs.Reverting.{swapped-replaced}
-use Rattle.sj_document.specs.Document.{tree}
+use Rattle.sj_document.specs.Document.{document_tree}
 use Rattle.sj_document.specs.declared.value.Document.{Document}
 
 module _ {T : Type 0} (t : T → List ℕ) where
@@ -34,23 +34,23 @@ module _ {T : Type 0} (t : T → List ℕ) where
       → refilled t gap from (taken_at t r path after) after (reversed_at t r v path after) ≡ undone_at t gap moved from before
   filled_back gap r from path v moved before after e f = ap (refilled t gap from (taken_at t r path after) after) e ∙ ap (λ m. undone_at t gap m from before) f
 
-  pub put-added : (v : Document T) (ks : List (List ℕ)) (u : Tree) → changed_at t (Put v) ks u ≡ added ks (tree t v) u
+  pub put-added : (v : Document T) (ks : List (List ℕ)) (u : Tree) → change_at t (Put v) ks u ≡ added ks (document_tree t v) u
   put-added v [] u = refl
   put-added v (k ∷ ks) u = refl
 
-  pub take-removed : (ks : List (List ℕ)) (u : Tree) → changed_at t Take ks u ≡ removed ks u
+  pub take-removed : (ks : List (List ℕ)) (u : Tree) → change_at t Take ks u ≡ removed ks u
   take-removed [] u = refl
   take-removed (k ∷ ks) u = refl
 
   -- where something is found and removed, it is added to what is left
-  pub carried-found : (v : Document T) (from to : List (List ℕ)) (u w : Tree) → changed_at t Take from u ≡ Ok w → pointed from u ≡ Some (tree t v) → carried from to u ≡ added to (tree t v) w
+  pub carried-found : (v : Document T) (from to : List (List ℕ)) (u w : Tree) → change_at t Take from u ≡ Ok w → pointed from u ≡ Some (document_tree t v) → carried from to u ≡ added to (document_tree t v) w
   carried-found v from to u w e f =
       ap (λ r. onwards r (λ w. onwards (or_missing (pointed from u)) (λ v. added to v w))) (sym (take-removed from u) ∙ e)
       ∙ ap (λ o. onwards (or_missing o) (λ v. added to v w)) f
 
-  pub swap-replaced : (v : Document T) (ks : List (List ℕ)) (u : Tree) → changed_at t (Swap v) ks u ≡ replaced ks (tree t v) u
+  pub swap-replaced : (v : Document T) (ks : List (List ℕ)) (u : Tree) → change_at t (Swap v) ks u ≡ replaced ks (document_tree t v) u
   swap-replaced v [] u = refl
-  swap-replaced v (k ∷ ks) u = swapped-replaced k ks (tree t v) u
+  swap-replaced v (k ∷ ks) u = swapped-replaced k ks (document_tree t v) u
 
   -- none is left to undo
   pub undone-none : (xs : List (Undo T)) (u : Tree) → length xs ≡ 0 → undone t xs u ≡ u

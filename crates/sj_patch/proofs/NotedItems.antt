@@ -10,7 +10,7 @@ use Rattle.sj_text_core.proofs.Equality.{same-refl}
 use Rattle.sj_text_core.proofs.Shapes.{same_items_len}
 use Rattle.sj_patch.specs.Patch.{PlainOperation, add, remove}
 use Rattle.sj_patch.specs.Locality.{under}
-use Rattle.sj_patch.specs.inner.Noted.{Leads, Notes, array, between, removals, additions}
+use Rattle.sj_patch.specs.inner.Noted.{Leads, Notes, array, between, removals_at, additions}
 use Rattle.sj_patch.proofs.Leading.{leads-same, leads-join, leads-as}
 use Rattle.sj_patch.proofs.LeadingItems.{next-item, leads-removed, leads-inserted, same-array}
 use Rattle.sj_patch.proofs.Noting.{notes-more, notes-further}
@@ -116,14 +116,14 @@ module _ (n : ℕ) (done : List Tree) (long : length done ≡ n) where
   at-end : n < 2 ^ 64 → place_of (decimal n) ≡ Some (length done)
   at-end h = place-decimal n h ∙ ap Some (sym long)
 
-  pub leads-removals : (ts rest : List Tree) → n + length ts < 2 ^ 64 → IsSingle (array (done ++ (ts ++ rest))) → Leads (removals n (length ts)) (array (done ++ (ts ++ rest))) (array (done ++ rest))
+  pub leads-removals : (ts rest : List Tree) → n + length ts < 2 ^ 64 → IsSingle (array (done ++ (ts ++ rest))) → Leads (removals_at n (length ts)) (array (done ++ (ts ++ rest))) (array (done ++ rest))
   leads-removals [] rest h x = leads-same (array (done ++ rest)) (array (done ++ rest)) x x (same-refl (array (done ++ rest)))
   leads-removals (t ∷ ts) rest h x =
       let fits : n < 2 ^ 64 = omega (arith, h) in
       let less : n + length ts < 2 ^ 64 = omega (arith, h) in
       let k = decimal n in
       let first = leads-removed k done (ts ++ rest) (at-end fits) t x in
-      leads-join (remove (k ∷ []) ∷ []) (removals n (length ts)) (array (done ++ (t ∷ ts ++ rest))) (array (done ++ (ts ++ rest))) (array (done ++ rest)) first (leads-removals ts rest less first.to_single)
+      leads-join (remove (k ∷ []) ∷ []) (removals_at n (length ts)) (array (done ++ (t ∷ ts ++ rest))) (array (done ++ (ts ++ rest))) (array (done ++ rest)) first (leads-removals ts rest less first.to_single)
 
 pub leads-additions : (n : ℕ) (done ts rest : List Tree) → length done ≡ n → n + length ts < 2 ^ 64 → IsSingle (array (done ++ rest)) → IsSingle (array ts) → Leads (additions n ts) (array (done ++ rest)) (array (done ++ (ts ++ rest)))
 leads-additions n done [] rest long h x y = leads-same (array (done ++ rest)) (array (done ++ rest)) x x (same-refl (array (done ++ rest)))
@@ -202,8 +202,8 @@ module _ (xs ys : List Tree) (first end last : ℕ) (in_xs : end + last ≤ leng
   came : length coming ≡ new_end - end
   came = omega (arith, length-drop end (take new_end ys), length-take new_end ys)
 
-  removed : IsSingle (array (done ++ (going ++ tail))) → Leads (removals end (old_end - end)) (array (done ++ (going ++ tail))) (array (done ++ tail))
-  removed x = subst (λ n. Leads (removals end n) (array (done ++ (going ++ tail))) (array (done ++ tail))) gone (leads-removals end done long going tail (omega (arith, gone, few, in_xs)) x)
+  removed : IsSingle (array (done ++ (going ++ tail))) → Leads (removals_at end (old_end - end)) (array (done ++ (going ++ tail))) (array (done ++ tail))
+  removed x = subst (λ n. Leads (removals_at end n) (array (done ++ (going ++ tail))) (array (done ++ tail))) gone (leads-removals end done long going tail (omega (arith, gone, few, in_xs)) x)
 
   inserted : IsSingle (array (done ++ tail)) → IsSingle (array ys) → Leads (additions end coming) (array (done ++ tail)) (array (done ++ (coming ++ tail)))
   inserted x y = leads-additions end done coming tail long (omega (arith, came, also, in_ys)) x (single-drop end (take new_end ys) (single-take new_end ys y))
@@ -220,14 +220,14 @@ module _ (xs ys : List Tree) (first end last : ℕ) (in_xs : end + last ≤ leng
       (same-array (take first xs) (take first ys) (drop first (take end ys)) (drop first (take end ys)) h (same-refl (array (drop first (take end ys)))))
       (same-array coming coming tail (drop new_end ys) (same-refl (array coming)) i))
 
-  pub notes-ends : (place : List (List ℕ)) (before middle later after : List PlainOperation) → Notes place before middle (array xs) (array ys) (array (between first end xs ys)) → later ≡ middle ++ map (under place) (removals end (old_end - end))
+  pub notes-ends : (place : List (List ℕ)) (before middle later after : List PlainOperation) → Notes place before middle (array xs) (array ys) (array (between first end xs ys)) → later ≡ middle ++ map (under place) (removals_at end (old_end - end))
       → after ≡ later ++ map (under place) (additions end coming) → Same (array (take first xs)) (array (take first ys)) → Same (array tail) (array (drop new_end ys)) → IsSingle (array ys) → (length xs ≡ length ys → ⊥)
       → Notes place before after (array xs) (array ys) (array ys)
   notes-ends place before middle later after h n m front back y differ =
       let start = subst (λ w. Leads h.ops (array xs) w) from h.leads in
       let away = removed start.to_single in
-      let first = notes-more place before middle later (removals end (old_end - end)) (array xs) (array ys) (array (between first end xs ys)) (array (done ++ tail)) h n
-      (leads-join h.ops (removals end (old_end - end)) (array xs) (array (done ++ (going ++ tail))) (array (done ++ tail)) start away)
+      let first = notes-more place before middle later (removals_at end (old_end - end)) (array xs) (array ys) (array (between first end xs ys)) (array (done ++ tail)) h n
+      (leads-join h.ops (removals_at end (old_end - end)) (array xs) (array (done ++ (going ++ tail))) (array (done ++ tail)) start away)
       (λ s. absurd (differ (same-length xs ys s))) in
       notes-more place before later after (additions end coming) (array xs) (array ys) (array (done ++ tail)) (array ys) first m
       (leads-as (first.ops ++ additions end coming) (array xs) (array (done ++ (coming ++ tail))) (array ys)
@@ -249,7 +249,7 @@ module _ {A : Type 0} (f : A → Tree) (olds news : List A) (first last end : �
   front-is vs = ap array (sym (take-map f first vs))
 
   pub notes-arrays : (place : List (List ℕ)) (before middle later after : List PlainOperation) → Notes place before middle (array (map f olds)) (array (map f news)) (array (between first end (map f olds) (map f news)))
-      → later ≡ middle ++ map (under place) (removals end (length olds - last - end)) → after ≡ later ++ map (under place) (additions end (map f (drop end (take (length news - last) news))))
+      → later ≡ middle ++ map (under place) (removals_at end (length olds - last - end)) → after ≡ later ++ map (under place) (additions end (map f (drop end (take (length news - last) news))))
       → Same (array (map f (take first olds))) (array (map f (take first news))) → Same (array (map f (drop (length olds - last) olds))) (array (map f (drop (length news - last) news))) → IsSingle (array (map f news)) → (length olds ≡ length news → ⊥)
       → Notes place before after (array (map f olds)) (array (map f news)) (array (map f news))
   notes-arrays place before middle later after h n m front back y differ =
@@ -260,5 +260,5 @@ module _ {A : Type 0} (f : A → Tree) (olds news : List A) (first last end : �
       let behind : first ≤ end = omega (arith, is, in_old, in_new) in
       let coming : map f (drop end (take (length news - last) news)) ≡ drop end (take (length ys - last) ys) = sym (drop-map f end (take (length news - last) news)) ∙ ap (drop end) (sym (take-map f (length news - last) news) ∙ ap (λ k. take k ys) (sym (part-len news))) in
       notes-ends xs ys first end last in_xs in_ys behind (omega (arith, few, length-map olds f)) (omega (arith, also, length-map news f)) place before middle later after h
-      (n ∙ ap (λ k. middle ++ map (under place) (removals end (k - end))) (sym (part-len olds))) (m ∙ ap (λ ts. later ++ map (under place) (additions end ts)) coming)
+      (n ∙ ap (λ k. middle ++ map (under place) (removals_at end (k - end))) (sym (part-len olds))) (m ∙ ap (λ ts. later ++ map (under place) (additions end ts)) coming)
       (same-along _ _ _ _ (front-is olds) (front-is news) front) (same-along _ _ _ _ (back-is olds) (back-is news) back) y (λ e. differ (sym (length-map olds f) ∙ e ∙ length-map news f))

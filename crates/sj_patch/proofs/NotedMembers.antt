@@ -15,7 +15,7 @@ use Rattle.sj_object.specs.Entries.{Entry, entries_of}
 use Rattle.sj_object.specs.HashMap.{Contents}
 use Rattle.sj_object.specs.Members.{entry_members}
 use Rattle.sj_object.proofs.Shown.{lookup-entry_members}
-use Rattle.sj_document.specs.Document.{tree}
+use Rattle.sj_document.specs.Document.{document_tree}
 use Rattle.sj_document.specs.declared.value.Document.{Document}
 use Rattle.sj_patch.specs.Patch.{PlainOperation, add, remove}
 use Rattle.sj_patch.specs.Locality.{under}
@@ -46,8 +46,8 @@ module _ {K V : Type 0} (f : V → Tree) where
   left t s = pairs (entries_of t s)
 
 -- no text names two pairs of a map of documents
-pub single-pairs : {T S : Type 0} (t : T → List ℕ) (m : Contents T (Document T) S) → IsSingle (object (pairs (tree t) m.entries))
-single-pairs t m = subst IsSingle (sym (object-pairs (tree t) m.entries)) (single-object t m)
+pub single-pairs : {T S : Type 0} (t : T → List ℕ) (m : Contents T (Document T) S) → IsSingle (object (pairs (document_tree t) m.entries))
+single-pairs t m = subst IsSingle (sym (object-pairs (document_tree t) m.entries)) (single-object t m)
 
 -- where no text names two pairs, those in front of one have not its text
 there : (k : List ℕ) (t : Tree) (done rest : Pairs) → found k (done ++ (k, t) ∷ rest) ≡ None → ⊥

@@ -7,7 +7,7 @@ use Rattle.sj_text_core.specs.Keep.{IsSingle}
 use Rattle.sj_object.specs.HashMap.{Contents}
 use Rattle.sj_object.specs.Members.{entry_members}
 use Rattle.sj_object.proofs.Kept.{object_kept}
-use Rattle.sj_document.specs.Document.{tree}
+use Rattle.sj_document.specs.Document.{document_tree}
 use Rattle.sj_document.specs.declared.value.Document.{Document}
 use Rattle.sj_document.proofs.Kept.{tree_kept}
 use Rattle.sj_patch.specs.Patch.{PlainOperation, replace}
@@ -19,15 +19,15 @@ use Rattle.sj_patch.proofs.SingleEdits.{single-kept}
 
 -- documents mean trees in which no text names two members
 module _ {T : Type 0} (t : T → List ℕ) where
-  pub single-tree : (v : Document T) → IsSingle (tree t v)
-  single-tree v = single-kept (tree t v) (tree_kept t v)
+  pub single-tree : (v : Document T) → IsSingle (document_tree t v)
+  single-tree v = single-kept (document_tree t v) (tree_kept t v)
 
-  pub single-array : (vs : List (Document T)) → IsSingle (array (map (tree t) vs))
+  pub single-array : (vs : List (Document T)) → IsSingle (array (map (document_tree t) vs))
   single-array [] = tt
   single-array (v ∷ vs) = (single-tree v, single-array vs)
 
-  pub single-object : {S : Type 0} (m : Contents T (Document T) S) → IsSingle (obj (entry_members (tree t) m.entries))
-  single-object m = single-kept _ (object_kept (tree t) (tree_kept t) m)
+  pub single-object : {S : Type 0} (m : Contents T (Document T) S) → IsSingle (obj (entry_members (document_tree t) m.entries))
+  single-object m = single-kept _ (object_kept (document_tree t) (tree_kept t) m)
 
 module _ (place : List (List ℕ)) (before : List PlainOperation) where
   -- nothing

@@ -7,14 +7,14 @@ use Rattle.sj_text_core.specs.Tree.{list, obj, items_len, members_len}
 use Rattle.sj_text_core.specs.Find.{find_member, nth, nth_item}
 use Rattle.sj_text_core.specs.Edits.{cut}
 use Rattle.sj_text_core.specs.Places.{place_of}
-use Rattle.sj_object.specs.Edits.{lookup, cut as cut_entry}
-use Rattle.sj_object.specs.Entries.{Entry, texts}
+use Rattle.sj_object.specs.Edits.{lookup, cut_entry}
+use Rattle.sj_object.specs.Entries.{Entry, entry_texts}
 use Rattle.sj_object.specs.Members.{entry_members}
 use Rattle.sj_object.specs.Rooms.{places}
 use Rattle.sj_object.specs.Texts.{no_repeats}
 use Rattle.sj_object.specs.declared.map.kept_room.Room.{Room}
 use Rattle.sj_object.proofs.Shown.{lookup-entry_members, entry_members-cut}
-use Rattle.sj_document.specs.Document.{tree}
+use Rattle.sj_document.specs.Document.{document_tree}
 use Rattle.sj_document.specs.declared.value.Document.{Document}
 use Rattle.sj_document.specs.Items.{remove_at}
 use Rattle.sj_document.proofs.Arrays.{items_seen, item_at}
@@ -32,7 +32,7 @@ module _ {T : Type 0} (t : T → List ℕ) where
   took_item k i vs ws room v p l e w r =
       let is = items_seen t vs in
       let n = vec_capacity room in
-      let u = tree t v in
+      let u = document_tree t v in
       let found : nth_item i is ≡ Some u = item_at t vs i v l e in
       let rest : items_seen t ws ≡ remove_at i is = ap (items_seen t) w ∙ items-remove t vs i in
       let shorter = remove-len i u is found in
@@ -45,22 +45,22 @@ module _ {T : Type 0} (t : T → List ℕ) where
       }
 
   -- a member, where the room takes all
-  pub took_member : (k : List ℕ) (i : ℕ) (es fs : List (Entry T (Document T))) (room : Room T (Document T)) (l : T) (v : Document T) → Some v ≡ lookup k es → fs ≡ cut_entry k es → insert fs i ((l, t l), v) ≡ es → i ≤ length fs → no_repeats (texts es) ≡ true → length es ≤ places room
-      → Does t Take (k ∷ []) (obj (entry_members (tree t) es)) (obj (entry_members (tree t) fs)) (record { undo = reversal.MemberBack room i l; taken = v })
+  pub took_member : (k : List ℕ) (i : ℕ) (es fs : List (Entry T (Document T))) (room : Room T (Document T)) (l : T) (v : Document T) → Some v ≡ lookup k es → fs ≡ cut_entry k es → insert fs i ((l, t l), v) ≡ es → i ≤ length fs → no_repeats (entry_texts es) ≡ true → length es ≤ places room
+      → Does t Take (k ∷ []) (obj (entry_members (document_tree t) es)) (obj (entry_members (document_tree t) fs)) (record { undo = reversal.MemberBack room i l; taken = v })
   took_member k i es fs room l v answer entries back within distinct r =
-      let u = tree t v in
-      let ms = entry_members (tree t) es in
-      let rest = entry_members (tree t) fs in
+      let u = document_tree t v in
+      let ms = entry_members (document_tree t) es in
+      let rest = entry_members (document_tree t) fs in
       let n = places room in
       let e : Entry T (Document T) = ((l, t l), v) in
-      let found : find_member k ms ≡ Some u = sym (lookup-entry_members (tree t) k es) ∙ ap (option_map (tree t)) (sym answer) in
-      let cut_is : rest ≡ cut k ms = ap (entry_members (tree t)) entries ∙ entry_members-cut (tree t) k es in
-      let size : members_len rest ≡ length fs = members_len-seen (tree t) fs in
+      let found : find_member k ms ≡ Some u = sym (lookup-entry_members (document_tree t) k es) ∙ ap (option_map (document_tree t)) (sym answer) in
+      let cut_is : rest ≡ cut k ms = ap (entry_members (document_tree t)) entries ∙ entry_members-cut (document_tree t) k es in
+      let size : members_len rest ≡ length fs = members_len-seen (document_tree t) fs in
       let longer : suc (length fs) ≡ length es = sym (entries-longer fs i e) ∙ ap length back in
       let q : is_placed (members_len rest) n i ≡ true = placed _ n i (omega (arith, size, longer, r)) (omega (arith, size, within)) in
-      let none = gone (tree t) es fs i e back distinct in
+      let none = gone (document_tree t) es fs i e back distinct in
       record {
         made = removed_member k ms u found ∙ ap (λ ms. Ok (obj ms)) (sym cut_is);
-        undo = so _ _ (λ j. q j && not (is_some (none j))) ∙ ap (λ ms. Ok (obj ms)) (sym (members-insert (tree t) fs i e within) ∙ ap (entry_members (tree t)) back);
+        undo = so _ _ (λ j. q j && not (is_some (none j))) ∙ ap (λ ms. Ok (obj ms)) (sym (members-insert (document_tree t) fs i e within) ∙ ap (entry_members (document_tree t)) back);
         answer = ap (option_and_then (λ v. Some v)) found;
       }

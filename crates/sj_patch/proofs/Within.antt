@@ -7,7 +7,7 @@ use Rattle.sj_text_core.specs.declared.repeats.Repeats.TheVariants.{First}
 use Rattle.sj_text_core.proofs.Writes.{tree_at-set, set_at-same, set_at-twice, tree_at-join}
 use Rattle.sj_pointer.specs.Pointed.{path_of, token_into, pointed, set_pointed}
 use Rattle.sj_patch.specs.Patch.{or_missing, onwards}
-use Rattle.sj_patch.specs.inner.Changed.{Refuses, Wants, Undoes, Answers, ChangesOrReturns, at_tokens, or_null, seen_within, change_in, changed_whole, changed_at, taken_in, taken_at}
+use Rattle.sj_patch.specs.inner.Changed.{Refuses, Wants, Undoes, AnswersChange, ChangesOrReturns, at_tokens, or_null, seen_within, change_in, changed_whole, change_at, taken_in, taken_at}
 use Rattle.sj_text_core.specs.declared.refused.Refused.{Refused}
 use Rattle.sj_text_core.specs.declared.patch_fault.OperationFault.{OperationFault}
 use Rattle.sj_text_core.specs.declared.patch_fault.OperationFault.TheVariants.{Missing}
@@ -78,11 +78,11 @@ module _ {T : Type 0} (t : T → List ℕ) where
   undoes_map (Swap v) P Q f h = f h
   undoes_map (Undo r v) P Q f h = tt
 
-  changed_tokens : (c : Change T) (ls : List (List ℕ)) (k : List ℕ) (u : Tree) → changed_at t c (ls ++ k ∷ []) u ≡ at_last (change_in t c) ls k u
+  changed_tokens : (c : Change T) (ls : List (List ℕ)) (k : List ℕ) (u : Tree) → change_at t c (ls ++ k ∷ []) u ≡ at_last (change_in t c) ls k u
   changed_tokens c ls k u = at-last (changed_whole t c) (change_in t c) ls k u
 
   -- where tokens find a container
-  changed_there : (c : Change T) (ls : List (List ℕ)) (k : List ℕ) (before u : Tree) → pointed ls before ≡ Some u → changed_at t c (ls ++ k ∷ []) before ≡ onwards (change_in t c k u) (λ w. Ok (set_pointed ls w before))
+  changed_there : (c : Change T) (ls : List (List ℕ)) (k : List ℕ) (before u : Tree) → pointed ls before ≡ Some u → change_at t c (ls ++ k ∷ []) before ≡ onwards (change_in t c k u) (λ w. Ok (set_pointed ls w before))
   changed_there c ls k before u f = changed_tokens c ls k before ∙ ap (λ o. onwards (or_missing o) (λ u. onwards (change_in t c k u) (λ w. Ok (set_pointed ls w before)))) f
 
   taken_there : (r : Reversal T) (ls : List (List ℕ)) (k : List ℕ) (before u : Tree) → pointed ls before ≡ Some u → taken_at t r (ls ++ k ∷ []) before ≡ taken_in t r k u
@@ -90,7 +90,7 @@ module _ {T : Type 0} (t : T → List ℕ) where
   taken_there r (l ∷ ls) k before u f = seen-last (taken_in t r) l ls k before ∙ ap (λ o. or_null (option_map (taken_in t r k) o)) f
 
   -- what gives the container back gives the whole back
-  changed_back : (c : Change T) (ls : List (List ℕ)) (k : List ℕ) (before u v : Tree) → pointed ls before ≡ Some u → change_in t c k v ≡ Ok u → changed_at t c (ls ++ k ∷ []) (set_pointed ls v before) ≡ Ok before
+  changed_back : (c : Change T) (ls : List (List ℕ)) (k : List ℕ) (before u v : Tree) → pointed ls before ≡ Some u → change_in t c k v ≡ Ok u → change_at t c (ls ++ k ∷ []) (set_pointed ls v before) ≡ Ok before
   changed_back c ls k before u v f h =
       let p = path_of ls in
       changed_there c ls k (set_pointed ls v before) v (tree_at-set p v u before f) ∙ ap (λ r. onwards r (λ w. Ok (set_pointed ls w (set_pointed ls v before)))) h
@@ -98,7 +98,7 @@ module _ {T : Type 0} (t : T → List ℕ) where
 
   -- what is answered of the container is answered of the whole
   answers_below : (c : Change T) (ls : List (List ℕ)) (k : List ℕ) (before after u v : Tree) (done : Done T) → pointed ls before ≡ Some u → after ≡ set_pointed ls v before
-      → Answers t c (k ∷ []) u v done → Answers t c (ls ++ k ∷ []) before after done
+      → AnswersChange t c (k ∷ []) u v done → AnswersChange t c (ls ++ k ∷ []) before after done
   answers_below (Put w) ls k before after u v done f e h = ap (taken_at t done.undo (ls ++ k ∷ [])) e ∙ taken_there done.undo ls k (set_pointed ls v before) v (tree_at-set (path_of ls) v u before f) ∙ h
   answers_below Take ls k before after u v done f e h =
       ap (λ p. tree_at p before) (map-append by_token ls (k ∷ [])) ∙ tree_at-join (path_of ls) (path_of (k ∷ [])) before ∙ ap (option_and_then (tree_at (path_of (k ∷ [])))) f ∙ h
@@ -110,7 +110,7 @@ module _ {T : Type 0} (t : T → List ℕ) where
       → ChangesOrReturns t c (k ∷ []) u v r → ChangesOrReturns t c (ls ++ k ∷ []) before after r
   changed_below c ls k before after u v (Ok done) f e h = record {
     made = changed_there c ls k before u f ∙ ap (λ r. onwards r (λ w. Ok (set_pointed ls w before))) h.made ∙ ap Ok (sym e);
-    undo = undoes_map c _ _ (λ b. ap (changed_at t (Undo done.undo done.taken) (ls ++ k ∷ [])) e ∙ changed_back (Undo done.undo done.taken) ls k before u v f b) h.undo;
+    undo = undoes_map c _ _ (λ b. ap (change_at t (Undo done.undo done.taken) (ls ++ k ∷ [])) e ∙ changed_back (Undo done.undo done.taken) ls k before u v f b) h.undo;
     answer = answers_below c ls k before after u v done f e h.answer;
   }
   changed_below c ls k before after u v (Err w) f e h = (
@@ -119,5 +119,5 @@ module _ {T : Type 0} (t : T → List ℕ) where
   )
 
   -- where they find none, it is refused
-  pub changed_missing : (c : Change T) (ls : List (List ℕ)) (k : List ℕ) (before : Tree) → pointed ls before ≡ None → changed_at t c (ls ++ k ∷ []) before ≡ Err Missing
+  pub changed_missing : (c : Change T) (ls : List (List ℕ)) (k : List ℕ) (before : Tree) → pointed ls before ≡ None → change_at t c (ls ++ k ∷ []) before ≡ Err Missing
   changed_missing c ls k before f = changed_tokens c ls k before ∙ ap (λ o. onwards (or_missing o) (λ u. onwards (change_in t c k u) (λ w. Ok (set_pointed ls w before)))) f

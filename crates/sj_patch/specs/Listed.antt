@@ -6,27 +6,27 @@ use Rattle.sj_patch.specs.Patch.{PlainOperation, add, remove, replace, move, cop
 use Rattle.sj_patch.specs.Operations.{patch_in}
 
 -- the object of an operation of that name at that path, and what else it takes
-abbrev pub named : List ℕ → List (List ℕ) → Members → Tree
-named op path ms = obj (member (codes "op") (text op) (member (codes "path") (text (pointer_text path)) ms))
+abbrev pub operation_object : List ℕ → List (List ℕ) → Members → Tree
+operation_object op path ms = obj (member (codes "op") (text op) (member (codes "path") (text (pointer_text path)) ms))
 
-abbrev pub with_value : Tree → Members
-with_value v = member (codes "value") v no_members
+abbrev pub value_members : Tree → Members
+value_members v = member (codes "value") v no_members
 
 abbrev pub with_from : List (List ℕ) → Members
 with_from from = member (codes "from") (text (pointer_text from)) no_members
 
 -- the object that lists an operation
-abbrev pub listed : PlainOperation → Tree
-listed (add path v) = named (codes "add") path (with_value v)
-listed (remove path) = named (codes "remove") path no_members
-listed (replace path v) = named (codes "replace") path (with_value v)
-listed (move from path) = named (codes "move") path (with_from from)
-listed (copy from path) = named (codes "copy") path (with_from from)
-listed (test path v) = named (codes "test") path (with_value v)
+abbrev pub listed_operation : PlainOperation → Tree
+listed_operation (add path v) = operation_object (codes "add") path (value_members v)
+listed_operation (remove path) = operation_object (codes "remove") path no_members
+listed_operation (replace path v) = operation_object (codes "replace") path (value_members v)
+listed_operation (move from path) = operation_object (codes "move") path (with_from from)
+listed_operation (copy from path) = operation_object (codes "copy") path (with_from from)
+listed_operation (test path v) = operation_object (codes "test") path (value_members v)
 
 abbrev pub listed_all : List PlainOperation → Items
 listed_all [] = no_items
-listed_all (o ∷ os) = item (listed o) (listed_all os)
+listed_all (o ∷ os) = item (listed_operation o) (listed_all os)
 
 -- what lists operations is read as them
 abbrev pub ListsAreRead : Type 0

@@ -40,32 +40,32 @@ abbrev pub tokens_in : List ℕ → Option (List (List ℕ))
 tokens_in s = if is_begun s && is_escaped s then Some (tokens_of s) else None
 
 -- the text of a member
-abbrev pub text_at : List ℕ → Tree → Option (List ℕ)
-text_at k t = member_as as_text (find k t)
+abbrev pub text_member : List ℕ → Tree → Option (List ℕ)
+text_member k t = member_as as_text (find k t)
 
 -- which operation an object names
 abbrev pub kind_at : Tree → Option Kind
-kind_at t = option_and_then kind_named (text_at (codes "op") t)
+kind_at t = option_and_then kind_named (text_member (codes "op") t)
 
 -- the tokens of a member whose text is a pointer
 abbrev pub tokens_at : List ℕ → Tree → Option (List (List ℕ))
-tokens_at k t = option_and_then tokens_in (text_at k t)
+tokens_at k t = option_and_then tokens_in (text_member k t)
 
 -- a null is a value
-abbrev pub value_at : Tree → Result Tree ItemFault
-value_at t = or_flaw Value (find (codes "value") t)
+abbrev pub value_member : Tree → Result Tree ItemFault
+value_member t = or_flaw Value (find (codes "value") t)
 
 abbrev pub from_at : Tree → Result (List (List ℕ)) ItemFault
 from_at t = or_flaw From (tokens_at (codes "from") t)
 
 -- the operation of a kind at a path, with what it takes of an object
 abbrev pub operation_of : Kind → List (List ℕ) → Tree → Result PlainOperation ItemFault
-operation_of Add path t = read_on (value_at t) (λ v. Ok (add path v))
+operation_of Add path t = read_on (value_member t) (λ v. Ok (add path v))
 operation_of Remove path t = Ok (remove path)
-operation_of Replace path t = read_on (value_at t) (λ v. Ok (replace path v))
+operation_of Replace path t = read_on (value_member t) (λ v. Ok (replace path v))
 operation_of Move path t = read_on (from_at t) (λ from. Ok (move from path))
 operation_of Copy path t = read_on (from_at t) (λ from. Ok (copy from path))
-operation_of Test path t = read_on (value_at t) (λ v. Ok (test path v))
+operation_of Test path t = read_on (value_member t) (λ v. Ok (test path v))
 
 -- which operation an item names; it has to be an object
 abbrev pub kind_of_item : Tree → Result Kind ItemFault

@@ -1,7 +1,7 @@
 //! One operation on a document.
 
 ghost use Rattle.std.specs.Prelude.{◌≡◌, Ok, OnOk, IfErr};
-ghost use Rattle.sj_document.specs.Document.{tree};
+ghost use Rattle.sj_document.specs.Document.{document_tree};
 ghost use Rattle.sj_patch.specs.Patch.{added, replaced, copied, stayed, moved, tested, begins, applied};
 ghost use Rattle.sj_patch.specs.Meant.{meant};
 ghost use Rattle.sj_patch.specs.inner.Changed.{Refuses, undone};
@@ -23,9 +23,9 @@ fn add<'o, T: OwnedText + Drop>(
     value: Document<T>,
     log: &mut Vec<Undo<'o, T>>,
 ) -> Result<(), Refusal>
-    ensures ok { OnOk result (added path.now (tree T.text_of value) (tree T.text_of document.old) ≡ Ok (tree T.text_of document.new)) }
-    ensures fault { IfErr result (λ e. Refuses (Unit {0}) e (added path.now (tree T.text_of value) (tree T.text_of document.old))) }
-    ensures undo { undone T.text_of log.new.items (tree T.text_of document.new) ≡ undone T.text_of log.old.items (tree T.text_of document.old) }
+    ensures ok { OnOk result (added path.now (document_tree T.text_of value) (document_tree T.text_of document.old) ≡ Ok (document_tree T.text_of document.new)) }
+    ensures fault { IfErr result (λ e. Refuses (Unit {0}) e (added path.now (document_tree T.text_of value) (document_tree T.text_of document.old))) }
+    ensures undo { undone T.text_of log.new.items (document_tree T.text_of document.new) ≡ undone T.text_of log.old.items (document_tree T.text_of document.old) }
 {
     change(document, path, Change::Put(value), log)
 }
@@ -36,9 +36,9 @@ fn replace<'o, T: OwnedText + Drop>(
     value: Document<T>,
     log: &mut Vec<Undo<'o, T>>,
 ) -> Result<(), Refusal>
-    ensures ok { OnOk result (replaced path.now (tree T.text_of value) (tree T.text_of document.old) ≡ Ok (tree T.text_of document.new)) }
-    ensures fault { IfErr result (λ e. Refuses (Unit {0}) e (replaced path.now (tree T.text_of value) (tree T.text_of document.old))) }
-    ensures undo { undone T.text_of log.new.items (tree T.text_of document.new) ≡ undone T.text_of log.old.items (tree T.text_of document.old) }
+    ensures ok { OnOk result (replaced path.now (document_tree T.text_of value) (document_tree T.text_of document.old) ≡ Ok (document_tree T.text_of document.new)) }
+    ensures fault { IfErr result (λ e. Refuses (Unit {0}) e (replaced path.now (document_tree T.text_of value) (document_tree T.text_of document.old))) }
+    ensures undo { undone T.text_of log.new.items (document_tree T.text_of document.new) ≡ undone T.text_of log.old.items (document_tree T.text_of document.old) }
 {
     change(document, path, Change::Swap(value), log)
 }
@@ -48,8 +48,8 @@ fn test<T: OwnedText + Drop>(
     path: &Pointer,
     value: &Document<T>,
 ) -> Result<(), Refusal>
-    ensures ok { OnOk result (tested path.now (tree T.text_of value.now) (tree T.text_of document.now) ≡ Ok (tree T.text_of document.now)) }
-    ensures fault { IfErr result (λ e. Refuses (Unit {0}) e (tested path.now (tree T.text_of value.now) (tree T.text_of document.now))) }
+    ensures ok { OnOk result (tested path.now (document_tree T.text_of value.now) (document_tree T.text_of document.now) ≡ Ok (document_tree T.text_of document.now)) }
+    ensures fault { IfErr result (λ e. Refuses (Unit {0}) e (tested path.now (document_tree T.text_of value.now) (document_tree T.text_of document.now))) }
 {
     match find(document, path) {
         Some(found) => {
@@ -69,9 +69,9 @@ fn copy<'o, T: OwnedText + Drop>(
     path: &'o Pointer,
     log: &mut Vec<Undo<'o, T>>,
 ) -> Result<(), Refusal>
-    ensures ok { OnOk result (copied from.now path.now (tree T.text_of document.old) ≡ Ok (tree T.text_of document.new)) }
-    ensures fault { IfErr result (λ e. Refuses (Unit {0}) e (copied from.now path.now (tree T.text_of document.old))) }
-    ensures undo { undone T.text_of log.new.items (tree T.text_of document.new) ≡ undone T.text_of log.old.items (tree T.text_of document.old) }
+    ensures ok { OnOk result (copied from.now path.now (document_tree T.text_of document.old) ≡ Ok (document_tree T.text_of document.new)) }
+    ensures fault { IfErr result (λ e. Refuses (Unit {0}) e (copied from.now path.now (document_tree T.text_of document.old))) }
+    ensures undo { undone T.text_of log.new.items (document_tree T.text_of document.new) ≡ undone T.text_of log.old.items (document_tree T.text_of document.old) }
 {
     match find(document, from) {
         Some(found) => {
@@ -91,8 +91,8 @@ fn is_within(path: &Pointer, other: &Pointer) -> bool
 
 /// What stands there stays.
 fn stay<T: OwnedText + Drop>(document: &Document<T>, from: &Pointer) -> Result<(), Refusal>
-    ensures ok { OnOk result (stayed from.now (tree T.text_of document.now) ≡ Ok (tree T.text_of document.now)) }
-    ensures fault { IfErr result (λ e. Refuses (Unit {0}) e (stayed from.now (tree T.text_of document.now))) }
+    ensures ok { OnOk result (stayed from.now (document_tree T.text_of document.now) ≡ Ok (document_tree T.text_of document.now)) }
+    ensures fault { IfErr result (λ e. Refuses (Unit {0}) e (stayed from.now (document_tree T.text_of document.now))) }
 {
     match find(document, from) {
         Some(_) => Ok(()),
@@ -107,9 +107,9 @@ fn shift<'o, T: OwnedText + Drop>(
     path: &'o Pointer,
     log: &mut Vec<Undo<'o, T>>,
 ) -> Result<(), Refusal>
-    ensures ok { OnOk result (moved from.now path.now (tree T.text_of document.old) ≡ Ok (tree T.text_of document.new)) }
-    ensures fault { IfErr result (λ e. Refuses (Unit {0}) e (moved from.now path.now (tree T.text_of document.old))) }
-    ensures undo { undone T.text_of log.new.items (tree T.text_of document.new) ≡ undone T.text_of log.old.items (tree T.text_of document.old) }
+    ensures ok { OnOk result (moved from.now path.now (document_tree T.text_of document.old) ≡ Ok (document_tree T.text_of document.new)) }
+    ensures fault { IfErr result (λ e. Refuses (Unit {0}) e (moved from.now path.now (document_tree T.text_of document.old))) }
+    ensures undo { undone T.text_of log.new.items (document_tree T.text_of document.new) ≡ undone T.text_of log.old.items (document_tree T.text_of document.old) }
 {
     if is_within(path, from) {
         if is_within(from, path) {
@@ -126,9 +126,9 @@ pub(crate) fn apply<'o, T: OwnedText + Drop>(
     operation: &'o Operation<T>,
     log: &mut Vec<Undo<'o, T>>,
 ) -> Result<(), Refusal>
-    ensures ok { OnOk result (applied (meant T.text_of operation.now) (tree T.text_of document.old) ≡ Ok (tree T.text_of document.new)) }
-    ensures fault { IfErr result (λ e. Refuses (Unit {0}) e (applied (meant T.text_of operation.now) (tree T.text_of document.old))) }
-    ensures undo { undone T.text_of log.new.items (tree T.text_of document.new) ≡ undone T.text_of log.old.items (tree T.text_of document.old) }
+    ensures ok { OnOk result (applied (meant T.text_of operation.now) (document_tree T.text_of document.old) ≡ Ok (document_tree T.text_of document.new)) }
+    ensures fault { IfErr result (λ e. Refuses (Unit {0}) e (applied (meant T.text_of operation.now) (document_tree T.text_of document.old))) }
+    ensures undo { undone T.text_of log.new.items (document_tree T.text_of document.new) ≡ undone T.text_of log.old.items (document_tree T.text_of document.old) }
 {
     match operation {
         Operation::Add { path, value } => add(document, path, value.clone()?, log),

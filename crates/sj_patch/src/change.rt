@@ -3,7 +3,7 @@
 ghost use Rattle.std.specs.Prelude.{◌≡◌, ◌≤◌, IfSome, ◌∷◌, [], map, string_bytes};
 ghost use Rattle.sj_text_core.specs.Tree.{list, obj, items_from};
 ghost use Rattle.sj_object.specs.Members.{entry_members};
-ghost use Rattle.sj_document.specs.Document.{tree};
+ghost use Rattle.sj_document.specs.Document.{document_tree};
 ghost use Rattle.sj_patch.specs.Patch.{place_among};
 ghost use Rattle.sj_patch.specs.inner.Changed.{Changes, ChangesOrReturns};
 
@@ -68,7 +68,7 @@ fn put_member<T: OwnedText + Drop>(
     key: &str,
     value: Document<T>,
 ) -> Result<Done<T>, Refused<Refusal, Document<T>>>
-    ensures { ChangesOrReturns T.text_of (Change.Put value) (key.now ∷ []) (obj (entry_members (tree T.text_of) members.old.entries)) (obj (entry_members (tree T.text_of) members.new.entries)) result }
+    ensures { ChangesOrReturns T.text_of (Change.Put value) (key.now ∷ []) (obj (entry_members (document_tree T.text_of) members.old.entries)) (obj (entry_members (document_tree T.text_of) members.new.entries)) result }
 {
     let Ok(text) = String::from_str(members.allocator(), key) else {
         return Err(Refused {
@@ -100,7 +100,7 @@ fn put_item<T: KeyText + Drop>(
     token: &str,
     value: Document<T>,
 ) -> Result<Done<T>, Refused<Refusal, Document<T>>>
-    ensures { ChangesOrReturns T.text_of (Change.Put value) (token.now ∷ []) (list (items_from (map (tree T.text_of) items.old.items))) (list (items_from (map (tree T.text_of) items.new.items))) result }
+    ensures { ChangesOrReturns T.text_of (Change.Put value) (token.now ∷ []) (list (items_from (map (document_tree T.text_of) items.old.items))) (list (items_from (map (document_tree T.text_of) items.new.items))) result }
 {
     let Some(at) = place(token, items.len()) else {
         return Err(Refused {
@@ -125,7 +125,7 @@ fn put<T: OwnedText + Drop>(
     token: &str,
     value: Document<T>,
 ) -> Result<Done<T>, Refused<Refusal, Document<T>>>
-    ensures { ChangesOrReturns T.text_of (Change.Put value) (token.now ∷ []) (tree T.text_of holder.old) (tree T.text_of holder.new) result }
+    ensures { ChangesOrReturns T.text_of (Change.Put value) (token.now ∷ []) (document_tree T.text_of holder.old) (document_tree T.text_of holder.new) result }
 {
     match holder {
         Document::Object(members) => put_member(members, token, value),
@@ -138,7 +138,7 @@ fn put<T: OwnedText + Drop>(
 }
 
 fn take_member<T: KeyText + Drop>(members: &mut Object<T>, key: &str) -> Result<Done<T>, Refusal>
-    ensures { Changes T.text_of Change.Take (key.now ∷ []) (obj (entry_members (tree T.text_of) members.old.entries)) (obj (entry_members (tree T.text_of) members.new.entries)) result }
+    ensures { Changes T.text_of Change.Take (key.now ∷ []) (obj (entry_members (document_tree T.text_of) members.old.entries)) (obj (entry_members (document_tree T.text_of) members.new.entries)) result }
 {
     let room = members.room()?;
     match members.shift_remove_full(key) {
@@ -154,7 +154,7 @@ fn take_item<T: KeyText + Drop>(
     items: &mut Vec<Document<T>>,
     token: &str,
 ) -> Result<Done<T>, Refusal>
-    ensures { Changes T.text_of Change.Take (token.now ∷ []) (list (items_from (map (tree T.text_of) items.old.items))) (list (items_from (map (tree T.text_of) items.new.items))) result }
+    ensures { Changes T.text_of Change.Take (token.now ∷ []) (list (items_from (map (document_tree T.text_of) items.old.items))) (list (items_from (map (document_tree T.text_of) items.new.items))) result }
 {
     let Some(index) = position(token) else {
         return Err(Refusal::Fault(OperationFault::Missing));
@@ -172,7 +172,7 @@ fn take_item<T: KeyText + Drop>(
 }
 
 fn take<T: OwnedText + Drop>(holder: &mut Document<T>, token: &str) -> Result<Done<T>, Refusal>
-    ensures { Changes T.text_of Change.Take (token.now ∷ []) (tree T.text_of holder.old) (tree T.text_of holder.new) result }
+    ensures { Changes T.text_of Change.Take (token.now ∷ []) (document_tree T.text_of holder.old) (document_tree T.text_of holder.new) result }
 {
     match holder {
         Document::Object(members) => take_member(members, token),
@@ -198,7 +198,7 @@ fn change_in<T: OwnedText + Drop>(
     token: &str,
     change: Change<T>,
 ) -> Result<Done<T>, Refused<Refusal, Document<T>>>
-    ensures { ChangesOrReturns T.text_of change (token.now ∷ []) (tree T.text_of holder.old) (tree T.text_of holder.new) result }
+    ensures { ChangesOrReturns T.text_of change (token.now ∷ []) (document_tree T.text_of holder.old) (document_tree T.text_of holder.new) result }
 {
     match change {
         Change::Put(value) => put(holder, token, value),
@@ -239,7 +239,7 @@ pub(crate) struct AtToken<'k, T: KeyText> {
 impl<'k, T: OwnedText + Drop> ChangeIn<Document<T>> for AtToken<'k, T> {
     type Answer = Result<Done<T>, Refused<Refusal, Document<T>>>;
 
-    ghost makes = { λ c v w r. ChangesOrReturns T.text_of c.change (c.token.now ∷ []) (tree T.text_of v) (tree T.text_of w) r };
+    ghost makes = { λ c v w r. ChangesOrReturns T.text_of c.change (c.token.now ∷ []) (document_tree T.text_of v) (document_tree T.text_of w) r };
 
     fn change(self, holder: &mut Document<T>) -> Result<Done<T>, Refused<Refusal, Document<T>>> {
         let AtToken { token, change } = self;

@@ -4,11 +4,11 @@ ghost use Rattle.std.specs.Prelude.{◌≡◌, ◌-◌, ◌≤◌, [], ◌∷◌
 ghost use Rattle.sj_text_core.specs.Tree.{obj, paired};
 ghost use Rattle.sj_text_core.specs.Same.{Same};
 ghost use Rattle.sj_object.specs.Members.{entry_members};
-ghost use Rattle.sj_document.specs.Document.{tree};
+ghost use Rattle.sj_document.specs.Document.{document_tree};
 ghost use Rattle.sj_patch.specs.Diff.{Becomes};
 ghost use Rattle.sj_patch.specs.Locality.{under};
 ghost use Rattle.sj_patch.specs.Meant.{meant};
-ghost use Rattle.sj_patch.specs.inner.Noted.{token_text, place_of, noted_by, Notes, array, between, removals, additions, unmatched, new_members};
+ghost use Rattle.sj_patch.specs.inner.Noted.{token_meant, noted_path, noted_by, Notes, array, between, removals_at, additions, unmatched, new_members};
 ghost use Rattle.sj_patch.specs.Patch.{add, remove};
 
 use crate::ends::{same_from_the_back, same_from_the_front};
@@ -38,8 +38,8 @@ impl<'d, T: OwnedText + Drop> Differences<'d, T> {
         from: &'d Document<T>,
         to: &'d Document<T>,
     ) -> Result<Vec<Operation<T>>, AllocError>
-        ensures becomes { IfOk result (λ operations. Becomes (map (meant T.text_of) operations.items) (tree T.text_of from.now) (tree T.text_of to.now)) }
-        ensures none { IfOk result (λ operations. Same (tree T.text_of from.now) (tree T.text_of to.now) → operations.items ≡ []) }
+        ensures becomes { IfOk result (λ operations. Becomes (map (meant T.text_of) operations.items) (document_tree T.text_of from.now) (document_tree T.text_of to.now)) }
+        ensures none { IfOk result (λ operations. Same (document_tree T.text_of from.now) (document_tree T.text_of to.now) → operations.items ≡ []) }
     {
         let mut differences = Differences {
             alloc,
@@ -59,7 +59,7 @@ impl<'d, T: OwnedText + Drop> Differences<'d, T> {
         levels: usize,
     ) -> Result<(), AllocError>
         ensures place { OnOk result (self.new.place.items ≡ self.old.place.items) }
-        ensures notes { OnOk result (Notes (place_of self.old) (noted_by T.text_of self.old) (noted_by T.text_of self.new) (tree T.text_of from.now) (tree T.text_of to.now) (tree T.text_of to.now)) }
+        ensures notes { OnOk result (Notes (noted_path self.old) (noted_by T.text_of self.old) (noted_by T.text_of self.new) (document_tree T.text_of from.now) (document_tree T.text_of to.now) (document_tree T.text_of to.now)) }
     {
         match from {
             Document::Object(old) => match to {
@@ -86,7 +86,7 @@ impl<'d, T: OwnedText + Drop> Differences<'d, T> {
         levels: usize,
     ) -> Result<(), AllocError>
         ensures place { OnOk result (self.new.place.items ≡ self.old.place.items) }
-        ensures notes { OnOk result (Notes (place_of self.old ++ token_text token.entry ∷ []) (noted_by T.text_of self.old) (noted_by T.text_of self.new) (tree T.text_of from.now) (tree T.text_of to.now) (tree T.text_of to.now)) }
+        ensures notes { OnOk result (Notes (noted_path self.old ++ token_meant token.entry ∷ []) (noted_by T.text_of self.old) (noted_by T.text_of self.new) (document_tree T.text_of from.now) (document_tree T.text_of to.now) (document_tree T.text_of to.now)) }
     {
         self.place.push(token)?;
         self.compare(from, to, levels)?;
@@ -97,7 +97,7 @@ impl<'d, T: OwnedText + Drop> Differences<'d, T> {
     /// Notes that the value goes in the place of the other, unless they are the same.
     fn replace(&mut self, from: &Document<T>, to: &Document<T>) -> Result<(), AllocError>
         ensures place { OnOk result (self.new.place.items ≡ self.old.place.items) }
-        ensures notes { OnOk result (Notes (place_of self.old) (noted_by T.text_of self.old) (noted_by T.text_of self.new) (tree T.text_of from.now) (tree T.text_of to.now) (tree T.text_of to.now)) }
+        ensures notes { OnOk result (Notes (noted_path self.old) (noted_by T.text_of self.old) (noted_by T.text_of self.new) (document_tree T.text_of from.now) (document_tree T.text_of to.now) (document_tree T.text_of to.now)) }
     {
         if *from == *to {
             return Ok(());
@@ -110,7 +110,7 @@ impl<'d, T: OwnedText + Drop> Differences<'d, T> {
 
     /// The pointer to the member or item of that token.
     fn path_to(&self, token: Token) -> Result<Pointer, AllocError>
-        ensures { IfOk result (λ path. path ≡ place_of self.now ++ token_text token.entry ∷ []) }
+        ensures { IfOk result (λ path. path ≡ noted_path self.now ++ token_meant token.entry ∷ []) }
     {
         let mut path = pointer_of(self.alloc, self.place.as_slice())?;
         path.push(text_of(self.alloc, token)?)?;
@@ -120,7 +120,7 @@ impl<'d, T: OwnedText + Drop> Differences<'d, T> {
     /// Notes that the member or item of that token goes.
     fn remove(&mut self, token: Token) -> Result<(), AllocError>
         ensures place { OnOk result (self.new.place.items ≡ self.old.place.items) }
-        ensures noted { OnOk result (noted_by T.text_of self.new ≡ noted_by T.text_of self.old ++ map (under (place_of self.old)) (remove (token_text token.entry ∷ []) ∷ [])) }
+        ensures noted { OnOk result (noted_by T.text_of self.new ≡ noted_by T.text_of self.old ++ map (under (noted_path self.old)) (remove (token_meant token.entry ∷ []) ∷ [])) }
     {
         let path = self.path_to(token)?;
         self.operations.push(Operation::Remove { path })?;
@@ -130,7 +130,7 @@ impl<'d, T: OwnedText + Drop> Differences<'d, T> {
     /// Notes that the value comes to that token.
     fn add(&mut self, token: Token, value: &Document<T>) -> Result<(), AllocError>
         ensures place { OnOk result (self.new.place.items ≡ self.old.place.items) }
-        ensures noted { OnOk result (noted_by T.text_of self.new ≡ noted_by T.text_of self.old ++ map (under (place_of self.old)) (add (token_text token.entry ∷ []) (tree T.text_of value.now) ∷ [])) }
+        ensures noted { OnOk result (noted_by T.text_of self.new ≡ noted_by T.text_of self.old ++ map (under (noted_path self.old)) (add (token_meant token.entry ∷ []) (document_tree T.text_of value.now) ∷ [])) }
     {
         let path = self.path_to(token)?;
         let value = value.clone()?;
@@ -147,7 +147,7 @@ impl<'d, T: OwnedText + Drop> Differences<'d, T> {
         levels: usize,
     ) -> Result<(), AllocError>
         ensures place { OnOk result (self.new.place.items ≡ self.old.place.items) }
-        ensures notes { OnOk result (Notes (place_of self.old) (noted_by T.text_of self.old) (noted_by T.text_of self.new) (obj (entry_members (tree T.text_of) old.now.entries)) (obj (entry_members (tree T.text_of) new.now.entries)) (obj (entry_members (tree T.text_of) new.now.entries))) }
+        ensures notes { OnOk result (Notes (noted_path self.old) (noted_by T.text_of self.old) (noted_by T.text_of self.new) (obj (entry_members (document_tree T.text_of) old.now.entries)) (obj (entry_members (document_tree T.text_of) new.now.entries)) (obj (entry_members (document_tree T.text_of) new.now.entries))) }
     {
         let mut others = new.iter();
         for (key, value) in old.iter() {
@@ -163,7 +163,7 @@ impl<'d, T: OwnedText + Drop> Differences<'d, T> {
     /// Notes that the members come whose keys were not there.
     fn add_members(&mut self, old: &Object<T>, new: &Object<T>) -> Result<(), AllocError>
         ensures place { OnOk result (self.new.place.items ≡ self.old.place.items) }
-        ensures noted { OnOk result (noted_by T.text_of self.new ≡ noted_by T.text_of self.old ++ map (under (place_of self.old)) (new_members (unmatched (paired (entry_members (tree T.text_of) old.now.entries)) (paired (entry_members (tree T.text_of) new.now.entries))))) }
+        ensures noted { OnOk result (noted_by T.text_of self.new ≡ noted_by T.text_of self.old ++ map (under (noted_path self.old)) (new_members (unmatched (paired (entry_members (document_tree T.text_of) old.now.entries)) (paired (entry_members (document_tree T.text_of) new.now.entries))))) }
     {
         let mut others = old.iter();
         for (key, value) in new.iter() {
@@ -186,7 +186,7 @@ impl<'d, T: OwnedText + Drop> Differences<'d, T> {
         levels: usize,
     ) -> Result<(), AllocError>
         ensures place { OnOk result (self.new.place.items ≡ self.old.place.items) }
-        ensures notes { OnOk result (Notes (place_of self.old) (noted_by T.text_of self.old) (noted_by T.text_of self.new) (array (map (tree T.text_of) old.now)) (array (map (tree T.text_of) new.now)) (array (map (tree T.text_of) new.now))) }
+        ensures notes { OnOk result (Notes (noted_path self.old) (noted_by T.text_of self.old) (noted_by T.text_of self.new) (array (map (document_tree T.text_of) old.now)) (array (map (document_tree T.text_of) new.now)) (array (map (document_tree T.text_of) new.now))) }
     {
         if old.len() == new.len() {
             return self.compare_pairs(old, new, 0, old.len(), levels);
@@ -215,7 +215,7 @@ impl<'d, T: OwnedText + Drop> Differences<'d, T> {
         requires in_old { end ≤ length old.now }
         requires in_new { end ≤ length new.now }
         ensures place { OnOk result (self.new.place.items ≡ self.old.place.items) }
-        ensures notes { OnOk result (Notes (place_of self.old) (noted_by T.text_of self.old) (noted_by T.text_of self.new) (array (map (tree T.text_of) old.now)) (array (map (tree T.text_of) new.now)) (array (between first end (map (tree T.text_of) old.now) (map (tree T.text_of) new.now)))) }
+        ensures notes { OnOk result (Notes (noted_path self.old) (noted_by T.text_of self.old) (noted_by T.text_of self.new) (array (map (document_tree T.text_of) old.now)) (array (map (document_tree T.text_of) new.now)) (array (between first end (map (document_tree T.text_of) old.now) (map (document_tree T.text_of) new.now)))) }
     {
         for i in first..end {
             self.compare_at(Token::Position(i), &old[i], &new[i], levels)?;
@@ -227,7 +227,7 @@ impl<'d, T: OwnedText + Drop> Differences<'d, T> {
     fn remove_items(&mut self, first: usize, end: usize) -> Result<(), AllocError>
         requires { first ≤ end }
         ensures place { OnOk result (self.new.place.items ≡ self.old.place.items) }
-        ensures noted { OnOk result (noted_by T.text_of self.new ≡ noted_by T.text_of self.old ++ map (under (place_of self.old)) (removals first (end - first))) }
+        ensures noted { OnOk result (noted_by T.text_of self.new ≡ noted_by T.text_of self.old ++ map (under (noted_path self.old)) (removals_at first (end - first))) }
     {
         for _ in first..end {
             self.remove(Token::Position(first))?;
@@ -245,7 +245,7 @@ impl<'d, T: OwnedText + Drop> Differences<'d, T> {
         requires in_order { first ≤ end }
         requires in_items { end ≤ length items.now }
         ensures place { OnOk result (self.new.place.items ≡ self.old.place.items) }
-        ensures noted { OnOk result (noted_by T.text_of self.new ≡ noted_by T.text_of self.old ++ map (under (place_of self.old)) (additions first (map (tree T.text_of) (drop first (take end items.now))))) }
+        ensures noted { OnOk result (noted_by T.text_of self.new ≡ noted_by T.text_of self.old ++ map (under (noted_path self.old)) (additions first (map (document_tree T.text_of) (drop first (take end items.now))))) }
     {
         for i in first..end {
             self.add(Token::Position(i), &items[i])?;

@@ -2,7 +2,7 @@
 
 ghost use Rattle.std.specs.Prelude.{◌≡◌, [], map, IfOk};
 ghost use Rattle.sj_text_core.specs.Same.{Same};
-ghost use Rattle.sj_document.specs.Document.{tree};
+ghost use Rattle.sj_document.specs.Document.{document_tree};
 ghost use Rattle.sj_patch.specs.Diff.{Becomes};
 ghost use Rattle.sj_patch.specs.Meant.{meant};
 
@@ -21,8 +21,8 @@ pub fn diff<T: OwnedText + Drop>(
     from: &Document<T>,
     to: &Document<T>,
 ) -> Result<Vec<Operation<T>>, AllocError>
-    ensures becomes { IfOk result (λ operations. Becomes (map (meant T.text_of) operations.items) (tree T.text_of from.now) (tree T.text_of to.now)) }
-    ensures none { IfOk result (λ operations. Same (tree T.text_of from.now) (tree T.text_of to.now) → operations.items ≡ []) }
+    ensures becomes { IfOk result (λ operations. Becomes (map (meant T.text_of) operations.items) (document_tree T.text_of from.now) (document_tree T.text_of to.now)) }
+    ensures none { IfOk result (λ operations. Same (document_tree T.text_of from.now) (document_tree T.text_of to.now) → operations.items ≡ []) }
 {
     Differences::between(alloc, from, to)
 }

@@ -2,7 +2,7 @@
 
 ghost use Rattle.std.specs.Prelude.{◌+◌, ◌-◌, ◌≤◌, length, map, take, drop};
 ghost use Rattle.sj_text_core.specs.Same.{Same};
-ghost use Rattle.sj_document.specs.Document.{tree};
+ghost use Rattle.sj_document.specs.Document.{document_tree};
 ghost use Rattle.sj_patch.specs.inner.Noted.{array};
 
 use sj_document::Document;
@@ -12,7 +12,7 @@ use sj_object::KeyText;
 pub(crate) fn same_from_the_front<T: KeyText>(old: &[Document<T>], new: &[Document<T>]) -> usize
     ensures in_old { result ≤ length old.now }
     ensures in_new { result ≤ length new.now }
-    ensures same { Same (array (map (tree T.text_of) (take result old.now))) (array (map (tree T.text_of) (take result new.now))) }
+    ensures same { Same (array (map (document_tree T.text_of) (take result old.now))) (array (map (document_tree T.text_of) (take result new.now))) }
 {
     let end = old.len().min(new.len());
     for i in 0..end {
@@ -34,7 +34,7 @@ pub(crate) fn same_from_the_back<T: KeyText>(
     requires in_new { first ≤ length new.now }
     ensures in_old { first + result ≤ length old.now }
     ensures in_new { first + result ≤ length new.now }
-    ensures same { Same (array (map (tree T.text_of) (drop (length old.now - result) old.now))) (array (map (tree T.text_of) (drop (length new.now - result) new.now))) }
+    ensures same { Same (array (map (document_tree T.text_of) (drop (length old.now - result) old.now))) (array (map (document_tree T.text_of) (drop (length new.now - result) new.now))) }
 {
     let most = old.len().min(new.len()) - first;
     for i in 0..most {

@@ -4,7 +4,7 @@ ghost use Rattle.std.specs.Prelude.{◌≡◌, ◌≤◌, OnOk, map, string_byte
 ghost use Rattle.std.specs.Vec.{vec_capacity};
 ghost use Rattle.sj_text_core.specs.Tree.{Tree, list, obj, items_from};
 ghost use Rattle.sj_object.specs.Members.{entry_members};
-ghost use Rattle.sj_document.specs.Document.{tree};
+ghost use Rattle.sj_document.specs.Document.{document_tree};
 ghost use Rattle.sj_patch.specs.inner.Changed.{TakesBeside, IsGapOf, HasPlace, gap_filled, gaps_filled, items_filled};
 
 use crate::reversal::has_place;
@@ -88,7 +88,7 @@ fn take_member_beside<T: KeyText + Drop>(
     key: &str,
     gaps: &Gaps<T>,
 ) -> Option<Gap<T>>
-    ensures { TakesBeside T.text_of gaps.now key.now (obj (entry_members (tree T.text_of) members.old.entries)) (obj (entry_members (tree T.text_of) members.new.entries)) result }
+    ensures { TakesBeside T.text_of gaps.now key.now (obj (entry_members (document_tree T.text_of) members.old.entries)) (obj (entry_members (document_tree T.text_of) members.new.entries)) result }
 {
     let Gaps::Members { room, taken: _ } = gaps else {
         return None;
@@ -105,7 +105,7 @@ fn take_item_beside<T: KeyText + Drop>(
     token: &str,
     gaps: &Gaps<T>,
 ) -> Option<Gap<T>>
-    ensures { TakesBeside T.text_of gaps.now token.now (list (items_from (map (tree T.text_of) items.old.items))) (list (items_from (map (tree T.text_of) items.new.items))) result }
+    ensures { TakesBeside T.text_of gaps.now token.now (list (items_from (map (document_tree T.text_of) items.old.items))) (list (items_from (map (document_tree T.text_of) items.new.items))) result }
 {
     let Gaps::Items { room, taken: _ } = gaps else {
         return None;
@@ -124,7 +124,7 @@ fn take_beside<T: KeyText + Drop>(
     token: &str,
     gaps: &Gaps<T>,
 ) -> Option<Gap<T>>
-    ensures { TakesBeside T.text_of gaps.now token.now (tree T.text_of holder.old) (tree T.text_of holder.new) result }
+    ensures { TakesBeside T.text_of gaps.now token.now (document_tree T.text_of holder.old) (document_tree T.text_of holder.new) result }
 {
     match holder {
         Document::Object(members) => take_member_beside(members, token, gaps),
@@ -143,7 +143,7 @@ pub(crate) struct TakeBeside<'k, 'g, T: KeyText> {
 impl<'k, 'g, T: KeyText + Drop> ChangeIn<Document<T>> for TakeBeside<'k, 'g, T> {
     type Answer = Option<Gap<T>>;
 
-    ghost makes = { λ c v w r. TakesBeside T.text_of c.gaps.now c.token.now (tree T.text_of v) (tree T.text_of w) r };
+    ghost makes = { λ c v w r. TakesBeside T.text_of c.gaps.now c.token.now (document_tree T.text_of v) (document_tree T.text_of w) r };
 
     fn change(self, holder: &mut Document<T>) -> Option<Gap<T>> {
         let TakeBeside { token, gaps } = self;
@@ -158,7 +158,7 @@ fn put_back_items<T: KeyText + Drop>(
     taken: Vec<(usize, Document<T>)>,
 )
     requires { places ≤ vec_capacity items.old }
-    ensures { list (items_from (map (tree T.text_of) items.new.items)) ≡ items_filled T.text_of places taken.items (list (items_from (map (tree T.text_of) items.old.items))) }
+    ensures { list (items_from (map (document_tree T.text_of) items.new.items)) ≡ items_filled T.text_of places taken.items (list (items_from (map (document_tree T.text_of) items.old.items))) }
 {
     let mut left = taken;
     while let Some((index, value)) = left.pop() {
@@ -169,7 +169,7 @@ fn put_back_items<T: KeyText + Drop>(
 }
 
 fn fill_items<T: KeyText + Drop>(items: &mut Vec<Document<T>>, gaps: Gaps<T>)
-    ensures { list (items_from (map (tree T.text_of) items.new.items)) ≡ gaps_filled T.text_of gaps (list (items_from (map (tree T.text_of) items.old.items))) }
+    ensures { list (items_from (map (document_tree T.text_of) items.new.items)) ≡ gaps_filled T.text_of gaps (list (items_from (map (document_tree T.text_of) items.old.items))) }
 {
     let Gaps::Items { room, taken } = gaps else {
         return;
@@ -186,7 +186,7 @@ fn fill_items<T: KeyText + Drop>(items: &mut Vec<Document<T>>, gaps: Gaps<T>)
 }
 
 fn fill_members<T: KeyText + Drop>(members: &mut Object<T>, gaps: Gaps<T>)
-    ensures { obj (entry_members (tree T.text_of) members.new.entries) ≡ gaps_filled T.text_of gaps (obj (entry_members (tree T.text_of) members.old.entries)) }
+    ensures { obj (entry_members (document_tree T.text_of) members.new.entries) ≡ gaps_filled T.text_of gaps (obj (entry_members (document_tree T.text_of) members.old.entries)) }
 {
     let Gaps::Members { room, taken } = gaps else {
         return;
@@ -195,7 +195,7 @@ fn fill_members<T: KeyText + Drop>(members: &mut Object<T>, gaps: Gaps<T>)
 }
 
 fn fill_in<T: KeyText + Drop>(holder: &mut Document<T>, gaps: Gaps<T>)
-    ensures { tree T.text_of holder.new ≡ gaps_filled T.text_of gaps (tree T.text_of holder.old) }
+    ensures { document_tree T.text_of holder.new ≡ gaps_filled T.text_of gaps (document_tree T.text_of holder.old) }
 {
     match holder {
         Document::Object(members) => fill_members(members, gaps),
@@ -213,7 +213,7 @@ pub(crate) struct Fill<T: KeyText> {
 impl<T: KeyText + Drop> ChangeIn<Document<T>> for Fill<T> {
     type Answer = ();
 
-    ghost makes = { λ c v w r. tree T.text_of w ≡ gaps_filled T.text_of c.gaps (tree T.text_of v) };
+    ghost makes = { λ c v w r. document_tree T.text_of w ≡ gaps_filled T.text_of c.gaps (document_tree T.text_of v) };
 
     fn change(self, holder: &mut Document<T>) {
         fill_in(holder, self.gaps)

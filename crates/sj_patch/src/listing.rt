@@ -4,9 +4,9 @@ ghost use Rattle.std.specs.Prelude.{◌≡◌, map, codes, IfOk, OnOk};
 ghost use Rattle.sj_text_core.specs.Edits.{put};
 ghost use Rattle.sj_text_core.specs.Tree.{list, no_members, obj, text};
 ghost use Rattle.sj_object.specs.Members.{entry_members};
-ghost use Rattle.sj_document.specs.Document.{tree};
+ghost use Rattle.sj_document.specs.Document.{document_tree};
 ghost use Rattle.sj_pointer.specs.Shown.{pointer_text};
-ghost use Rattle.sj_patch.specs.Listed.{listed, listed_all};
+ghost use Rattle.sj_patch.specs.Listed.{listed_operation, listed_all};
 ghost use Rattle.sj_patch.specs.Meant.{meant};
 
 use crate::operation::Operation;
@@ -25,7 +25,7 @@ fn named<T: OwnedText>(alloc: Global, name: &str) -> Result<T, AllocError>
 
 /// The text that writes the pointer.
 fn place<T: OwnedText>(alloc: Global, pointer: &Pointer) -> Result<Document<T>, AllocError>
-    ensures { IfOk result (λ d. tree T.text_of d ≡ text (pointer_text pointer.now)) }
+    ensures { IfOk result (λ d. document_tree T.text_of d ≡ text (pointer_text pointer.now)) }
 {
     Ok(Document::String(T::owned(format!(in alloc; "{pointer}")?)))
 }
@@ -37,7 +37,7 @@ fn set<T: OwnedText + Drop>(
     name: &str,
     value: Document<T>,
 ) -> Result<(), AllocError>
-    ensures { OnOk result (entry_members (tree T.text_of) members.new.entries ≡ put name.now (tree T.text_of value) (entry_members (tree T.text_of) members.old.entries)) }
+    ensures { OnOk result (entry_members (document_tree T.text_of) members.new.entries ≡ put name.now (document_tree T.text_of value) (entry_members (document_tree T.text_of) members.old.entries)) }
 {
     match members.insert(named(alloc, name)?, value) {
         Ok(_) => Ok(()),
@@ -51,7 +51,7 @@ fn operation_at<T: OwnedText + Drop>(
     name: &str,
     path: &Pointer,
 ) -> Result<Object<T>, AllocError>
-    ensures { IfOk result (λ ms. entry_members (tree T.text_of) ms.entries ≡ put (codes "path") (text (pointer_text path.now)) (put (codes "op") (text name.now) no_members)) }
+    ensures { IfOk result (λ ms. entry_members (document_tree T.text_of) ms.entries ≡ put (codes "path") (text (pointer_text path.now)) (put (codes "op") (text name.now) no_members)) }
 {
     let mut members = HashMap::with_capacity_and_hasher(alloc, 3, ObjectHasher::default())?;
     set(
@@ -70,7 +70,7 @@ fn plain<T: OwnedText + Drop>(
     name: &str,
     path: &Pointer,
 ) -> Result<Document<T>, AllocError>
-    ensures { IfOk result (λ d. tree T.text_of d ≡ obj (put (codes "path") (text (pointer_text path.now)) (put (codes "op") (text name.now) no_members))) }
+    ensures { IfOk result (λ d. document_tree T.text_of d ≡ obj (put (codes "path") (text (pointer_text path.now)) (put (codes "op") (text name.now) no_members))) }
 {
     let members = operation_at(alloc, name, path)?;
     Ok(Document::Object(Box::new(alloc, members)?))
@@ -84,7 +84,7 @@ fn taking<T: OwnedText + Drop>(
     member: &str,
     value: Document<T>,
 ) -> Result<Document<T>, AllocError>
-    ensures { IfOk result (λ d. tree T.text_of d ≡ obj (put member.now (tree T.text_of value) (put (codes "path") (text (pointer_text path.now)) (put (codes "op") (text name.now) no_members)))) }
+    ensures { IfOk result (λ d. document_tree T.text_of d ≡ obj (put member.now (document_tree T.text_of value) (put (codes "path") (text (pointer_text path.now)) (put (codes "op") (text name.now) no_members)))) }
 {
     let mut members = operation_at(alloc, name, path)?;
     set(alloc, &mut members, member, value)?;
@@ -96,7 +96,7 @@ fn item_of<T: OwnedText + Drop>(
     alloc: Global,
     operation: &Operation<T>,
 ) -> Result<Document<T>, AllocError>
-    ensures { IfOk result (λ d. tree T.text_of d ≡ listed (meant T.text_of operation.now)) }
+    ensures { IfOk result (λ d. document_tree T.text_of d ≡ listed_operation (meant T.text_of operation.now)) }
 {
     match operation {
         Operation::Add { path, value } => taking(alloc, "add", path, "value", value.clone()?),
@@ -120,7 +120,7 @@ pub fn document_of<T: OwnedText + Drop>(
     alloc: Global,
     operations: &[Operation<T>],
 ) -> Result<Document<T>, AllocError>
-    ensures { IfOk result (λ d. tree T.text_of d ≡ list (listed_all (map (meant T.text_of) operations.now))) }
+    ensures { IfOk result (λ d. document_tree T.text_of d ≡ list (listed_all (map (meant T.text_of) operations.now))) }
 {
     let mut items = Vec::with_capacity(alloc, operations.len())?;
     for operation in operations {

@@ -1,9 +1,9 @@
 //! Patches: operations in order, all of them or none.
 
 ghost use Rattle.std.specs.Prelude.{◌≡◌, Ok, map, OnOk, OnErr, IfErr};
-ghost use Rattle.sj_document.specs.Document.{tree};
+ghost use Rattle.sj_document.specs.Document.{document_tree};
 ghost use Rattle.sj_patch.specs.Patch.{patched};
-ghost use Rattle.sj_patch.specs.Meant.{Faults, meant};
+ghost use Rattle.sj_patch.specs.Meant.{IsFaultOf, meant};
 ghost use Rattle.sj_patch.specs.inner.Changed.{undone};
 
 use crate::apply::apply;
@@ -20,9 +20,9 @@ fn apply_all<'o, T: OwnedText + Drop>(
     operations: &'o [Operation<T>],
     log: &mut Vec<Undo<'o, T>>,
 ) -> Result<(), PatchFault>
-    ensures ok { OnOk result (patched (map (meant T.text_of) operations.now) (tree T.text_of document.old) ≡ Ok (tree T.text_of document.new)) }
-    ensures fault { IfErr result (λ e. Faults e (patched (map (meant T.text_of) operations.now) (tree T.text_of document.old))) }
-    ensures undo { undone T.text_of log.new.items (tree T.text_of document.new) ≡ undone T.text_of log.old.items (tree T.text_of document.old) }
+    ensures ok { OnOk result (patched (map (meant T.text_of) operations.now) (document_tree T.text_of document.old) ≡ Ok (document_tree T.text_of document.new)) }
+    ensures fault { IfErr result (λ e. IsFaultOf e (patched (map (meant T.text_of) operations.now) (document_tree T.text_of document.old))) }
+    ensures undo { undone T.text_of log.new.items (document_tree T.text_of document.new) ≡ undone T.text_of log.old.items (document_tree T.text_of document.old) }
 {
     for index in 0..operations.len() {
         match apply(document, &operations[index], log) {
@@ -41,9 +41,9 @@ pub fn patch<T: OwnedText + Drop>(
     document: &mut Document<T>,
     operations: &[Operation<T>],
 ) -> Result<(), PatchFault>
-    ensures ok { OnOk result (patched (map (meant T.text_of) operations.now) (tree T.text_of document.old) ≡ Ok (tree T.text_of document.new)) }
-    ensures fault { IfErr result (λ e. Faults e (patched (map (meant T.text_of) operations.now) (tree T.text_of document.old))) }
-    ensures kept { OnErr result (tree T.text_of document.new ≡ tree T.text_of document.old) }
+    ensures ok { OnOk result (patched (map (meant T.text_of) operations.now) (document_tree T.text_of document.old) ≡ Ok (document_tree T.text_of document.new)) }
+    ensures fault { IfErr result (λ e. IsFaultOf e (patched (map (meant T.text_of) operations.now) (document_tree T.text_of document.old))) }
+    ensures kept { OnErr result (document_tree T.text_of document.new ≡ document_tree T.text_of document.old) }
 {
     let mut log = Vec::new(alloc);
     match apply_all(document, operations, &mut log) {

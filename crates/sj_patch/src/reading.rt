@@ -4,11 +4,11 @@ ghost use Rattle.std.specs.Prelude.{◌≡◌, ◌∷◌, List, Ok, IfOk, IfErr,
 ghost use Rattle.std.specs.Vec.Iter.{into_iter_items};
 ghost use Rattle.sj_text_core.specs.Reads.{as_items};
 ghost use Rattle.sj_text_core.specs.Tree.{items_from};
-ghost use Rattle.sj_document.specs.Document.{tree};
+ghost use Rattle.sj_document.specs.Document.{document_tree};
 ghost use Rattle.sj_patch.specs.inner.Filled.{filled, filled_all, filled_in, value_or_null};
 ghost use Rattle.sj_patch.specs.Meant.{meant};
 ghost use Rattle.sj_patch.specs.Patch.{PlainOperation};
-ghost use Rattle.sj_patch.specs.Operations.{IsFaultIn, from_at, kind_of_item, operation_in, operation_of, operations_from, or_flaw, patch_in, tokens_at, value_at};
+ghost use Rattle.sj_patch.specs.Operations.{IsFaultIn, from_at, kind_of_item, operation_in, operation_of, operations_from, or_flaw, patch_in, tokens_at, value_member};
 ghost use Rattle.sj_patch.specs.inner.Operations.{IsFlawIn};
 
 use crate::error::Unread;
@@ -33,7 +33,7 @@ pub(crate) enum Kind {
 
 /// The operation that the member "op" names; an item that is no object is refused first.
 fn kind_in<T: KeyText>(item: &Document<T>) -> Result<Kind, ItemFault>
-    ensures { result ≡ kind_of_item (tree T.text_of item.now) }
+    ensures { result ≡ kind_of_item (document_tree T.text_of item.now) }
 {
     if !item.is_object() {
         return Err(ItemFault::NotAnObject);
@@ -56,8 +56,8 @@ fn pointer_in<T: KeyText>(
     name: &str,
     flaw: ItemFault,
 ) -> Result<Pointer, Unread>
-    ensures ok { IfOk result (λ pointer. or_flaw flaw (tokens_at name.now (tree T.text_of item.now)) ≡ Ok pointer) }
-    ensures fault { IfErr result (λ e. IsFlawIn e (or_flaw flaw (tokens_at name.now (tree T.text_of item.now)))) }
+    ensures ok { IfOk result (λ pointer. or_flaw flaw (tokens_at name.now (document_tree T.text_of item.now)) ≡ Ok pointer) }
+    ensures fault { IfErr result (λ e. IsFlawIn e (or_flaw flaw (tokens_at name.now (document_tree T.text_of item.now)))) }
 {
     let Some(text) = item.get_str(name) else {
         return Err(Unread::Flaw(flaw));
@@ -71,8 +71,8 @@ fn pointer_in<T: KeyText>(
 
 /// A null, where the item's value is to go; an item without one is refused.
 fn place_in<T: KeyText>(item: &Document<T>) -> Result<Document<T>, ItemFault>
-    ensures ok { IfOk result (λ _. value_at (tree T.text_of item.now) ≡ Ok (value_or_null (tree T.text_of item.now))) }
-    ensures fault { IfErr result (λ flaw. value_at (tree T.text_of item.now) ≡ Err flaw) }
+    ensures ok { IfOk result (λ _. value_member (document_tree T.text_of item.now) ≡ Ok (value_or_null (document_tree T.text_of item.now))) }
+    ensures fault { IfErr result (λ flaw. value_member (document_tree T.text_of item.now) ≡ Err flaw) }
 {
     if item.contains_key("value") {
         Ok(Document::null())
@@ -83,8 +83,8 @@ fn place_in<T: KeyText>(item: &Document<T>) -> Result<Document<T>, ItemFault>
 
 /// The pointer of the member "from".
 fn from_in<T: KeyText>(alloc: Global, item: &Document<T>) -> Result<Pointer, Unread>
-    ensures ok { IfOk result (λ pointer. from_at (tree T.text_of item.now) ≡ Ok pointer) }
-    ensures fault { IfErr result (λ e. IsFlawIn e (from_at (tree T.text_of item.now))) }
+    ensures ok { IfOk result (λ pointer. from_at (document_tree T.text_of item.now) ≡ Ok pointer) }
+    ensures fault { IfErr result (λ e. IsFlawIn e (from_at (document_tree T.text_of item.now))) }
 {
     pointer_in(alloc, item, "from", ItemFault::From)
 }
@@ -96,8 +96,8 @@ fn operation_at<T: KeyText + Drop>(
     kind: Kind,
     path: Pointer,
 ) -> Result<Operation<T>, Unread>
-    ensures ok { IfOk result (λ operation. operation_of kind path (tree T.text_of item.now) ≡ Ok (filled (meant T.text_of operation) (tree T.text_of item.now))) }
-    ensures fault { IfErr result (λ e. IsFlawIn e (operation_of kind path (tree T.text_of item.now))) }
+    ensures ok { IfOk result (λ operation. operation_of kind path (document_tree T.text_of item.now) ≡ Ok (filled (meant T.text_of operation) (document_tree T.text_of item.now))) }
+    ensures fault { IfErr result (λ e. IsFlawIn e (operation_of kind path (document_tree T.text_of item.now))) }
 {
     match kind {
         Kind::Add => Ok(Operation::Add {
@@ -126,8 +126,8 @@ fn operation_at<T: KeyText + Drop>(
 
 /// The operation that the item is, with a null in the place of its value.
 fn plan_item<T: KeyText + Drop>(alloc: Global, item: &Document<T>) -> Result<Operation<T>, Unread>
-    ensures ok { IfOk result (λ operation. operation_in (tree T.text_of item.now) ≡ Ok (filled (meant T.text_of operation) (tree T.text_of item.now))) }
-    ensures fault { IfErr result (λ e. IsFlawIn e (operation_in (tree T.text_of item.now))) }
+    ensures ok { IfOk result (λ operation. operation_in (document_tree T.text_of item.now) ≡ Ok (filled (meant T.text_of operation) (document_tree T.text_of item.now))) }
+    ensures fault { IfErr result (λ e. IsFlawIn e (operation_in (document_tree T.text_of item.now))) }
 {
     let kind = kind_in(item)?;
     let path = pointer_in(alloc, item, "path", ItemFault::Path)?;
@@ -139,8 +139,8 @@ fn plan_items<T: KeyText + Drop>(
     alloc: Global,
     items: &[Document<T>],
 ) -> Result<Vec<Operation<T>>, PatchReadFault>
-    ensures ok { IfOk result (λ operations. operations_from 0 (items_from (map (tree T.text_of) items.now)) ≡ Ok (filled_all (map (meant T.text_of) operations.items) (items_from (map (tree T.text_of) items.now)))) }
-    ensures fault { IfErr result (λ e. IsFaultIn e (operations_from 0 (items_from (map (tree T.text_of) items.now)))) }
+    ensures ok { IfOk result (λ operations. operations_from 0 (items_from (map (document_tree T.text_of) items.now)) ≡ Ok (filled_all (map (meant T.text_of) operations.items) (items_from (map (document_tree T.text_of) items.now)))) }
+    ensures fault { IfErr result (λ e. IsFaultIn e (operations_from 0 (items_from (map (document_tree T.text_of) items.now)))) }
 {
     let mut operations = Vec::with_capacity(alloc, items.len())?;
     for (index, item) in items.iter().enumerate() {
@@ -157,8 +157,8 @@ fn plan<T: KeyText + Drop>(
     alloc: Global,
     document: &Document<T>,
 ) -> Result<Vec<Operation<T>>, PatchReadFault>
-    ensures ok { IfOk result (λ operations. patch_in (tree T.text_of document.now) ≡ Ok (filled_in (as_items (tree T.text_of document.now)) (map (meant T.text_of) operations.items))) }
-    ensures fault { IfErr result (λ e. IsFaultIn e (patch_in (tree T.text_of document.now))) }
+    ensures ok { IfOk result (λ operations. patch_in (document_tree T.text_of document.now) ≡ Ok (filled_in (as_items (document_tree T.text_of document.now)) (map (meant T.text_of) operations.items))) }
+    ensures fault { IfErr result (λ e. IsFaultIn e (patch_in (document_tree T.text_of document.now))) }
 {
     match document.as_array() {
         Some(items) => plan_items(alloc, items),
@@ -168,7 +168,7 @@ fn plan<T: KeyText + Drop>(
 
 /// The value of the item; a null where it has none.
 fn value_of<T: KeyText + Drop>(item: Document<T>) -> Document<T>
-    ensures { tree T.text_of result ≡ value_or_null (tree T.text_of item) }
+    ensures { document_tree T.text_of result ≡ value_or_null (document_tree T.text_of item) }
 {
     match item.into_object() {
         Some(mut members) => members.remove("value").unwrap_or_default(),
@@ -178,7 +178,7 @@ fn value_of<T: KeyText + Drop>(item: Document<T>) -> Document<T>
 
 /// Moves the value of the item to the operation, where it takes one.
 fn fill<T: KeyText + Drop>(operation: &mut Operation<T>, item: Document<T>)
-    ensures { meant T.text_of operation.new ≡ filled (meant T.text_of operation.old) (tree T.text_of item) }
+    ensures { meant T.text_of operation.new ≡ filled (meant T.text_of operation.old) (document_tree T.text_of item) }
 {
     match operation {
         Operation::Add { path: _, value } => *value = value_of(item),
@@ -190,7 +190,7 @@ fn fill<T: KeyText + Drop>(operation: &mut Operation<T>, item: Document<T>)
 
 /// Moves the value of the next item to the operation. Where no item is left, the operation stays.
 fn fill_next<T: KeyText + Drop>(operation: &mut Operation<T>, items: &mut IntoIter<Document<T>>)
-    ensures { (os : List PlainOperation) → filled_all (meant T.text_of operation.old ∷ os) (items_from (map (tree T.text_of) (into_iter_items items.old))) ≡ meant T.text_of operation.new ∷ filled_all os (items_from (map (tree T.text_of) (into_iter_items items.new))) }
+    ensures { (os : List PlainOperation) → filled_all (meant T.text_of operation.old ∷ os) (items_from (map (document_tree T.text_of) (into_iter_items items.old))) ≡ meant T.text_of operation.new ∷ filled_all os (items_from (map (document_tree T.text_of) (into_iter_items items.new))) }
 {
     match items.next() {
         Some(item) => fill(operation, item),
@@ -200,7 +200,7 @@ fn fill_next<T: KeyText + Drop>(operation: &mut Operation<T>, items: &mut IntoIt
 
 /// Moves the value of each item to the operation in its place.
 fn fill_all<T: KeyText + Drop>(operations: &mut [Operation<T>], items: Vec<Document<T>>)
-    ensures { map (meant T.text_of) operations.new ≡ filled_all (map (meant T.text_of) operations.old) (items_from (map (tree T.text_of) items.items)) }
+    ensures { map (meant T.text_of) operations.new ≡ filled_all (map (meant T.text_of) operations.old) (items_from (map (document_tree T.text_of) items.items)) }
 {
     let mut items = items.into_iter();
     for operation in operations.iter_mut() {
@@ -217,8 +217,8 @@ pub fn operations_of<T: KeyText + Drop>(
     alloc: Global,
     document: Document<T>,
 ) -> Result<Vec<Operation<T>>, Refused<PatchReadFault, Document<T>>>
-    ensures ok { IfOk result (λ operations. patch_in (tree T.text_of document) ≡ Ok (map (meant T.text_of) operations.items)) }
-    ensures fault { IfErr result (λ refused. IsFaultIn refused.why (patch_in (tree T.text_of document))) }
+    ensures ok { IfOk result (λ operations. patch_in (document_tree T.text_of document) ≡ Ok (map (meant T.text_of) operations.items)) }
+    ensures fault { IfErr result (λ refused. IsFaultIn refused.why (patch_in (document_tree T.text_of document))) }
     ensures value { IfErr result (λ refused. refused.value ≡ document) }
 {
     let mut operations = match plan(alloc, &document) {

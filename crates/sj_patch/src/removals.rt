@@ -2,7 +2,7 @@
 
 ghost use Rattle.std.specs.Prelude.{◌≡◌, ◌↔◌, [], ◌∷◌, ◌++◌, Ok, map, string_bytes, OnOk, IfOk, IfErr, IsTrue};
 ghost use Rattle.sj_text_core.specs.Tree.{Tree};
-ghost use Rattle.sj_document.specs.Document.{tree};
+ghost use Rattle.sj_document.specs.Document.{document_tree};
 ghost use Rattle.sj_patch.specs.Patch.{removed};
 ghost use Rattle.sj_patch.specs.inner.Changed.{IsFirstGap, Refuses, RemovesBeside, filled_below, gaps_filled, undone, undone_at, undo_one};
 
@@ -73,7 +73,7 @@ fn gathered<'o, T: KeyText + Drop>(
     reversal: Reversal<T>,
     value: Document<T>,
 ) -> (Undo<'o, T>, Result<(), AllocError>)
-    ensures { (u : Tree) → undo_one T.text_of result.0 u ≡ undone_at T.text_of reversal (tree T.text_of value) (map string_bytes tokens.now) u }
+    ensures { (u : Tree) → undo_one T.text_of result.0 u ≡ undone_at T.text_of reversal (document_tree T.text_of value) (map string_bytes tokens.now) u }
 {
     let [path @ .., _] = tokens else {
         return (
@@ -152,8 +152,8 @@ fn take_more<T: OwnedText + Drop>(
     token: &str,
     gaps: &mut Gaps<T>,
 ) -> Result<bool, AllocError>
-    ensures removes { RemovesBeside (map string_bytes holder.now ++ token.now ∷ []) (tree T.text_of document.old) (tree T.text_of document.new) result }
-    ensures undo { filled_below (gaps_filled T.text_of gaps.new) (map string_bytes holder.now) (tree T.text_of document.new) ≡ filled_below (gaps_filled T.text_of gaps.old) (map string_bytes holder.now) (tree T.text_of document.old) }
+    ensures removes { RemovesBeside (map string_bytes holder.now ++ token.now ∷ []) (document_tree T.text_of document.old) (document_tree T.text_of document.new) result }
+    ensures undo { filled_below (gaps_filled T.text_of gaps.new) (map string_bytes holder.now) (document_tree T.text_of document.new) ≡ filled_below (gaps_filled T.text_of gaps.old) (map string_bytes holder.now) (document_tree T.text_of document.old) }
 {
     gaps.reserve()?;
     match update_in(
@@ -180,8 +180,8 @@ fn take_beside_last<'o, T: OwnedText + Drop>(
     token: &str,
     last: Undo<'o, T>,
 ) -> (Undo<'o, T>, Result<bool, AllocError>)
-    ensures removes { RemovesBeside (map string_bytes holder.now ++ token.now ∷ []) (tree T.text_of document.old) (tree T.text_of document.new) result.1 }
-    ensures undo { undo_one T.text_of result.0 (tree T.text_of document.new) ≡ undo_one T.text_of last.entry (tree T.text_of document.old) }
+    ensures removes { RemovesBeside (map string_bytes holder.now ++ token.now ∷ []) (document_tree T.text_of document.old) (document_tree T.text_of document.new) result.1 }
+    ensures undo { undo_one T.text_of result.0 (document_tree T.text_of document.new) ≡ undo_one T.text_of last.entry (document_tree T.text_of document.old) }
 {
     match last {
         Undo::Gaps { path, gaps } => {
@@ -203,8 +203,8 @@ fn remove_beside<'o, T: OwnedText + Drop>(
     tokens: &[String],
     log: &mut Vec<Undo<'o, T>>,
 ) -> Result<bool, AllocError>
-    ensures removes { RemovesBeside (map string_bytes tokens.now) (tree T.text_of document.old) (tree T.text_of document.new) result }
-    ensures undo { undone T.text_of log.new.items (tree T.text_of document.new) ≡ undone T.text_of log.old.items (tree T.text_of document.old) }
+    ensures removes { RemovesBeside (map string_bytes tokens.now) (document_tree T.text_of document.old) (document_tree T.text_of document.new) result }
+    ensures undo { undone T.text_of log.new.items (document_tree T.text_of document.new) ≡ undone T.text_of log.old.items (document_tree T.text_of document.old) }
 {
     let [holder @ .., token] = tokens else {
         return Ok(false);
@@ -225,9 +225,9 @@ pub(crate) fn remove<'o, T: OwnedText + Drop>(
     path: &'o Pointer,
     log: &mut Vec<Undo<'o, T>>,
 ) -> Result<(), Refusal>
-    ensures ok { OnOk result (removed path.now (tree T.text_of document.old) ≡ Ok (tree T.text_of document.new)) }
-    ensures fault { IfErr result (λ e. Refuses (Unit {0}) e (removed path.now (tree T.text_of document.old))) }
-    ensures undo { undone T.text_of log.new.items (tree T.text_of document.new) ≡ undone T.text_of log.old.items (tree T.text_of document.old) }
+    ensures ok { OnOk result (removed path.now (document_tree T.text_of document.old) ≡ Ok (document_tree T.text_of document.new)) }
+    ensures fault { IfErr result (λ e. Refuses (Unit {0}) e (removed path.now (document_tree T.text_of document.old))) }
+    ensures undo { undone T.text_of log.new.items (document_tree T.text_of document.new) ≡ undone T.text_of log.old.items (document_tree T.text_of document.old) }
 {
     if remove_beside(document, path.tokens(), log)? {
         return Ok(());

@@ -3,7 +3,7 @@
 ghost use Rattle.std.specs.Prelude.{◌≡◌, map, string_bytes};
 ghost use Rattle.sj_text_core.specs.Tree.{null, list, obj, items_from};
 ghost use Rattle.sj_object.specs.Members.{entry_members};
-ghost use Rattle.sj_document.specs.Document.{tree};
+ghost use Rattle.sj_document.specs.Document.{document_tree};
 ghost use Rattle.sj_patch.specs.inner.Changed.{Reverts, is_placed};
 
 use sj_document::{Document, Object};
@@ -42,7 +42,7 @@ fn swap_member<T: KeyText + Drop>(
     key: &str,
     value: Document<T>,
 ) -> Result<Document<T>, OperationFault>
-    ensures { Reverts T.text_of Reversal.Swap (tree T.text_of value) key.now (obj (entry_members (tree T.text_of) members.old.entries)) (obj (entry_members (tree T.text_of) members.new.entries)) result }
+    ensures { Reverts T.text_of Reversal.Swap (document_tree T.text_of value) key.now (obj (entry_members (document_tree T.text_of) members.old.entries)) (obj (entry_members (document_tree T.text_of) members.new.entries)) result }
 {
     match members.get_mut(key) {
         Some(child) => Ok(mem::replace(child, value)),
@@ -55,7 +55,7 @@ fn swap_item<T: KeyText + Drop>(
     token: &str,
     value: Document<T>,
 ) -> Result<Document<T>, OperationFault>
-    ensures { Reverts T.text_of Reversal.Swap (tree T.text_of value) token.now (list (items_from (map (tree T.text_of) items.old.items))) (list (items_from (map (tree T.text_of) items.new.items))) result }
+    ensures { Reverts T.text_of Reversal.Swap (document_tree T.text_of value) token.now (list (items_from (map (document_tree T.text_of) items.old.items))) (list (items_from (map (document_tree T.text_of) items.new.items))) result }
 {
     let Some(at) = position(token) else {
         return Err(OperationFault::Missing);
@@ -73,7 +73,7 @@ pub(crate) fn swap<T: KeyText + Drop>(
     token: &str,
     value: Document<T>,
 ) -> Result<Document<T>, OperationFault>
-    ensures { Reverts T.text_of Reversal.Swap (tree T.text_of value) token.now (tree T.text_of holder.old) (tree T.text_of holder.new) result }
+    ensures { Reverts T.text_of Reversal.Swap (document_tree T.text_of value) token.now (document_tree T.text_of holder.old) (document_tree T.text_of holder.new) result }
 {
     match holder {
         Document::Object(members) => swap_member(members, token, value),
@@ -86,7 +86,7 @@ fn out_member<T: KeyText + Drop>(
     members: &mut Object<T>,
     key: &str,
 ) -> Result<Document<T>, OperationFault>
-    ensures { Reverts T.text_of Reversal.Out null key.now (obj (entry_members (tree T.text_of) members.old.entries)) (obj (entry_members (tree T.text_of) members.new.entries)) result }
+    ensures { Reverts T.text_of Reversal.Out null key.now (obj (entry_members (document_tree T.text_of) members.old.entries)) (obj (entry_members (document_tree T.text_of) members.new.entries)) result }
 {
     match members.remove(key) {
         Some(taken) => Ok(taken),
@@ -98,7 +98,7 @@ fn out_place<T: KeyText + Drop>(
     items: &mut Vec<Document<T>>,
     token: &str,
 ) -> Result<Document<T>, OperationFault>
-    ensures { Reverts T.text_of Reversal.Out null token.now (list (items_from (map (tree T.text_of) items.old.items))) (list (items_from (map (tree T.text_of) items.new.items))) result }
+    ensures { Reverts T.text_of Reversal.Out null token.now (list (items_from (map (document_tree T.text_of) items.old.items))) (list (items_from (map (document_tree T.text_of) items.new.items))) result }
 {
     let Some(at) = position(token) else {
         return Err(OperationFault::Missing);
@@ -115,7 +115,7 @@ fn out_item<T: KeyText + Drop>(
     token: &str,
     at: usize,
 ) -> Result<Document<T>, OperationFault>
-    ensures { Reverts T.text_of (Reversal.OutItem at) null token.now (list (items_from (map (tree T.text_of) items.old.items))) (list (items_from (map (tree T.text_of) items.new.items))) result }
+    ensures { Reverts T.text_of (Reversal.OutItem at) null token.now (list (items_from (map (document_tree T.text_of) items.old.items))) (list (items_from (map (document_tree T.text_of) items.new.items))) result }
 {
     if at < items.len() {
         Ok(items.remove(at))
@@ -128,7 +128,7 @@ fn remove<T: KeyText + Drop>(
     holder: &mut Document<T>,
     token: &str,
 ) -> Result<Document<T>, OperationFault>
-    ensures { Reverts T.text_of Reversal.Out null token.now (tree T.text_of holder.old) (tree T.text_of holder.new) result }
+    ensures { Reverts T.text_of Reversal.Out null token.now (document_tree T.text_of holder.old) (document_tree T.text_of holder.new) result }
 {
     match holder {
         Document::Object(members) => out_member(members, token),
@@ -142,7 +142,7 @@ fn out_at<T: KeyText + Drop>(
     token: &str,
     at: usize,
 ) -> Result<Document<T>, OperationFault>
-    ensures { Reverts T.text_of (Reversal.OutItem at) null token.now (tree T.text_of holder.old) (tree T.text_of holder.new) result }
+    ensures { Reverts T.text_of (Reversal.OutItem at) null token.now (document_tree T.text_of holder.old) (document_tree T.text_of holder.new) result }
 {
     match holder {
         Document::Array(items) => out_item(items, token, at),
@@ -165,7 +165,7 @@ fn restore_member<T: KeyText + Drop>(
     key: T,
     value: Document<T>,
 ) -> Result<Document<T>, OperationFault>
-    ensures { Reverts T.text_of (Reversal.MemberBack room index key) (tree T.text_of value) token.now (obj (entry_members (tree T.text_of) members.old.entries)) (obj (entry_members (tree T.text_of) members.new.entries)) result }
+    ensures { Reverts T.text_of (Reversal.MemberBack room index key) (document_tree T.text_of value) token.now (obj (entry_members (document_tree T.text_of) members.old.entries)) (obj (entry_members (document_tree T.text_of) members.new.entries)) result }
 {
     let _token = token;
     if !has_place(members.len(), room.places(), index) {
@@ -185,7 +185,7 @@ fn restore_item<T: KeyText + Drop>(
     index: usize,
     value: Document<T>,
 ) -> Result<Document<T>, OperationFault>
-    ensures { Reverts T.text_of (Reversal.ItemBack room index) (tree T.text_of value) token.now (list (items_from (map (tree T.text_of) items.old.items))) (list (items_from (map (tree T.text_of) items.new.items))) result }
+    ensures { Reverts T.text_of (Reversal.ItemBack room index) (document_tree T.text_of value) token.now (list (items_from (map (document_tree T.text_of) items.old.items))) (list (items_from (map (document_tree T.text_of) items.new.items))) result }
 {
     let _token = token;
     if !has_place(items.len(), room.capacity(), index) {
@@ -207,7 +207,7 @@ fn put_back_member<T: KeyText + Drop>(
     key: T,
     value: Document<T>,
 ) -> Result<Document<T>, OperationFault>
-    ensures { Reverts T.text_of (Reversal.MemberBack room index key) (tree T.text_of value) token.now (tree T.text_of holder.old) (tree T.text_of holder.new) result }
+    ensures { Reverts T.text_of (Reversal.MemberBack room index key) (document_tree T.text_of value) token.now (document_tree T.text_of holder.old) (document_tree T.text_of holder.new) result }
 {
     match holder {
         Document::Object(members) => restore_member(members, token, room, index, key, value),
@@ -222,7 +222,7 @@ fn put_back_item<T: KeyText + Drop>(
     index: usize,
     value: Document<T>,
 ) -> Result<Document<T>, OperationFault>
-    ensures { Reverts T.text_of (Reversal.ItemBack room index) (tree T.text_of value) token.now (tree T.text_of holder.old) (tree T.text_of holder.new) result }
+    ensures { Reverts T.text_of (Reversal.ItemBack room index) (document_tree T.text_of value) token.now (document_tree T.text_of holder.old) (document_tree T.text_of holder.new) result }
 {
     match holder {
         Document::Array(items) => restore_item(items, token, room, index, value),
@@ -238,7 +238,7 @@ pub(crate) fn undo<T: KeyText + Drop>(
     reversal: Reversal<T>,
     value: Document<T>,
 ) -> Result<Document<T>, OperationFault>
-    ensures { Reverts T.text_of reversal (tree T.text_of value) token.now (tree T.text_of holder.old) (tree T.text_of holder.new) result }
+    ensures { Reverts T.text_of reversal (document_tree T.text_of value) token.now (document_tree T.text_of holder.old) (document_tree T.text_of holder.new) result }
 {
     match reversal {
         Reversal::Swap => swap(holder, token, value),

@@ -1,9 +1,9 @@
 //! Changes at pointers, with a log of what undoes them.
 
 ghost use Rattle.std.specs.Prelude.{◌≡◌, [], ◌∷◌, ◌++◌, Ok, map, string_bytes, OnOk, IfErr};
-ghost use Rattle.sj_document.specs.Document.{tree};
+ghost use Rattle.sj_document.specs.Document.{document_tree};
 ghost use Rattle.sj_patch.specs.Patch.{added};
-ghost use Rattle.sj_patch.specs.inner.Changed.{ChangesOrReturns, ChangesWhole, IsNoUndo, Refuses, carried, changed_at, filled_below, gaps_filled, undone, undone_at, undo_one};
+ghost use Rattle.sj_patch.specs.inner.Changed.{ChangesOrReturns, ChangesWhole, IsNoUndo, Refuses, carried, change_at, filled_below, gaps_filled, undone, undone_at, undo_one};
 
 use crate::change::{AtToken, Change, Done, undone};
 use crate::error::Refusal;
@@ -46,7 +46,7 @@ fn change_whole<T: OwnedText + Drop>(
     document: &mut Document<T>,
     change: Change<T>,
 ) -> Result<Done<T>, OperationFault>
-    ensures { ChangesWhole T.text_of change (tree T.text_of document.old) (tree T.text_of document.new) result }
+    ensures { ChangesWhole T.text_of change (document_tree T.text_of document.old) (document_tree T.text_of document.new) result }
 {
     match change {
         Change::Put(value) | Change::Swap(value) => Ok(Done {
@@ -67,7 +67,7 @@ fn change_to<T: OwnedText + Drop>(
     tokens: &[String],
     change: Change<T>,
 ) -> Result<Done<T>, Refused<Refusal, Document<T>>>
-    ensures { ChangesOrReturns T.text_of change (map string_bytes tokens.now) (tree T.text_of document.old) (tree T.text_of document.new) result }
+    ensures { ChangesOrReturns T.text_of change (map string_bytes tokens.now) (document_tree T.text_of document.old) (document_tree T.text_of document.new) result }
 {
     match tokens {
         [] => match change_whole(document, change) {
@@ -88,7 +88,7 @@ fn change_below<T: OwnedText + Drop>(
     token: &str,
     change: Change<T>,
 ) -> Result<Done<T>, Refused<Refusal, Document<T>>>
-    ensures { ChangesOrReturns T.text_of change (map string_bytes path.now ++ token.now ∷ []) (tree T.text_of document.old) (tree T.text_of document.new) result }
+    ensures { ChangesOrReturns T.text_of change (map string_bytes path.now ++ token.now ∷ []) (document_tree T.text_of document.old) (document_tree T.text_of document.new) result }
 {
     match update_in(document, path, AtToken { token, change }) {
         Ok(answer) => answer,
@@ -107,9 +107,9 @@ pub(crate) fn change<'o, T: OwnedText + Drop>(
     log: &mut Vec<Undo<'o, T>>,
 ) -> Result<(), Refusal>
     requires { IsNoUndo T.text_of change }
-    ensures ok { OnOk result (changed_at T.text_of change path.now (tree T.text_of document.old) ≡ Ok (tree T.text_of document.new)) }
-    ensures fault { IfErr result (λ e. Refuses (Unit {0}) e (changed_at T.text_of change path.now (tree T.text_of document.old))) }
-    ensures undo { undone T.text_of log.new.items (tree T.text_of document.new) ≡ undone T.text_of log.old.items (tree T.text_of document.old) }
+    ensures ok { OnOk result (change_at T.text_of change path.now (document_tree T.text_of document.old) ≡ Ok (document_tree T.text_of document.new)) }
+    ensures fault { IfErr result (λ e. Refuses (Unit {0}) e (change_at T.text_of change path.now (document_tree T.text_of document.old))) }
+    ensures undo { undone T.text_of log.new.items (document_tree T.text_of document.new) ≡ undone T.text_of log.old.items (document_tree T.text_of document.old) }
 {
     log.reserve(1)?;
     let tokens = path.tokens();
@@ -134,9 +134,9 @@ pub(crate) fn carry<'o, T: OwnedText + Drop>(
     path: &'o Pointer,
     log: &mut Vec<Undo<'o, T>>,
 ) -> Result<(), Refusal>
-    ensures ok { OnOk result (carried from.now path.now (tree T.text_of document.old) ≡ Ok (tree T.text_of document.new)) }
-    ensures fault { IfErr result (λ e. Refuses (Unit {0}) e (carried from.now path.now (tree T.text_of document.old))) }
-    ensures undo { undone T.text_of log.new.items (tree T.text_of document.new) ≡ undone T.text_of log.old.items (tree T.text_of document.old) }
+    ensures ok { OnOk result (carried from.now path.now (document_tree T.text_of document.old) ≡ Ok (document_tree T.text_of document.new)) }
+    ensures fault { IfErr result (λ e. Refuses (Unit {0}) e (carried from.now path.now (document_tree T.text_of document.old))) }
+    ensures undo { undone T.text_of log.new.items (document_tree T.text_of document.new) ≡ undone T.text_of log.old.items (document_tree T.text_of document.old) }
 {
     log.reserve(1)?;
     let tokens = from.tokens();
@@ -158,9 +158,9 @@ fn put_taken<'o, T: OwnedText + Drop>(
     gone: Done<T>,
     path: &'o [String],
 ) -> (Undo<'o, T>, Result<(), Refusal>)
-    ensures ok { OnOk result.1 (added (map string_bytes path.now) (tree T.text_of gone.taken) (tree T.text_of document.old) ≡ Ok (tree T.text_of document.new)) }
-    ensures fault { IfErr result.1 (λ e. Refuses (Unit {0}) e (added (map string_bytes path.now) (tree T.text_of gone.taken) (tree T.text_of document.old))) }
-    ensures undo { undo_one T.text_of result.0 (tree T.text_of document.new) ≡ undone_at T.text_of gone.undo (tree T.text_of gone.taken) (map string_bytes from.now) (tree T.text_of document.old) }
+    ensures ok { OnOk result.1 (added (map string_bytes path.now) (document_tree T.text_of gone.taken) (document_tree T.text_of document.old) ≡ Ok (document_tree T.text_of document.new)) }
+    ensures fault { IfErr result.1 (λ e. Refuses (Unit {0}) e (added (map string_bytes path.now) (document_tree T.text_of gone.taken) (document_tree T.text_of document.old))) }
+    ensures undo { undo_one T.text_of result.0 (document_tree T.text_of document.new) ≡ undone_at T.text_of gone.undo (document_tree T.text_of gone.taken) (map string_bytes from.now) (document_tree T.text_of document.old) }
 {
     let Done { undo: gap, taken } = gone;
     match change_to(document, path, Change::Put(taken)) {
@@ -192,7 +192,7 @@ fn undo_at<T: OwnedText + Drop>(
     reversal: Reversal<T>,
     value: Document<T>,
 )
-    ensures { tree T.text_of document.new ≡ undone_at T.text_of reversal (tree T.text_of value) (map string_bytes tokens.now) (tree T.text_of document.old) }
+    ensures { document_tree T.text_of document.new ≡ undone_at T.text_of reversal (document_tree T.text_of value) (map string_bytes tokens.now) (document_tree T.text_of document.old) }
 {
     match change_to(document, tokens, Change::Undo(reversal, value)) {
         Ok(_) => (),
@@ -202,7 +202,7 @@ fn undo_at<T: OwnedText + Drop>(
 
 /// Fills the gaps of the container there. It wants no memory.
 fn fill_gaps<T: OwnedText + Drop>(document: &mut Document<T>, path: &[String], gaps: Gaps<T>)
-    ensures { tree T.text_of document.new ≡ filled_below (gaps_filled T.text_of gaps) (map string_bytes path.now) (tree T.text_of document.old) }
+    ensures { document_tree T.text_of document.new ≡ filled_below (gaps_filled T.text_of gaps) (map string_bytes path.now) (document_tree T.text_of document.old) }
 {
     match update_in(document, path, Fill { gaps }) {
         Ok(()) => (),
@@ -212,7 +212,7 @@ fn fill_gaps<T: OwnedText + Drop>(document: &mut Document<T>, path: &[String], g
 
 /// Undoes what one entry of the log says. It wants no memory.
 fn undo_last<T: OwnedText + Drop>(document: &mut Document<T>, undo: Undo<'_, T>)
-    ensures { tree T.text_of document.new ≡ undo_one T.text_of undo.entry (tree T.text_of document.old) }
+    ensures { document_tree T.text_of document.new ≡ undo_one T.text_of undo.entry (document_tree T.text_of document.old) }
 {
     match undo {
         Undo::Change {
@@ -236,7 +236,7 @@ fn undo_last<T: OwnedText + Drop>(document: &mut Document<T>, undo: Undo<'_, T>)
 
 /// Undoes all changes that were logged, from the last to the first. It wants no memory.
 pub(crate) fn undo_all<T: OwnedText + Drop>(document: &mut Document<T>, log: Vec<Undo<'_, T>>)
-    ensures { tree T.text_of document.new ≡ undone T.text_of log.entry.items (tree T.text_of document.old) }
+    ensures { document_tree T.text_of document.new ≡ undone T.text_of log.entry.items (document_tree T.text_of document.old) }
 {
     let mut left = log;
     while let Some(last) = left.pop() {

@@ -1,7 +1,7 @@
 //! Tokens that lead into a document, and the pointers that they make.
 
 ghost use Rattle.std.specs.Prelude.{◌≡◌, map, string_bytes, IfOk};
-ghost use Rattle.sj_patch.specs.inner.Noted.{token_text};
+ghost use Rattle.sj_patch.specs.inner.Noted.{token_meant};
 
 use sj_pointer::Pointer;
 use std::alloc::{AllocError, Global};
@@ -15,7 +15,7 @@ pub(crate) enum Token<'d> {
 
 /// The text of a token.
 pub(crate) fn text_of(alloc: Global, token: Token) -> Result<String, AllocError>
-    ensures { IfOk result (λ s. string_bytes s ≡ token_text token.entry) }
+    ensures { IfOk result (λ s. string_bytes s ≡ token_meant token.entry) }
 {
     match token {
         Token::Key(key) => String::from_str(alloc, key),
@@ -25,7 +25,7 @@ pub(crate) fn text_of(alloc: Global, token: Token) -> Result<String, AllocError>
 
 /// The pointer of the tokens.
 pub(crate) fn pointer_of(alloc: Global, tokens: &[Token]) -> Result<Pointer, AllocError>
-    ensures { IfOk result (λ pointer. pointer ≡ map token_text tokens.now) }
+    ensures { IfOk result (λ pointer. pointer ≡ map token_meant tokens.now) }
 {
     let mut texts = Vec::with_capacity(alloc, tokens.len())?;
     for token in tokens {

@@ -11,7 +11,7 @@ use Rattle.sj_text_core.specs.declared.repeats.Repeats.TheVariants.{First}
 use Rattle.sj_text_core.proofs.Writes.{step_there, set_found-twice, find-put_same, put-twice}
 use Rattle.sj_text_core.specs.declared.error.AccessError.{AccessError}
 use Rattle.sj_text_core.specs.declared.error.AccessError.TheVariants.{NotAnObject, OutOfMemory}
-use Rattle.sj_document.specs.Document.{with_member, why_of}
+use Rattle.sj_document.specs.Document.{with_member, edit_fault}
 use Rattle.sj_pointer.specs.Pointed.{token_into, pointed, set_pointed}
 use Rattle.sj_path.proofs.Ways.{set_further}
 use Rattle.sj_path.specs.Made.{nested, member_added, set_within, set_made}
@@ -110,15 +110,15 @@ pub made_again : (ks : List (List ℕ)) (u v t : Tree) → set_made ks u t ≡ o
 made_again [] u v t = refl
 made_again (k ∷ ks) u v t = again_by (token_into First k t) k ks u v t refl (λ x. made_again ks u v x)
 
-why_mapped : {A B : Type 0} (e : AccessError) (f : A → B) (o : Option A) → why_of e (option_map f o) ≡ why_of e o
+why_mapped : {A B : Type 0} (e : AccessError) (f : A → B) (o : Option A) → edit_fault e (option_map f o) ≡ edit_fault e o
 why_mapped e f None = refl
 why_mapped e f (Some x) = refl
 
 -- it is refused alike, whatever is set
-pub why_again : (e : AccessError) (ks : List (List ℕ)) (u v t : Tree) → why_of e (set_made ks u t) ≡ why_of e (set_made ks v t)
-why_again e ks u v t = ap (why_of e) (made_again ks u v t) ∙ why_mapped e (set_pointed ks u) (set_made ks v t)
+pub why_again : (e : AccessError) (ks : List (List ℕ)) (u v t : Tree) → edit_fault e (set_made ks u t) ≡ edit_fault e (set_made ks v t)
+why_again e ks u v t = ap (edit_fault e) (made_again ks u v t) ∙ why_mapped e (set_pointed ks u) (set_made ks v t)
 
-pub why_some : {A : Type 0} (e : AccessError) (o : Option A) → IsSome o → why_of e o ≡ OutOfMemory
+pub why_some : {A : Type 0} (e : AccessError) (o : Option A) → IsSome o → edit_fault e o ≡ OutOfMemory
 why_some e None h = absurd (true≢false (sym h))
 why_some e (Some x) h = refl
 
@@ -168,10 +168,10 @@ module _ (way rest ts : List (String Global)) (s : String Global) (t u : Tree) (
   end : IsEndOf (string_bytes s ∷ map string_bytes (drop 1 rest)) u is
   end = subst (λ r. IsEndOf (map string_bytes r) u is) next_first n
 
-  pub shut_way : is ≡ false → why_of NotAnObject (set_made (map string_bytes ts) null t) ≡ NotAnObject
+  pub shut_way : is ≡ false → edit_fault NotAnObject (set_made (map string_bytes ts) null t) ≡ NotAnObject
   shut_way h =
-      ap (λ k. why_of NotAnObject (set_made k null t)) keys
-      ∙ ap (why_of NotAnObject) (made_nowhere (map string_bytes way) (string_bytes s) (map string_bytes (drop 1 rest)) null u t f end.0 (none_of (as_members u) (sym end.1 ∙ h)))
+      ap (λ k. edit_fault NotAnObject (set_made k null t)) keys
+      ∙ ap (edit_fault NotAnObject) (made_nowhere (map string_bytes way) (string_bytes s) (map string_bytes (drop 1 rest)) null u t f end.0 (none_of (as_members u) (sym end.1 ∙ h)))
 
   pub is_open : is ≡ true → IsSome (as_members u)
   is_open h = sym end.1 ∙ h
@@ -179,5 +179,5 @@ module _ (way rest ts : List (String Global)) (s : String Global) (t u : Tree) (
   pub open_way : is ≡ true → set_made (map string_bytes ts) null t ≡ Some (set_pointed (map string_bytes way) (with_member (string_bytes s) (nested (map string_bytes (drop 1 rest)) null) u) t)
   open_way h = ap (λ k. set_made k null t) keys ∙ made_there (map string_bytes way) (string_bytes s) (map string_bytes (drop 1 rest)) null u t f end.0 (is_open h)
 
-  pub wants_memory : is ≡ true → why_of NotAnObject (set_made (map string_bytes ts) null t) ≡ OutOfMemory
-  wants_memory h = ap (why_of NotAnObject) (open_way h)
+  pub wants_memory : is ≡ true → edit_fault NotAnObject (set_made (map string_bytes ts) null t) ≡ OutOfMemory
+  wants_memory h = ap (edit_fault NotAnObject) (open_way h)

@@ -4,7 +4,7 @@ ghost use Rattle.std.specs.Prelude.{◌≡◌, None, option_map, option_and_then
 ghost use Rattle.sj_text_core.specs.Tree.{null};
 ghost use Rattle.sj_text_core.specs.Find.{find};
 ghost use Rattle.sj_text_core.specs.Reads.{as_items, as_members};
-ghost use Rattle.sj_document.specs.Document.{tree, why_of, with_member, without_member, with_item, without_last, last_item};
+ghost use Rattle.sj_document.specs.Document.{document_tree, edit_fault, with_member, without_member, with_item, without_last, last_item};
 ghost use Rattle.sj_pointer.specs.Pointed.{pointed, set_pointed};
 ghost use Rattle.sj_path.specs.Changes.{changed_at};
 ghost use Rattle.sj_path.specs.inner.Changes.{Inserts, Removes, Pushes, Pops};
@@ -25,7 +25,7 @@ pub(crate) struct InsertMember<T: KeyText> {
 impl<T: KeyText + Drop> Change<Document<T>> for InsertMember<T> {
     type Answer = Result<Option<Document<T>>, Refused<AccessError, Document<T>>>;
 
-    ghost makes = { λ c v w r. Inserts T.text_of c.key c.value (tree T.text_of v) (tree T.text_of w) r };
+    ghost makes = { λ c v w r. Inserts T.text_of c.key c.value (document_tree T.text_of v) (document_tree T.text_of w) r };
 
     fn change(self, value: &mut Document<T>) -> Self::Answer {
         let InsertMember { key, value: new } = self;
@@ -42,7 +42,7 @@ struct RemoveMember<'k> {
 impl<'k, T: KeyText + Drop> Change<Document<T>> for RemoveMember<'k> {
     type Answer = Result<Option<Document<T>>, AccessError>;
 
-    ghost makes = { λ c v w r. Removes T.text_of c.key.now (tree T.text_of v) (tree T.text_of w) r };
+    ghost makes = { λ c v w r. Removes T.text_of c.key.now (document_tree T.text_of v) (document_tree T.text_of w) r };
 
     fn change(self, value: &mut Document<T>) -> Result<Option<Document<T>>, AccessError> {
         value.remove(self.key)
@@ -58,7 +58,7 @@ struct PushItem<T: KeyText> {
 impl<T: KeyText + Drop> Change<Document<T>> for PushItem<T> {
     type Answer = Result<(), Refused<AccessError, Document<T>>>;
 
-    ghost makes = { λ c v w r. Pushes T.text_of c.value (tree T.text_of v) (tree T.text_of w) r };
+    ghost makes = { λ c v w r. Pushes T.text_of c.value (document_tree T.text_of v) (document_tree T.text_of w) r };
 
     fn change(self, value: &mut Document<T>) -> Self::Answer {
         let PushItem { value: new } = self;
@@ -73,7 +73,7 @@ struct PopItem;
 impl<T: KeyText + Drop> Change<Document<T>> for PopItem {
     type Answer = Result<Option<Document<T>>, AccessError>;
 
-    ghost makes = { λ _ v w r. Pops T.text_of (tree T.text_of v) (tree T.text_of w) r };
+    ghost makes = { λ _ v w r. Pops T.text_of (document_tree T.text_of v) (document_tree T.text_of w) r };
 
     fn change(self, value: &mut Document<T>) -> Result<Option<Document<T>>, AccessError> {
         value.pop()
@@ -90,13 +90,13 @@ pub fn insert<T: KeyText + Drop>(
     key: T,
     new: Document<T>,
 ) -> Result<Option<Document<T>>, Refused<AccessError, Document<T>>>
-    ensures answer { IfOk result (λ before. option_map (tree T.text_of) before ≡ option_and_then (find (T.text_of key)) (pointed pointer.now (tree T.text_of value.old))) }
-    ensures after { OnOk result (tree T.text_of value.new ≡ changed_at pointer.now (with_member (T.text_of key) (tree T.text_of new)) (tree T.text_of value.old)) }
-    ensures refused { OnErr result (tree T.text_of value.new ≡ tree T.text_of value.old) }
+    ensures answer { IfOk result (λ before. option_map (document_tree T.text_of) before ≡ option_and_then (find (T.text_of key)) (pointed pointer.now (document_tree T.text_of value.old))) }
+    ensures after { OnOk result (document_tree T.text_of value.new ≡ changed_at pointer.now (with_member (T.text_of key) (document_tree T.text_of new)) (document_tree T.text_of value.old)) }
+    ensures refused { OnErr result (document_tree T.text_of value.new ≡ document_tree T.text_of value.old) }
     ensures returned { IfErr result (λ r. r.value ≡ new) }
-    ensures kind { IfErr result (λ r. r.why ≡ why_of AccessError.NotAnObject (option_and_then as_members (pointed pointer.now (tree T.text_of value.old)))) }
-    ensures object { OnOk result (IsSome (option_and_then as_members (pointed pointer.now (tree T.text_of value.old)))) }
-    ensures succeeds { IsSome (option_and_then (find (T.text_of key)) (pointed pointer.now (tree T.text_of value.old))) → IsOk result }
+    ensures kind { IfErr result (λ r. r.why ≡ edit_fault AccessError.NotAnObject (option_and_then as_members (pointed pointer.now (document_tree T.text_of value.old)))) }
+    ensures object { OnOk result (IsSome (option_and_then as_members (pointed pointer.now (document_tree T.text_of value.old)))) }
+    ensures succeeds { IsSome (option_and_then (find (T.text_of key)) (pointed pointer.now (document_tree T.text_of value.old))) → IsOk result }
 {
     match update(value, pointer, InsertMember { key, value: new }) {
         Ok(answer) => answer,
@@ -115,11 +115,11 @@ pub fn remove<T: KeyText + Drop>(
     pointer: &Pointer,
     key: &str,
 ) -> Result<Option<Document<T>>, AccessError>
-    ensures answer { IfOk result (λ before. option_map (tree T.text_of) before ≡ option_and_then (find key.now) (pointed pointer.now (tree T.text_of value.old))) }
-    ensures after { tree T.text_of value.new ≡ changed_at pointer.now (without_member key.now) (tree T.text_of value.old) }
-    ensures refused { OnErr result (tree T.text_of value.new ≡ tree T.text_of value.old) }
-    ensures kind { IfErr result (λ e. (e ≡ AccessError.NotAnObject) × (option_and_then as_members (pointed pointer.now (tree T.text_of value.old)) ≡ None)) }
-    ensures object { OnOk result (IsSome (option_and_then as_members (pointed pointer.now (tree T.text_of value.old)))) }
+    ensures answer { IfOk result (λ before. option_map (document_tree T.text_of) before ≡ option_and_then (find key.now) (pointed pointer.now (document_tree T.text_of value.old))) }
+    ensures after { document_tree T.text_of value.new ≡ changed_at pointer.now (without_member key.now) (document_tree T.text_of value.old) }
+    ensures refused { OnErr result (document_tree T.text_of value.new ≡ document_tree T.text_of value.old) }
+    ensures kind { IfErr result (λ e. (e ≡ AccessError.NotAnObject) × (option_and_then as_members (pointed pointer.now (document_tree T.text_of value.old)) ≡ None)) }
+    ensures object { OnOk result (IsSome (option_and_then as_members (pointed pointer.now (document_tree T.text_of value.old)))) }
 {
     match update(value, pointer, RemoveMember { key }) {
         Ok(answer) => answer,
@@ -135,11 +135,11 @@ pub fn push<T: KeyText + Drop>(
     pointer: &Pointer,
     new: Document<T>,
 ) -> Result<(), Refused<AccessError, Document<T>>>
-    ensures after { OnOk result (tree T.text_of value.new ≡ changed_at pointer.now (with_item (tree T.text_of new)) (tree T.text_of value.old)) }
-    ensures refused { OnErr result (tree T.text_of value.new ≡ tree T.text_of value.old) }
+    ensures after { OnOk result (document_tree T.text_of value.new ≡ changed_at pointer.now (with_item (document_tree T.text_of new)) (document_tree T.text_of value.old)) }
+    ensures refused { OnErr result (document_tree T.text_of value.new ≡ document_tree T.text_of value.old) }
     ensures returned { IfErr result (λ r. r.value ≡ new) }
-    ensures kind { IfErr result (λ r. r.why ≡ why_of AccessError.NotAnArray (option_and_then as_items (pointed pointer.now (tree T.text_of value.old)))) }
-    ensures array { OnOk result (IsSome (option_and_then as_items (pointed pointer.now (tree T.text_of value.old)))) }
+    ensures kind { IfErr result (λ r. r.why ≡ edit_fault AccessError.NotAnArray (option_and_then as_items (pointed pointer.now (document_tree T.text_of value.old)))) }
+    ensures array { OnOk result (IsSome (option_and_then as_items (pointed pointer.now (document_tree T.text_of value.old)))) }
 {
     match update(value, pointer, PushItem { value: new }) {
         Ok(answer) => answer,
@@ -156,11 +156,11 @@ pub fn pop<T: KeyText + Drop>(
     value: &mut Document<T>,
     pointer: &Pointer,
 ) -> Result<Option<Document<T>>, AccessError>
-    ensures answer { IfOk result (λ last. option_map (tree T.text_of) last ≡ option_and_then last_item (pointed pointer.now (tree T.text_of value.old))) }
-    ensures after { tree T.text_of value.new ≡ changed_at pointer.now without_last (tree T.text_of value.old) }
-    ensures refused { OnErr result (tree T.text_of value.new ≡ tree T.text_of value.old) }
-    ensures kind { IfErr result (λ e. (e ≡ AccessError.NotAnArray) × (option_and_then as_items (pointed pointer.now (tree T.text_of value.old)) ≡ None)) }
-    ensures array { OnOk result (IsSome (option_and_then as_items (pointed pointer.now (tree T.text_of value.old)))) }
+    ensures answer { IfOk result (λ last. option_map (document_tree T.text_of) last ≡ option_and_then last_item (pointed pointer.now (document_tree T.text_of value.old))) }
+    ensures after { document_tree T.text_of value.new ≡ changed_at pointer.now without_last (document_tree T.text_of value.old) }
+    ensures refused { OnErr result (document_tree T.text_of value.new ≡ document_tree T.text_of value.old) }
+    ensures kind { IfErr result (λ e. (e ≡ AccessError.NotAnArray) × (option_and_then as_items (pointed pointer.now (document_tree T.text_of value.old)) ≡ None)) }
+    ensures array { OnOk result (IsSome (option_and_then as_items (pointed pointer.now (document_tree T.text_of value.old)))) }
 {
     match update(value, pointer, PopItem) {
         Ok(answer) => answer,
@@ -171,8 +171,8 @@ pub fn pop<T: KeyText + Drop>(
 /// Takes what the pointer finds, and leaves a null in its place; None where it finds nothing, and the
 /// document is as it was.
 pub fn take<T: KeyText + Drop>(value: &mut Document<T>, pointer: &Pointer) -> Option<Document<T>>
-    ensures answer { option_map (tree T.text_of) result ≡ pointed pointer.now (tree T.text_of value.old) }
-    ensures after { tree T.text_of value.new ≡ set_pointed pointer.now null (tree T.text_of value.old) }
+    ensures answer { option_map (document_tree T.text_of) result ≡ pointed pointer.now (document_tree T.text_of value.old) }
+    ensures after { document_tree T.text_of value.new ≡ set_pointed pointer.now null (document_tree T.text_of value.old) }
 {
     replace(value, pointer, Document::null()).ok()
 }

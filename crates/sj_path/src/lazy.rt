@@ -3,10 +3,10 @@
 ghost use Rattle.std.specs.Prelude.{◌≡◌, Some, IfErr, IfOk, IfSome, IsSome, IsOk, OnErr, OnOk, option_map, map, string_bytes};
 ghost use Rattle.std.specs.Borrow.{sem};
 ghost use Rattle.std.specs.Result.{result_ok};
-ghost use Rattle.sj_document.specs.Document.{tree as document_tree};
+ghost use Rattle.sj_document.specs.Document.{document_tree};
 ghost use Rattle.sj_document.specs.Rows.{document_row};
-ghost use Rattle.sj_tape.specs.Value.{tree as tape_tree, choice as tape_choice};
-ghost use Rattle.sj_lazy.specs.Value.{tree, choice, form, part_form, lazy_kept, owned};
+ghost use Rattle.sj_tape.specs.Value.{tape_tree, tape_choice};
+ghost use Rattle.sj_lazy.specs.Value.{value_tree, value_choice, form, part_form, lazy_kept, owned};
 ghost use Rattle.sj_lazy.specs.Loans.{LendsPart};
 ghost use Rattle.sj_pointer.specs.Pointed.{token_into, pointed, pointed_by, set_pointed};
 
@@ -54,8 +54,8 @@ pub fn find<'v, 't, 'i>(
     value: &'v Value<'_, 't, 'i>,
     pointer: &Pointer,
 ) -> Option<Value<'v, 't, 'i>>
-    ensures value { option_map tree result ≡ pointed_by (choice value.now) pointer.now (tree value.now) }
-    ensures choice { IfSome result (λ found. choice found ≡ choice value.now) }
+    ensures value { option_map value_tree result ≡ pointed_by (value_choice value.now) pointer.now (value_tree value.now) }
+    ensures choice { IfSome result (λ found. value_choice found ≡ value_choice value.now) }
     ensures form { IfSome result (λ found. form found ≡ part_form value.now) }
 {
     match value {

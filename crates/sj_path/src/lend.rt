@@ -35,13 +35,13 @@ pub trait LendPointed {
 impl<T: KeyText> LendPointed for Document<T> {
     type Output = Document<T>;
 
-    ghost use Rattle.sj_document.specs.Document.{tree};
+    ghost use Rattle.sj_document.specs.Document.{document_tree};
 
-    ghost finds_pointed = { λ d ks v. option_map (tree T.text_of) v ≡ pointed ks (tree T.text_of d) };
+    ghost finds_pointed = { λ d ks v. option_map (document_tree T.text_of) v ≡ pointed ks (document_tree T.text_of d) };
 
-    ghost writes_pointed = { λ d ks w n. tree T.text_of n ≡ set_pointed ks (tree T.text_of w) (tree T.text_of d) };
+    ghost writes_pointed = { λ d ks w n. document_tree T.text_of n ≡ set_pointed ks (document_tree T.text_of w) (document_tree T.text_of d) };
 
-    ghost keeps_pointed = { λ d n. tree T.text_of n ≡ tree T.text_of d };
+    ghost keeps_pointed = { λ d n. document_tree T.text_of n ≡ document_tree T.text_of d };
 
     fn pointed_mut(&mut self, pointer: &Pointer) -> Option<&mut Document<T>> {
         find_mut(self, pointer)

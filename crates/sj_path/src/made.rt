@@ -2,7 +2,7 @@
 
 ghost use Rattle.std.specs.Prelude.{◌≡◌, ◌++◌, Some, None, IfOk, IfErr, IsOk, IsSome, OnOk, OnErr, map, option_map, string_bytes};
 ghost use Rattle.sj_text_core.specs.Tree.{Tree, null, obj, member, no_members};
-ghost use Rattle.sj_document.specs.Document.{tree, why_of};
+ghost use Rattle.sj_document.specs.Document.{document_tree, edit_fault};
 ghost use Rattle.sj_pointer.specs.Pointed.{pointed};
 ghost use Rattle.sj_path.specs.Made.{nested, set_made};
 ghost use Rattle.sj_path.specs.inner.Made.{IsEndOf};
@@ -42,7 +42,7 @@ fn of_member<T: OwnedText + Drop>(
     token: &str,
     value: Document<T>,
 ) -> Result<Document<T>, AllocError>
-    ensures { IfOk result (λ v. tree T.text_of v ≡ obj (member token.now (tree T.text_of value) no_members)) }
+    ensures { IfOk result (λ v. document_tree T.text_of v ≡ obj (member token.now (document_tree T.text_of value) no_members)) }
 {
     let key = T::owned(String::from_str(alloc, token)?);
     let mut object = Document::object_with_capacity(alloc, 1)?;
@@ -54,7 +54,7 @@ fn of_member<T: OwnedText + Drop>(
 
 /// An object for each token, each within the one before, and a null in the last.
 fn nest<T: OwnedText + Drop>(alloc: Global, tokens: &[String]) -> Result<Document<T>, AllocError>
-    ensures { IfOk result (λ v. tree T.text_of v ≡ nested (map string_bytes tokens.now) null) }
+    ensures { IfOk result (λ v. document_tree T.text_of v ≡ nested (map string_bytes tokens.now) null) }
 {
     let mut inner = Document::null();
     let mut left = tokens.len();
@@ -72,7 +72,7 @@ fn split_found<'s, T: KeyText>(
     tokens: &'s [String],
 ) -> (&'s [String], &'s [String], bool)
     ensures joined { result.0.now ++ result.1.now ≡ tokens.now }
-    ensures found { (u : Tree) × (pointed (map string_bytes result.0.now) (tree T.text_of value.now) ≡ Some u) × IsEndOf (map string_bytes result.1.now) u result.2 }
+    ensures found { (u : Tree) × (pointed (map string_bytes result.0.now) (document_tree T.text_of value.now) ≡ Some u) × IsEndOf (map string_bytes result.1.now) u result.2 }
 {
     let mut at = value;
     for depth in 0..tokens.len() {
@@ -91,10 +91,10 @@ fn make_way<T: OwnedText + Drop>(
     alloc: Global,
     tokens: &[String],
 ) -> Result<(), AccessError>
-    requires { pointed (map string_bytes tokens.now) (tree T.text_of value.old) ≡ None }
-    ensures after { OnOk result (set_made (map string_bytes tokens.now) null (tree T.text_of value.old) ≡ Some (tree T.text_of value.new)) }
-    ensures refused { OnErr result (tree T.text_of value.new ≡ tree T.text_of value.old) }
-    ensures kind { IfErr result (λ e. e ≡ why_of AccessError.NotAnObject (set_made (map string_bytes tokens.now) null (tree T.text_of value.old))) }
+    requires { pointed (map string_bytes tokens.now) (document_tree T.text_of value.old) ≡ None }
+    ensures after { OnOk result (set_made (map string_bytes tokens.now) null (document_tree T.text_of value.old) ≡ Some (document_tree T.text_of value.new)) }
+    ensures refused { OnErr result (document_tree T.text_of value.new ≡ document_tree T.text_of value.old) }
+    ensures kind { IfErr result (λ e. e ≡ edit_fault AccessError.NotAnObject (set_made (map string_bytes tokens.now) null (document_tree T.text_of value.old))) }
 {
     let (way, rest, is_object) = split_found(value, tokens);
     let [first, inner @ ..] = rest else {
@@ -126,12 +126,12 @@ pub fn set<T: OwnedText + Drop>(
     pointer: &Pointer,
     new: Document<T>,
 ) -> Result<Option<Document<T>>, Refused<AccessError, Document<T>>>
-    ensures answer { IfOk result (λ before. option_map (tree T.text_of) before ≡ pointed pointer.now (tree T.text_of value.old)) }
-    ensures after { OnOk result (set_made pointer.now (tree T.text_of new) (tree T.text_of value.old) ≡ Some (tree T.text_of value.new)) }
-    ensures refused { OnErr result (tree T.text_of value.new ≡ tree T.text_of value.old) }
+    ensures answer { IfOk result (λ before. option_map (document_tree T.text_of) before ≡ pointed pointer.now (document_tree T.text_of value.old)) }
+    ensures after { OnOk result (set_made pointer.now (document_tree T.text_of new) (document_tree T.text_of value.old) ≡ Some (document_tree T.text_of value.new)) }
+    ensures refused { OnErr result (document_tree T.text_of value.new ≡ document_tree T.text_of value.old) }
     ensures returned { IfErr result (λ r. r.value ≡ new) }
-    ensures kind { IfErr result (λ r. r.why ≡ why_of AccessError.NotAnObject (set_made pointer.now (tree T.text_of new) (tree T.text_of value.old))) }
-    ensures succeeds { IsSome (pointed pointer.now (tree T.text_of value.old)) → IsOk result }
+    ensures kind { IfErr result (λ r. r.why ≡ edit_fault AccessError.NotAnObject (set_made pointer.now (document_tree T.text_of new) (document_tree T.text_of value.old))) }
+    ensures succeeds { IsSome (pointed pointer.now (document_tree T.text_of value.old)) → IsOk result }
 {
     let new = match replace(value, pointer, new) {
         Ok(before) => return Ok(Some(before)),

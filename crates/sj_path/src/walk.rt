@@ -3,7 +3,7 @@
 ghost use Rattle.std.specs.Prelude.{◌≡◌, ◌<◌, ◌^◌, ◌+◌, map, option_and_then, option_map, string_bytes, IfSome, OnSome};
 ghost use Rattle.std.specs.Borrow.{LendsSo, sem};
 ghost use Rattle.std.specs.List.{slice_get};
-ghost use Rattle.sj_document.specs.Document.{tree};
+ghost use Rattle.sj_document.specs.Document.{document_tree};
 ghost use Rattle.sj_document.specs.Rows.{document_row};
 ghost use Rattle.sj_text_core.specs.Paths.{by_token, set_found};
 ghost use Rattle.sj_text_core.specs.Places.{place_of};
@@ -18,7 +18,7 @@ use sj_text_core::TypedValue;
 
 /// What one token finds.
 pub(crate) fn step<'v, T: KeyText>(value: &'v Document<T>, token: &str) -> Option<&'v Document<T>>
-    ensures { option_map (λ v. tree T.text_of v.now) result ≡ token_into First token.now (tree T.text_of value.now) }
+    ensures { option_map (λ v. document_tree T.text_of v.now) result ≡ token_into First token.now (document_tree T.text_of value.now) }
 {
     if value.is_array() {
         value.get_idx(position(token)?)
@@ -28,7 +28,7 @@ pub(crate) fn step<'v, T: KeyText>(value: &'v Document<T>, token: &str) -> Optio
 }
 
 fn find_in<'v, T: KeyText>(value: &'v Document<T>, tokens: &[String]) -> Option<&'v Document<T>>
-    ensures { option_map (λ v. tree T.text_of v.now) result ≡ pointed (map string_bytes tokens.now) (tree T.text_of value.now) }
+    ensures { option_map (λ v. document_tree T.text_of v.now) result ≡ pointed (map string_bytes tokens.now) (document_tree T.text_of value.now) }
 {
     let mut at = value;
     for token in tokens {
@@ -39,14 +39,14 @@ fn find_in<'v, T: KeyText>(value: &'v Document<T>, tokens: &[String]) -> Option<
 
 /// What the pointer's tokens find in the document; None where one of them finds nothing.
 pub fn find<'v, T: KeyText>(value: &'v Document<T>, pointer: &Pointer) -> Option<&'v Document<T>>
-    ensures { option_map (λ v. tree T.text_of v.now) result ≡ pointed pointer.now (tree T.text_of value.now) }
+    ensures { option_map (λ v. document_tree T.text_of v.now) result ≡ pointed pointer.now (document_tree T.text_of value.now) }
 {
     find_in(value, pointer.tokens())
 }
 
 /// The position that the token names, on an array.
 fn place_in<T: KeyText>(value: &Document<T>, token: &str) -> Option<usize>
-    ensures { result ≡ option_and_then (λ _. place_of token.now) (as_items (tree T.text_of value.now)) }
+    ensures { result ≡ option_and_then (λ _. place_of token.now) (as_items (document_tree T.text_of value.now)) }
 {
     if value.is_array() {
         position(token)
@@ -58,8 +58,8 @@ fn place_in<T: KeyText>(value: &Document<T>, token: &str) -> Option<usize>
 /// What one token finds, to write.
 fn step_mut<'v, T: KeyText>(value: &'v mut Document<T>, token: &str) -> Option<&'v mut Document<T>>
     ensures* writes_back { sem 𝓛 (LendsSo (document_row T.row T.KeyText) (document_row T.row T.KeyText) value.entry result
-        (λ n w. OnSome result (tree T.text_of n ≡ set_found (by_token token.now) (tree T.text_of w) (tree T.text_of value.old))) (λ n. tree T.text_of n ≡ tree T.text_of value.old)) }
-    ensures value { option_map (λ v. tree T.text_of v.now) result ≡ token_into First token.now (tree T.text_of value.old) }
+        (λ n w. OnSome result (document_tree T.text_of n ≡ set_found (by_token token.now) (document_tree T.text_of w) (document_tree T.text_of value.old))) (λ n. document_tree T.text_of n ≡ document_tree T.text_of value.old)) }
+    ensures value { option_map (λ v. document_tree T.text_of v.now) result ≡ token_into First token.now (document_tree T.text_of value.old) }
 {
     match place_in(value, token) {
         Some(place) => value.get_idx_mut(place),
@@ -82,8 +82,8 @@ pub fn find_mut<'v, T: KeyText>(
     pointer: &Pointer,
 ) -> Option<&'v mut Document<T>>
     ensures* writes_back { sem 𝓛 (LendsSo (document_row T.row T.KeyText) (document_row T.row T.KeyText) value.entry result
-        (λ n w. OnSome result (tree T.text_of n ≡ set_pointed pointer.now (tree T.text_of w) (tree T.text_of value.old))) (λ n. tree T.text_of n ≡ tree T.text_of value.old)) }
-    ensures value { option_map (λ v. tree T.text_of v.now) result ≡ pointed pointer.now (tree T.text_of value.old) }
+        (λ n w. OnSome result (document_tree T.text_of n ≡ set_pointed pointer.now (document_tree T.text_of w) (document_tree T.text_of value.old))) (λ n. document_tree T.text_of n ≡ document_tree T.text_of value.old)) }
+    ensures value { option_map (λ v. document_tree T.text_of v.now) result ≡ pointed pointer.now (document_tree T.text_of value.old) }
 {
     let mut at = value;
     let mut depth = 0;

@@ -3,7 +3,7 @@
 ghost use Rattle.std.specs.Prelude.{◌≡◌, Some, None, map, option_map, string_bytes, IfOk, IfErr, OnErr};
 ghost use Rattle.std.specs.Result.{result_ok};
 ghost use Rattle.sj_text_core.specs.Paths.{by_token};
-ghost use Rattle.sj_document.specs.Document.{tree};
+ghost use Rattle.sj_document.specs.Document.{document_tree};
 ghost use Rattle.sj_document.specs.declared.value.Document.{Document as DocumentOf};
 ghost use Rattle.sj_document.specs.Descents.{Exchanged};
 ghost use Rattle.sj_pointer.specs.Pointed.{pointed, set_pointed};
@@ -23,7 +23,7 @@ impl Leads<String> for ByToken {
         value: &mut Document<T>,
         other: Document<T>,
     ) -> Result<Document<T>, Document<T>>
-        ensures { Exchanged T.text_of (by_token (string_bytes step.now)) other (tree T.text_of value.old) (tree T.text_of value.new) result }
+        ensures { Exchanged T.text_of (by_token (string_bytes step.now)) other (document_tree T.text_of value.old) (document_tree T.text_of value.new) result }
     {
         let token = step.as_str();
         swap_token(value, token, position(token), other)
@@ -36,8 +36,8 @@ pub fn update_in<T: KeyText + Drop, C: Change<Document<T>>>(
     tokens: &[String],
     change: C,
 ) -> Result<C::Answer, C>
-    ensures changed { IfOk result (λ answer. (v : DocumentOf T) × (w : DocumentOf T) × (pointed (map string_bytes tokens.now) (tree T.text_of value.old) ≡ Some (tree T.text_of v)) × C.makes change v w answer × (tree T.text_of value.new ≡ set_pointed (map string_bytes tokens.now) (tree T.text_of w) (tree T.text_of value.old))) }
-    ensures absent { IfErr result (λ back. (back ≡ change) × (pointed (map string_bytes tokens.now) (tree T.text_of value.old) ≡ None) × (tree T.text_of value.new ≡ tree T.text_of value.old)) }
+    ensures changed { IfOk result (λ answer. (v : DocumentOf T) × (w : DocumentOf T) × (pointed (map string_bytes tokens.now) (document_tree T.text_of value.old) ≡ Some (document_tree T.text_of v)) × C.makes change v w answer × (document_tree T.text_of value.new ≡ set_pointed (map string_bytes tokens.now) (document_tree T.text_of w) (document_tree T.text_of value.old))) }
+    ensures absent { IfErr result (λ back. (back ≡ change) × (pointed (map string_bytes tokens.now) (document_tree T.text_of value.old) ≡ None) × (document_tree T.text_of value.new ≡ document_tree T.text_of value.old)) }
 {
     update_at::<ByToken, String, T, C>(value, tokens, change)
 }
@@ -49,8 +49,8 @@ pub fn update<T: KeyText + Drop, C: Change<Document<T>>>(
     pointer: &Pointer,
     change: C,
 ) -> Result<C::Answer, C>
-    ensures changed { IfOk result (λ answer. (v : DocumentOf T) × (w : DocumentOf T) × (pointed pointer.now (tree T.text_of value.old) ≡ Some (tree T.text_of v)) × C.makes change v w answer × (tree T.text_of value.new ≡ set_pointed pointer.now (tree T.text_of w) (tree T.text_of value.old))) }
-    ensures absent { IfErr result (λ back. (back ≡ change) × (pointed pointer.now (tree T.text_of value.old) ≡ None) × (tree T.text_of value.new ≡ tree T.text_of value.old)) }
+    ensures changed { IfOk result (λ answer. (v : DocumentOf T) × (w : DocumentOf T) × (pointed pointer.now (document_tree T.text_of value.old) ≡ Some (document_tree T.text_of v)) × C.makes change v w answer × (document_tree T.text_of value.new ≡ set_pointed pointer.now (document_tree T.text_of w) (document_tree T.text_of value.old))) }
+    ensures absent { IfErr result (λ back. (back ≡ change) × (pointed pointer.now (document_tree T.text_of value.old) ≡ None) × (document_tree T.text_of value.new ≡ document_tree T.text_of value.old)) }
 {
     update_in(value, pointer.tokens(), change)
 }
@@ -62,9 +62,9 @@ pub fn replace<T: KeyText + Drop>(
     pointer: &Pointer,
     new: Document<T>,
 ) -> Result<Document<T>, Document<T>>
-    ensures before { option_map (tree T.text_of) (result_ok result) ≡ pointed pointer.now (tree T.text_of value.old) }
-    ensures after { tree T.text_of value.new ≡ set_pointed pointer.now (tree T.text_of new) (tree T.text_of value.old) }
-    ensures kept { OnErr result (tree T.text_of value.new ≡ tree T.text_of value.old) }
+    ensures before { option_map (document_tree T.text_of) (result_ok result) ≡ pointed pointer.now (document_tree T.text_of value.old) }
+    ensures after { document_tree T.text_of value.new ≡ set_pointed pointer.now (document_tree T.text_of new) (document_tree T.text_of value.old) }
+    ensures kept { OnErr result (document_tree T.text_of value.new ≡ document_tree T.text_of value.old) }
     ensures back { IfErr result (λ given. given ≡ new) }
 {
     match update(value, pointer, Replace { value: new }) {

@@ -3,7 +3,7 @@ use Rattle.std.proofs.Common.{◌≡◌, ◌≢◌, ◌==◌, ◌&&◌, ◌<◌,
 use Rattle.std.proofs.lemmas.List.{map-append}
 use Rattle.std.proofs.lemmas.Bool.{ne_eqb, true≢false}
 use Rattle.sj_pointer.specs.Syntax.{is_begun}
-use Rattle.sj_pointer.specs.Tokens.{onto, parted, replaced, decoded}
+use Rattle.sj_pointer.specs.Tokens.{onto, parted, tilde_replaced, decoded}
 
 -- the byte c stands nowhere in the text
 abbrev pub Lacks : ℕ → List ℕ → Type 0
@@ -24,12 +24,12 @@ parted_first [] r h = refl
 parted_first (x ∷ s) r h =
     ap (λ b. if b then [] ∷ parted (s ++ (47 ∷ r)) else onto x (parted (s ++ (47 ∷ r)))) (lacks_first 47 x s h) ∙ ap (onto x) (parted_first s r (lacks_rest 47 x s h))
 
-replaced_plain : (d c x : ℕ) (s : List ℕ) → eqb x 126 ≡ false → replaced d c (x ∷ s) ≡ x ∷ replaced d c s
+replaced_plain : (d c x : ℕ) (s : List ℕ) → eqb x 126 ≡ false → tilde_replaced d c (x ∷ s) ≡ x ∷ tilde_replaced d c s
 replaced_plain d c x [] e = refl
-replaced_plain d c x (y ∷ s) e = ap (λ b. if b && (y == d) then c ∷ replaced d c s else x ∷ replaced d c (y ∷ s)) e
+replaced_plain d c x (y ∷ s) e = ap (λ b. if b && (y == d) then c ∷ tilde_replaced d c s else x ∷ tilde_replaced d c (y ∷ s)) e
 
 pub decoded_plain : (x : ℕ) (s : List ℕ) → eqb x 126 ≡ false → decoded (x ∷ s) ≡ x ∷ decoded s
-decoded_plain x s e = ap (replaced 48 126) (replaced_plain 49 47 x s e) ∙ replaced_plain 48 126 x (replaced 49 47 s) e
+decoded_plain x s e = ap (tilde_replaced 48 126) (replaced_plain 49 47 x s e) ∙ replaced_plain 48 126 x (tilde_replaced 49 47 s) e
 
 -- a run without a tilde stays
 pub decoded_first : (s r : List ℕ) → Lacks 126 s → decoded (s ++ r) ≡ s ++ decoded r
@@ -42,24 +42,24 @@ decoded_whole (x ∷ s) h = decoded_plain x s (lacks_first 126 x s h) ∙ ap (λ
 
 -- a tilde and a 1, and a tilde and a 0
 pub decoded_slash : (s : List ℕ) → decoded (126 ∷ 49 ∷ s) ≡ 47 ∷ decoded s
-decoded_slash s = replaced_plain 48 126 47 (replaced 49 47 s) refl
+decoded_slash s = replaced_plain 48 126 47 (tilde_replaced 49 47 s) refl
 
 pub decoded_tilde : (s : List ℕ) → decoded (126 ∷ 48 ∷ s) ≡ 126 ∷ decoded s
-decoded_tilde s = ap (λ l. replaced 48 126 (126 ∷ l)) (replaced_plain 49 47 48 s refl)
+decoded_tilde s = ap (λ l. tilde_replaced 48 126 (126 ∷ l)) (replaced_plain 49 47 48 s refl)
 
-kept_by : (b : Bool) (x : ℕ) (p q : List ℕ) → eqb x 48 ≡ false → replaced 48 126 (126 ∷ (if b then 47 ∷ p else x ∷ q)) ≡ 126 ∷ replaced 48 126 (if b then 47 ∷ p else x ∷ q)
+kept_by : (b : Bool) (x : ℕ) (p q : List ℕ) → eqb x 48 ≡ false → tilde_replaced 48 126 (126 ∷ (if b then 47 ∷ p else x ∷ q)) ≡ 126 ∷ tilde_replaced 48 126 (if b then 47 ∷ p else x ∷ q)
 kept_by true x p q e = refl
-kept_by false x p q e = ap (λ b. if b then 126 ∷ replaced 48 126 q else 126 ∷ replaced 48 126 (x ∷ q)) e
+kept_by false x p q e = ap (λ b. if b then 126 ∷ tilde_replaced 48 126 q else 126 ∷ tilde_replaced 48 126 (x ∷ q)) e
 
-kept_from : (x : ℕ) (s : List ℕ) → eqb x 48 ≡ false → replaced 48 126 (126 ∷ replaced 49 47 (x ∷ s)) ≡ 126 ∷ decoded (x ∷ s)
+kept_from : (x : ℕ) (s : List ℕ) → eqb x 48 ≡ false → tilde_replaced 48 126 (126 ∷ tilde_replaced 49 47 (x ∷ s)) ≡ 126 ∷ decoded (x ∷ s)
 kept_from x [] e = kept_by false x [] [] e
-kept_from x (y ∷ s) e = kept_by (eqb x 126 && eqb y 49) x (replaced 49 47 s) (replaced 49 47 (y ∷ s)) e
+kept_from x (y ∷ s) e = kept_by (eqb x 126 && eqb y 49) x (tilde_replaced 49 47 s) (tilde_replaced 49 47 (y ∷ s)) e
 
 -- any other tilde stays
 pub decoded_lone : (s : List ℕ) → ((r : List ℕ) → s ≢ 49 ∷ r) → ((r : List ℕ) → s ≢ 48 ∷ r) → decoded (126 ∷ s) ≡ 126 ∷ decoded s
 decoded_lone [] f g = refl
 decoded_lone (x ∷ s) f g =
-    ap (λ b. replaced 48 126 (if b then 47 ∷ replaced 49 47 s else 126 ∷ replaced 49 47 (x ∷ s))) (ne_eqb x 49 (λ e. f s (ap (λ y. y ∷ s) e)))
+    ap (λ b. tilde_replaced 48 126 (if b then 47 ∷ tilde_replaced 49 47 s else 126 ∷ tilde_replaced 49 47 (x ∷ s))) (ne_eqb x 49 (λ e. f s (ap (λ y. y ∷ s) e)))
     ∙ kept_from x s (ne_eqb x 48 (λ e. g s (ap (λ y. y ∷ s) e)))
 
 -- what a tilde and the text behind it write, where no 1 is in front

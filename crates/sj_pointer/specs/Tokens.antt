@@ -12,14 +12,14 @@ parted [] = [] ∷ []
 parted (b ∷ s) = if b == 47 then [] ∷ parted s else onto b (parted s)
 
 -- with the byte c in the place of each tilde that has the byte d behind it, and of that d
-abbrev pub replaced : ℕ → ℕ → List ℕ → List ℕ
-replaced d c [] = []
-replaced d c (x ∷ []) = x ∷ []
-replaced d c (x ∷ y ∷ s) = if (x == 126) && (y == d) then c ∷ replaced d c s else x ∷ replaced d c (y ∷ s)
+abbrev pub tilde_replaced : ℕ → ℕ → List ℕ → List ℕ
+tilde_replaced d c [] = []
+tilde_replaced d c (x ∷ []) = x ∷ []
+tilde_replaced d c (x ∷ y ∷ s) = if (x == 126) && (y == d) then c ∷ tilde_replaced d c s else x ∷ tilde_replaced d c (y ∷ s)
 
 -- section 4: first a slash in the place of each `~1`, and then a tilde in the place of each `~0`
 abbrev pub decoded : List ℕ → List ℕ
-decoded w = replaced 48 126 (replaced 49 47 w)
+decoded w = tilde_replaced 48 126 (tilde_replaced 49 47 w)
 
 -- section 3: what stands behind the slashes, decoded
 abbrev pub tokens_of : List ℕ → List (List ℕ)

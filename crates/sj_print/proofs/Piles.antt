@@ -6,7 +6,7 @@ use Rattle.sj_text_core.specs.Tree.{Tree, list, obj, no_items, no_members, items
 use Rattle.sj_print.specs.Layouts.{IsLayout, deeper, laid, gap}
 use Rattle.sj_print.specs.Outputs.{AppendsText, HoldsText, Lays}
 use Rattle.sj_print.specs.inner.Outputs.{Towards}
-use Rattle.sj_print.specs.inner.Piles.{items_laid, members_laid, ahead_tree, ahead_laid, open_laid, open_weight, left, inner, AreLaid, rest, PilesUp}
+use Rattle.sj_print.specs.inner.Piles.{items_laid, members_laid, ahead_tree, ahead_laid, open_laid, open_weight, pile_weight, inner, AreLaid, laid_rest, PilesUp}
 use Rattle.sj_print.specs.declared.layout.Layout.{Layout}
 use Rattle.sj_print.specs.declared.print.Ahead.{Ahead}
 use Rattle.sj_print.specs.declared.print.Ahead.TheVariants as ahead
@@ -52,11 +52,11 @@ module _ {I M : Type 0} where
   laid_pop s (x ∷ p) e all = let under = laid_pop (deeper s) p e all.1 in ((all.0, under.0), under.1)
 
 module _ {I M : Type 0} (items : I → List Tree) (members : M → List (List ℕ × Tree)) where
-  rest_push : (s : Option ℕ) (p : List (Open I M)) (e : Open I M) → rest items members s (p ++ e ∷ []) ≡ open_laid items members (inner s p) e ++ rest items members s p
+  rest_push : (s : Option ℕ) (p : List (Open I M)) (e : Open I M) → laid_rest items members s (p ++ e ∷ []) ≡ open_laid items members (inner s p) e ++ laid_rest items members s p
   rest_push s [] e = sym (append-nil (open_laid items members s e))
-  rest_push s (x ∷ p) e = ap (λ l. l ++ open_laid items members s x) (rest_push (deeper s) p e) ∙ append_assoc (open_laid items members (inner (deeper s) p) e) (rest items members (deeper s) p) (open_laid items members s x)
+  rest_push s (x ∷ p) e = ap (λ l. l ++ open_laid items members s x) (rest_push (deeper s) p e) ∙ append_assoc (open_laid items members (inner (deeper s) p) e) (laid_rest items members (deeper s) p) (open_laid items members s x)
 
-  pub left_push : (p : List (Open I M)) (e : Open I M) → left items members (p ++ e ∷ []) ≡ left items members p + open_weight items members e
+  pub left_push : (p : List (Open I M)) (e : Open I M) → pile_weight items members (p ++ e ∷ []) ≡ pile_weight items members p + open_weight items members e
   left_push p e = sum_by_push (open_weight items members) p e
 
   ahead_all : (s : Option ℕ) (a : Ahead I M) → ahead_laid items members false s a ≡ laid s (ahead_tree items members a)
@@ -75,7 +75,7 @@ module _ {I M : Type 0} (items : I → List Tree) (members : M → List (List �
       record {
         done = [];
         put = appends_nothing (HoldsText holds) a;
-        makes = rest_push s p e ∙ ap (λ l. l ++ rest items members s p) (ap (λ b. ahead_laid items members b (inner s p) e.ahead) fresh ∙ ahead_all (inner s p) e.ahead);
+        makes = rest_push s p e ∙ ap (λ l. l ++ laid_rest items members s p) (ap (λ b. ahead_laid items members b (inner s p) e.ahead) fresh ∙ ahead_all (inner s p) e.ahead);
       },
     )
 
@@ -86,20 +86,20 @@ module _ {I M : Type 0} (items : I → List Tree) (members : M → List (List �
     piled_part p q e a b c layout before part whole deep f g same s all l =
         let t = inner s p in
         let r = g s (laid_push s p e all l) (subst (IsLayout layout) (sym (inner_push s p e)) (deep t l)) in
-        let made = r.1.makes ∙ ap (λ d. part d ++ rest items members s (p ++ e ∷ [])) (inner_push s p e) ∙ ap (λ l. part (deeper t) ++ l) (rest_push s p e) in (
+        let made = r.1.makes ∙ ap (λ d. part d ++ laid_rest items members s (p ++ e ∷ [])) (inner_push s p e) ∙ ap (λ l. part (deeper t) ++ l) (rest_push s p e) in (
           r.0,
           record {
             done = before (deeper t) ++ r.1.done;
             put = appends_both (HoldsText holds) a b c (before (deeper t)) r.1.done (f (deeper t) (deep t l)) r.1.put;
-            makes = append_assoc (before (deeper t)) r.1.done (rest items members s q) ∙ ap (λ l. before (deeper t) ++ l) made
-                ∙ sym (ap (λ l. l ++ rest items members s p) (same t) ∙ append_assoc (before (deeper t)) _ (rest items members s p) ∙ ap (λ l. before (deeper t) ++ l) (append_assoc (part (deeper t)) _ (rest items members s p)));
+            makes = append_assoc (before (deeper t)) r.1.done (laid_rest items members s q) ∙ ap (λ l. before (deeper t) ++ l) made
+                ∙ sym (ap (λ l. l ++ laid_rest items members s p) (same t) ∙ append_assoc (before (deeper t)) _ (laid_rest items members s p) ∙ ap (λ l. before (deeper t) ++ l) (append_assoc (part (deeper t)) _ (laid_rest items members s p)));
           },
         )
 
     -- the container on top of the pile goes on
     pub piled_on : (s : Option ℕ) (whole : List ℕ) (w p q : List (Open I M)) (e : Open I M) (a b c : O) → w ≡ p ++ e ∷ []
-        → AreLaid s w × Towards (HoldsText holds) a b (rest items members s w) whole → PilesUp items members holds p b q c e.layout (λ s. open_laid items members s e)
-        → AreLaid s q × Towards (HoldsText holds) a c (rest items members s q) whole
+        → AreLaid s w × Towards (HoldsText holds) a b (laid_rest items members s w) whole → PilesUp items members holds p b q c e.layout (λ s. open_laid items members s e)
+        → AreLaid s q × Towards (HoldsText holds) a c (laid_rest items members s q) whole
     piled_on s whole w p q e a b c same before f =
         let under = laid_pop s p e (subst (AreLaid s) same before.0) in
         let r = f s under.0 under.1 in
@@ -108,6 +108,6 @@ module _ {I M : Type 0} (items : I → List Tree) (members : M → List (List �
           record {
             done = t.done ++ r.1.done;
             put = appends_both (HoldsText holds) a b c t.done r.1.done t.put r.1.put;
-            makes = append_assoc t.done r.1.done (rest items members s q) ∙ ap (λ l. t.done ++ l) (r.1.makes ∙ sym (ap (rest items members s) same ∙ rest_push s p e)) ∙ t.makes;
+            makes = append_assoc t.done r.1.done (laid_rest items members s q) ∙ ap (λ l. t.done ++ l) (r.1.makes ∙ sym (ap (laid_rest items members s) same ∙ rest_push s p e)) ∙ t.makes;
           },
         )

@@ -2,9 +2,9 @@
 use Rattle.std.specs.Prelude.{ℕ, ◌+◌, ◌*◌, ◌^◌, ◌<◌, List, [], ◌∷◌, Option, Some, None, replicate}
 
 -- the first text in pretty prints, the second in compact ones
-abbrev pub chosen : Option ℕ → List ℕ → List ℕ → List ℕ
-chosen None pretty compact = compact
-chosen (Some spaces) pretty compact = pretty
+abbrev pub by_style : Option ℕ → List ℕ → List ℕ → List ℕ
+by_style None pretty compact = compact
+by_style (Some spaces) pretty compact = pretty
 
 -- nothing in compact prints; in pretty ones a line feed, and the spaces of the level
 abbrev pub line : Option ℕ → ℕ → List ℕ

@@ -2,7 +2,7 @@
 
 ghost use Rattle.std.specs.Prelude.{◌≡◌, ℕ, ◌+◌, ◌-◌, ◌<◌, List, ◌++◌, Option, OnOk, OnErr};
 ghost use Rattle.std.specs.Borrow.{GName};
-ghost use Rattle.sj_print.specs.Generators.{chosen, line, CanIndent};
+ghost use Rattle.sj_print.specs.Generators.{by_style, line, CanIndent};
 ghost use Rattle.sj_text_core.specs.Print.{quoted, compact};
 ghost use Rattle.sj_text_core.specs.Scalars.{static_tree};
 
@@ -63,7 +63,7 @@ pub trait BaseGenerator {
 
     /// Appends the first text in pretty prints, the second in compact ones.
     fn write_min(&mut self, pretty: &str, compact: &str) -> Result<(), AllocError>
-        ensures ok { OnOk result (written self.new ≡ written self.old ++ chosen (style self.old) pretty.now compact.now) }
+        ensures ok { OnOk result (written self.new ≡ written self.old ++ by_style (style self.old) pretty.now compact.now) }
         ensures err { OnErr result (written self.new ≡ written self.old) }
         ensures style { style self.new ≡ style self.old }
         ensures level { level self.new ≡ level self.old }

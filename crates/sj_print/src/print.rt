@@ -7,7 +7,7 @@ ghost use Rattle.sj_text_core.specs.Tree.{list, obj, no_items, no_members, items
 ghost use Rattle.sj_print.specs.Layouts.{laid, gap};
 ghost use Rattle.sj_print.specs.inner.Layouts.{colon};
 ghost use Rattle.sj_print.specs.Outputs.{AppendsText, Lays};
-ghost use Rattle.sj_print.specs.inner.Piles.{ahead_tree, items_mark, members_mark, items_laid, members_laid, open_laid, open_weight, weight, items_weight, members_weight, left, PilesUp};
+ghost use Rattle.sj_print.specs.inner.Piles.{ahead_tree, items_mark, members_mark, items_laid, members_laid, open_laid, open_weight, weight, items_weight, members_weight, pile_weight, PilesUp};
 
 use crate::layout::Layout;
 use crate::output::Output;
@@ -283,7 +283,7 @@ fn pile_up<P: Parts, O: Output>(
     out: O,
 ) -> O
     ensures piled { PilesUp P.items_left P.members_left O.holds pile.old.items out pile.new.items result layout (λ s. laid s (ahead_tree P.items_left P.members_left ahead)) }
-    ensures fewer { left P.items_left P.members_left pile.new.items < weight (ahead_tree P.items_left P.members_left ahead) + left P.items_left P.members_left pile.old.items }
+    ensures fewer { pile_weight P.items_left P.members_left pile.new.items < weight (ahead_tree P.items_left P.members_left ahead) + pile_weight P.items_left P.members_left pile.old.items }
 {
     let open = Open {
         ahead,
@@ -306,7 +306,7 @@ fn print_part<P: Parts, O: Output>(
     out: O,
 ) -> O
     ensures piled { PilesUp P.items_left P.members_left O.holds pile.old.items out pile.new.items result layout (λ s. laid s (P.tree_of value.now)) }
-    ensures fewer { left P.items_left P.members_left pile.new.items < weight (P.tree_of value.now) + left P.items_left P.members_left pile.old.items }
+    ensures fewer { pile_weight P.items_left P.members_left pile.new.items < weight (P.tree_of value.now) + pile_weight P.items_left P.members_left pile.old.items }
 {
     match value.level() {
         Level::Static(node) => out.put_static(node),
@@ -330,7 +330,7 @@ fn further<P: Parts, O: Output>(
 ) -> O
     requires { vec_len pile.old < vec_capacity pile.old }
     ensures piled { PilesUp P.items_left P.members_left O.holds pile.old.items out pile.new.items result opened.layout (λ s. open_laid P.items_left P.members_left s opened) }
-    ensures fewer { left P.items_left P.members_left pile.new.items < open_weight P.items_left P.members_left opened + left P.items_left P.members_left pile.old.items }
+    ensures fewer { pile_weight P.items_left P.members_left pile.new.items < open_weight P.items_left P.members_left opened + pile_weight P.items_left P.members_left pile.old.items }
 {
     let Open {
         ahead,
@@ -356,7 +356,7 @@ fn further_item<P: Parts, O: Output>(
 ) -> O
     requires { vec_len pile.old < vec_capacity pile.old }
     ensures piled { PilesUp P.items_left P.members_left O.holds pile.old.items out pile.new.items result layout (λ s. items_laid is_begun s (items_from (P.items_left items))) }
-    ensures fewer { left P.items_left P.members_left pile.new.items ≤ items_weight (items_from (P.items_left items)) + left P.items_left P.members_left pile.old.items }
+    ensures fewer { pile_weight P.items_left P.members_left pile.new.items ≤ items_weight (items_from (P.items_left items)) + pile_weight P.items_left P.members_left pile.old.items }
 {
     let Some(item) = P::next_item(&mut items) else {
         return put_items_end(is_begun, layout, out);
@@ -383,7 +383,7 @@ fn further_member<P: Parts, O: Output>(
 ) -> O
     requires { vec_len pile.old < vec_capacity pile.old }
     ensures piled { PilesUp P.items_left P.members_left O.holds pile.old.items out pile.new.items result layout (λ s. members_laid is_begun s (members_from (P.members_left members))) }
-    ensures fewer { left P.items_left P.members_left pile.new.items ≤ members_weight (members_from (P.members_left members)) + left P.items_left P.members_left pile.old.items }
+    ensures fewer { pile_weight P.items_left P.members_left pile.new.items ≤ members_weight (members_from (P.members_left members)) + pile_weight P.items_left P.members_left pile.old.items }
 {
     let Some((key, value)) = P::next_member(&mut members) else {
         return put_members_end(is_begun, layout, out);

@@ -1,7 +1,7 @@
 -- What commands of lines leave.
 use Rattle.std.proofs.Common.{◌≡◌, ◌∙◌, List, [], ◌∷◌, ◌++◌, ℕ, sym, ap, subst, append_assoc}
 use Rattle.sj_text_core.specs.Tree.{Tree}
-use Rattle.sj_run.specs.inner.Answered.{Answers, AnswersLine, PassesOne, PassesLine}
+use Rattle.sj_run.specs.inner.Answered.{AnswersCommand, AnswersLine, PassesOne, PassesLine}
 use Rattle.sj_text_core.specs.declared.repeats.Repeats.{Repeats}
 use Rattle.sj_run.specs.Repeats.{answer_by}
 use Rattle.sj_run.specs.Shown.{reply_text}
@@ -9,7 +9,7 @@ use Rattle.sj_commands.specs.CommandLines.{IsCommandOf}
 use Rattle.sj_commands.specs.Commands.{PlainCommand}
 
 -- a line's command that was answered, and its line feed
-pub line_answered : (t u : Repeats × Tree) (line old mid new : List ℕ) (c : PlainCommand) → IsCommandOf line c → ((d : PlainCommand) → IsCommandOf line d → d ≡ c) → Answers t c u old mid → new ≡ mid ++ 10 ∷ [] → AnswersLine t line u old new
+pub line_answered : (t u : Repeats × Tree) (line old mid new : List ℕ) (c : PlainCommand) → IsCommandOf line c → ((d : PlainCommand) → IsCommandOf line d → d ≡ c) → AnswersCommand t c u old mid → new ≡ mid ++ 10 ∷ [] → AnswersLine t line u old new
 line_answered t u line old mid new c is only a e = record {
   command = c;
   is = is;

@@ -9,17 +9,17 @@ use Rattle.sj_commands.specs.declared.command.Step as meant
 use Rattle.sj_text_core.specs.Print.{quoted}
 use Rattle.sj_object.specs.Entries.{Entry}
 use Rattle.sj_object.specs.Members.{entry_members}
-use Rattle.sj_document.specs.Document.{tree}
+use Rattle.sj_document.specs.Document.{document_tree}
 use Rattle.sj_document.specs.declared.value.Document.{Document}
 use Rattle.sj_run.specs.inner.Answered.{IsBegunBy}
 use Rattle.sj_run.specs.Shown.{more_texts, text_array}
 
 module _ {T : Type 0} (t : T → List ℕ) where
-  pub items_count : (vs : List (Document T)) → items_len (items_from (map (tree t) vs)) ≡ length vs
+  pub items_count : (vs : List (Document T)) → items_len (items_from (map (document_tree t) vs)) ≡ length vs
   items_count [] = refl
   items_count (v ∷ vs) = ap (λ n. suc n) (items_count vs)
 
-  pub members_count : (es : List (Entry T (Document T))) → members_len (entry_members (tree t) es) ≡ length es
+  pub members_count : (es : List (Entry T (Document T))) → members_len (entry_members (document_tree t) es) ≡ length es
   members_count [] = refl
   members_count (e ∷ es) = ap (λ n. suc n) (members_count es)
 

@@ -6,7 +6,7 @@ use Rattle.sj_text_core.specs.Edits.{last}
 use Rattle.sj_text_core.specs.Find.{find_member}
 use Rattle.sj_text_core.specs.Keep.{keep}
 use Rattle.sj_text_core.specs.Paths.{Step}
-use Rattle.sj_document.specs.Document.{tree}
+use Rattle.sj_document.specs.Document.{document_tree}
 use Rattle.sj_document.specs.declared.value.Document.{Document}
 use Rattle.sj_document.proofs.Kept.{tree_kept}
 use Rattle.sj_run.specs.Answers.{edit, edit_found, changed, old_or_nothing, IsLong}
@@ -18,18 +18,18 @@ use Rattle.sj_run.specs.Run.{Leaves}
 use Rattle.sj_run.specs.declared.change.Changed.{Changed}
 
 module _ {T : Type 0} (t : T → List ℕ) (p : List Step) (w : Write) (v : Document T) (u : Tree) where
-  kept : edit p w (tree t v) ≡ edit p w (keep (tree t v))
+  kept : edit p w (document_tree t v) ≡ edit p w (keep (document_tree t v))
   kept = ap (edit p w) (sym (tree_kept t v))
 
-  pub kept_reply : (r : Result (Changed T) AllocError) → Edits t p w (tree t v) u r → IfOk r (λ x. changed_meant t x ≡ (edit p w (keep (tree t v))).1)
+  pub kept_reply : (r : Result (Changed T) AllocError) → Edits t p w (document_tree t v) u r → IfOk r (λ x. changed_meant t x ≡ (edit p w (keep (document_tree t v))).1)
   kept_reply (Ok x) h = ap (λ q. q.1) (h ∙ kept)
   kept_reply (Err x) h = tt
 
-  pub kept_after : (r : Result (Changed T) AllocError) → Edits t p w (tree t v) u r → OnOk r (u ≡ (edit p w (keep (tree t v))).0)
+  pub kept_after : (r : Result (Changed T) AllocError) → Edits t p w (document_tree t v) u r → OnOk r (u ≡ (edit p w (keep (document_tree t v))).0)
   kept_after (Ok x) h = ap (λ q. q.0) (h ∙ kept)
   kept_after (Err x) h = tt
 
-  pub kept_refused : (r : Result (Changed T) AllocError) → Edits t p w (tree t v) u r → OnErr r (u ≡ tree t v)
+  pub kept_refused : (r : Result (Changed T) AllocError) → Edits t p w (document_tree t v) u r → OnErr r (u ≡ document_tree t v)
   kept_refused (Ok x) h = tt
   kept_refused (Err x) h = h
 

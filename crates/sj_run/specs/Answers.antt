@@ -12,9 +12,9 @@ use Rattle.sj_run.specs.Replies.{PlainReply}
 use Rattle.sj_run.specs.Replies as reply
 
 -- whether the tree is a whole number in the type's range, whatever its carrier
-abbrev pub is_in : Width → Tree → Bool
-is_in (signed bits) t = is_some (as_signed bits t)
-is_in (unsigned bits) t = is_some (as_unsigned bits t)
+abbrev pub fits_in : Width → Tree → Bool
+fits_in (signed bits) t = is_some (as_signed bits t)
+fits_in (unsigned bits) t = is_some (as_unsigned bits t)
 
 abbrev pub text_reply : Option (List ℕ) → PlainReply
 text_reply (Some s) = reply.text s
@@ -36,7 +36,7 @@ keys_reply None = reply.not_an_object
 -- what a read answers at the tree found
 abbrev pub reply_to : Read → Tree → PlainReply
 reply_to command.kind t = reply.kind (kind_of t)
-reply_to (command.fits w) t = reply.truth (is_in w t)
+reply_to (command.fits w) t = reply.truth (fits_in w t)
 reply_to command.str t = text_reply (as_text t)
 reply_to command.len t = len_reply t
 reply_to command.keys t = keys_reply (as_members t)

@@ -1,6 +1,6 @@
 -- What replies of the code mean.
 use Rattle.std.specs.Prelude.{map, string_bytes}
-use Rattle.sj_document.specs.Document.{tree}
+use Rattle.sj_document.specs.Document.{document_tree}
 use Rattle.sj_run.specs.Replies as said
 use Rattle.sj_run.specs.declared.reply.Reply.{Reply}
 use Rattle.sj_run.specs.declared.reply.Reply.TheVariants as reply
@@ -12,7 +12,7 @@ reply_meant (reply.Text s) = said.text (string_bytes s)
 reply_meant (reply.Count n) = said.count n
 reply_meant (reply.Keys ks) = said.keys (map string_bytes ks.items)
 reply_meant (reply.Printed s) = said.printed (string_bytes s)
-reply_meant (reply.Old v) = said.old (tree string_bytes v)
+reply_meant (reply.Old v) = said.old (document_tree string_bytes v)
 reply_meant reply.Nothing = said.nothing
 reply_meant reply.Done = said.done
 reply_meant reply.Missing = said.missing

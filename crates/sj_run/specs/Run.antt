@@ -35,6 +35,6 @@ pub record Faults (d : Repeats × Tree) (cs : List PlainCommand) (replies : List
   pub leaves : Leaves (part_after d before) refused after
 
 -- why a print is refused
-abbrev pub why_of : WriteError → Why
-why_of write_error.TooLong = TooLong
-why_of write_error.OutOfMemory = OutOfMemory
+abbrev pub print_fault : WriteError → Why
+print_fault write_error.TooLong = TooLong
+print_fault write_error.OutOfMemory = OutOfMemory

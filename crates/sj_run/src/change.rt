@@ -2,7 +2,7 @@
 
 ghost use Rattle.std.specs.Prelude.{◌≡◌, [], map, IfOk, OnOk, OnErr};
 ghost use Rattle.sj_text_core.specs.Keep.{keep};
-ghost use Rattle.sj_document.specs.Document.{tree};
+ghost use Rattle.sj_document.specs.Document.{document_tree};
 ghost use Rattle.sj_commands.specs.Commands as command;
 ghost use Rattle.sj_run.specs.inner.Asked.{write_meant};
 ghost use Rattle.sj_run.specs.Answers.{edit as edited, IsLong};
@@ -63,7 +63,7 @@ fn push<T: KeyText + Drop>(
     value: &mut Document<T>,
     new: Document<T>,
 ) -> Result<Changed<T>, AllocError>
-    ensures { Edits T.text_of [] (command.push (tree T.text_of new)) (tree T.text_of value.old) (tree T.text_of value.new) result }
+    ensures { Edits T.text_of [] (command.push (document_tree T.text_of new)) (document_tree T.text_of value.old) (document_tree T.text_of value.new) result }
 {
     match value.push(new) {
         Ok(()) => Ok(Changed::Done),
@@ -75,7 +75,7 @@ fn push<T: KeyText + Drop>(
 }
 
 fn pop<T: KeyText + Drop>(value: &mut Document<T>) -> Result<Changed<T>, AllocError>
-    ensures { Edits T.text_of [] command.pop (tree T.text_of value.old) (tree T.text_of value.new) result }
+    ensures { Edits T.text_of [] command.pop (document_tree T.text_of value.old) (document_tree T.text_of value.new) result }
 {
     match value.pop() {
         Ok(Some(last)) => Ok(Changed::Old(last)),
@@ -85,7 +85,7 @@ fn pop<T: KeyText + Drop>(value: &mut Document<T>) -> Result<Changed<T>, AllocEr
 }
 
 fn remove<T: KeyText + Drop>(value: &mut Document<T>, key: &str) -> Result<Changed<T>, AllocError>
-    ensures { Edits T.text_of [] (command.remove key.now) (tree T.text_of value.old) (tree T.text_of value.new) result }
+    ensures { Edits T.text_of [] (command.remove key.now) (document_tree T.text_of value.old) (document_tree T.text_of value.new) result }
 {
     match value.remove(key) {
         Ok(Some(before)) => Ok(Changed::Old(before)),
@@ -102,7 +102,7 @@ fn change<T: KeyText + Drop>(
 ) -> Result<Changed<T>, AllocError>
 where
     Way: Inserts<T>,
-    ensures { Edits T.text_of [] (write_meant T.text_of write) (tree T.text_of value.old) (tree T.text_of value.new) result }
+    ensures { Edits T.text_of [] (write_meant T.text_of write) (document_tree T.text_of value.old) (document_tree T.text_of value.new) result }
 {
     match write {
         Write::Insert(key, mut new) => way.insert(value, key, &mut new),
@@ -122,10 +122,10 @@ pub(crate) fn change_at<T: KeyText + Drop>(
 ) -> Result<Changed<T>, AllocError>
 where
     Way: Inserts<T>,
-    ensures reply { IfOk result (λ changed. changed_meant T.text_of changed ≡ (edited (map step_meant path.now) (write_meant T.text_of write) (keep (tree T.text_of value.old))).1) }
-    ensures after { OnOk result (tree T.text_of value.new ≡ (edited (map step_meant path.now) (write_meant T.text_of write) (keep (tree T.text_of value.old))).0) }
-    ensures refused { OnErr result (tree T.text_of value.new ≡ tree T.text_of value.old) }
-    ensures short { ¬ (IsLong (edited (map step_meant path.now) (write_meant T.text_of write) (keep (tree T.text_of value.old))).1) }
+    ensures reply { IfOk result (λ changed. changed_meant T.text_of changed ≡ (edited (map step_meant path.now) (write_meant T.text_of write) (keep (document_tree T.text_of value.old))).1) }
+    ensures after { OnOk result (document_tree T.text_of value.new ≡ (edited (map step_meant path.now) (write_meant T.text_of write) (keep (document_tree T.text_of value.old))).0) }
+    ensures refused { OnErr result (document_tree T.text_of value.new ≡ document_tree T.text_of value.old) }
+    ensures short { ¬ (IsLong (edited (map step_meant path.now) (write_meant T.text_of write) (keep (document_tree T.text_of value.old))).1) }
 {
     edit_at(value, way, path, write)
 }

@@ -59,10 +59,10 @@ pub struct OwnedDoc {
 
 impl Document for OwnedDoc {
     ghost use Rattle.std.specs.Prelude.{string_bytes};
-    ghost use Rattle.sj_document.specs.Document.{tree as tree_of};
+    ghost use Rattle.sj_document.specs.Document.{document_tree};
     ghost use Rattle.sj_text_core.specs.declared.repeats.Repeats.TheVariants.{First};
 
-    ghost part = { λ d. (First, tree_of string_bytes d.value) };
+    ghost part = { λ d. (First, document_tree string_bytes d.value) };
 
     fn apply(&mut self, alloc: Global, command: Command) -> Result<Reply, Why> {
         match taken_apart(command) {
@@ -87,10 +87,10 @@ pub struct BorrowedDoc<'v> {
 
 impl<'v> Document for BorrowedDoc<'v> {
     ghost use Rattle.std.specs.Cow.{cow_str_bytes};
-    ghost use Rattle.sj_document.specs.Document.{tree as tree_of};
+    ghost use Rattle.sj_document.specs.Document.{document_tree};
     ghost use Rattle.sj_text_core.specs.declared.repeats.Repeats.TheVariants.{First};
 
-    ghost part = { λ d. (First, tree_of cow_str_bytes d.value) };
+    ghost part = { λ d. (First, document_tree cow_str_bytes d.value) };
 
     fn apply(&mut self, alloc: Global, command: Command) -> Result<Reply, Why> {
         match taken_apart(command) {

@@ -2,8 +2,8 @@
 
 ghost use Rattle.std.specs.Prelude.{◌≡◌, ◌↔◌, ◌+◌, ◌^◌, ◌≤◌, map, option_map, length, IfOk, IfSome, OnOk, OnErr, IsErrOf};
 ghost use Rattle.sj_text_core.specs.Paths.{step_into_by, token_into_by, tree_at_by};
-ghost use Rattle.sj_run.specs.Answers.{is_in, IsLong};
-ghost use Rattle.sj_run.specs.inner.Answered.{Answers, IsBegunBy, PassesOne};
+ghost use Rattle.sj_run.specs.Answers.{fits_in, IsLong};
+ghost use Rattle.sj_run.specs.inner.Answered.{AnswersCommand, IsBegunBy, PassesOne};
 ghost use Rattle.sj_run.specs.inner.Asked.{read_meant};
 ghost use Rattle.sj_commands.specs.Commands as command;
 ghost use Rattle.sj_run.specs.inner.Found.{found_meant};
@@ -63,7 +63,7 @@ fn place_at<P: Place>(place: P, way: Way, path: &[Step]) -> Option<P>
 
 /// Whether the value is a whole number in the type's range.
 fn fits<V: ValueAsScalar>(value: &V, width: Width) -> bool
-    ensures { result ≡ is_in (width_meant width) (V.tree value.now) }
+    ensures { result ≡ fits_in (width_meant width) (V.tree value.now) }
 {
     match width {
         Width::I8 => value.is_i8(),
@@ -127,7 +127,7 @@ pub(crate) fn write_at<P: Place>(
     read: &Read,
     out: &mut Vec<u8>,
 ) -> Result<(), Why>
-    ensures ok { OnOk result (Answers (P.choice place, P.tree_of place) (command.read (map step_meant path.now) (read_meant read.now)) (P.choice place, P.tree_of place) out.old.items out.new.items) }
+    ensures ok { OnOk result (AnswersCommand (P.choice place, P.tree_of place) (command.read (map step_meant path.now) (read_meant read.now)) (P.choice place, P.tree_of place) out.old.items out.new.items) }
     ensures err { OnErr result (IsBegunBy out.old.items out.new.items) }
     ensures too_long { IsErrOf result Why.TooLong → PassesOne (P.choice place, P.tree_of place) (command.read (map step_meant path.now) (read_meant read.now)) (length out.old.items) }
 {

@@ -6,7 +6,7 @@ ghost use Rattle.std.specs.Option.{option_copied_mut};
 ghost use Rattle.sj_text_core.specs.Find.{find};
 ghost use Rattle.sj_object.specs.Edits.{lookup};
 ghost use Rattle.sj_borrowed.specs.Loans.{LendsKnown};
-ghost use Rattle.sj_document.specs.Document.{tree};
+ghost use Rattle.sj_document.specs.Document.{document_tree};
 
 use crate::document::Way;
 use sj_borrowed::KnownKey;
@@ -19,7 +19,7 @@ pub(crate) fn member<'v, T: KeyText>(
     way: Way,
     key: &str,
 ) -> Option<&'v Document<T>>
-    ensures { option_map (λ v. tree T.text_of v.now) result ≡ find key.now (tree T.text_of value.now) }
+    ensures { option_map (λ v. document_tree T.text_of v.now) result ≡ find key.now (document_tree T.text_of value.now) }
 {
     match way {
         Way::ByText => value.get(key),

@@ -48,9 +48,9 @@ impl<T: Drop> From<AllocFailed<T>> for Why {
 
 impl From<WriteError> for Why {
     ghost use Rattle.std.specs.Prelude.{◌≡◌};
-    ghost use Rattle.sj_run.specs.Run.{why_of};
+    ghost use Rattle.sj_run.specs.Run.{print_fault};
 
-    ghost from_gives = { λ error why. why ≡ why_of error };
+    ghost from_gives = { λ error why. why ≡ print_fault error };
 
     fn from(error: WriteError) -> Why {
         match error {

@@ -3,7 +3,7 @@
 ghost use Rattle.std.specs.Prelude.{◌≡◌, ◌≢◌, ◌↔◌, List, ℕ, ◌++◌, OnOk, OnErr, IsErrOf, IsUtf8, Err, length, string_bytes};
 ghost use Rattle.sj_text_core.specs.Grammar.{IsReadable};
 ghost use Rattle.sj_text_core.specs.declared.repeats.Repeats.TheVariants.{First};
-ghost use Rattle.sj_document.specs.Document.{tree};
+ghost use Rattle.sj_document.specs.Document.{document_tree};
 ghost use Rattle.sj_commands.specs.Lines.{document as document_of, full_lines, line_texts};
 ghost use Rattle.sj_run.specs.Answered.{AnswersLines, PassesLines};
 ghost use Rattle.sj_run.specs.Session.{IsServed, IsAnswered, IsAnsweredBy, PassesAll, PassesAllBy};
@@ -155,9 +155,9 @@ pub fn answer_owned(
     lines: &mut [u8],
     out: &mut Vec<u8>,
 ) -> Result<(), Why>
-    ensures ok { OnOk result (AnswersLines (First, tree string_bytes document.old.value) (line_texts (full_lines lines.old)) (First, tree string_bytes document.new.value) out.old.items out.new.items) }
+    ensures ok { OnOk result (AnswersLines (First, document_tree string_bytes document.old.value) (line_texts (full_lines lines.old)) (First, document_tree string_bytes document.new.value) out.old.items out.new.items) }
     ensures err { OnErr result (out.new.items ≡ out.old.items) }
-    ensures too_long { IsErrOf result Why.TooLong → PassesLines (First, tree string_bytes document.old.value) (line_texts (full_lines lines.old)) (length out.old.items) }
+    ensures too_long { IsErrOf result Why.TooLong → PassesLines (First, document_tree string_bytes document.old.value) (line_texts (full_lines lines.old)) (length out.old.items) }
 {
     answer_all(alloc, document, lines, out)
 }

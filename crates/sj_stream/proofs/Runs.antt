@@ -3,16 +3,16 @@ use Rattle.std.proofs.Common.{◌≡◌, ℕ, List, [], ◌∷◌, ◌++◌, Res
 use Rattle.sj_stream.specs.declared.unread.Unread.{Unread}
 use Rattle.sj_stream.specs.declared.stream.Stream.{Stream}
 use Rattle.sj_stream.specs.Stream.{Steps, current, waiting}
-use Rattle.sj_stream.specs.Readings.{Answer, Answers, AreRefusals, refusals, onto_refusals}
+use Rattle.sj_stream.specs.Readings.{Answer, EachIsRead, AreRefusals, refusals, onto_refusals}
 
 -- what was read of the texts, so that a reading of those ahead is one of all
 pub record Ran (all ahead : List (ℕ × List ℕ)) (us : List Unread) : Type 0 where
   pub answers : List Answer
-  pub goes_on : (bs : List Answer) → Answers ahead bs → Answers all (answers ++ bs)
+  pub goes_on : (bs : List Answer) → EachIsRead ahead bs → EachIsRead all (answers ++ bs)
   pub refused : refusals answers ≡ us
 
 pub ran-none : (all ahead : List (ℕ × List ℕ)) → ahead ≡ all → Ran all ahead []
-ran-none all ahead e = record { answers = []; goes_on = λ bs h. subst (λ (ps : List (ℕ × List ℕ)). Answers ps bs) e h; refused = refl }
+ran-none all ahead e = record { answers = []; goes_on = λ bs h. subst (λ (ps : List (ℕ × List ℕ)). EachIsRead ps bs) e h; refused = refl }
 
 onto-append : (r : Result ℕ Unread) (us vs : List Unread) → onto_refusals r us ++ vs ≡ onto_refusals r (us ++ vs)
 onto-append (Ok n) us vs = refl
@@ -27,14 +27,14 @@ pub ran-more : (all : List (ℕ × List ℕ)) (old new : Stream) (us : List Unre
 ran-more all old new us a r s =
     let one : Answer = (a, current new) in record {
       answers = r.answers ++ one ∷ [];
-      goes_on = λ bs h. subst (λ (l : List Answer). Answers all l) (sym (append_assoc r.answers (one ∷ []) bs))
-          (r.goes_on (one ∷ bs) (subst (λ (ps : List (ℕ × List ℕ)). Answers ps (one ∷ bs)) (sym s.1) (refl, s.2, h)));
+      goes_on = λ bs h. subst (λ (l : List Answer). EachIsRead all l) (sym (append_assoc r.answers (one ∷ []) bs))
+          (r.goes_on (one ∷ bs) (subst (λ (ps : List (ℕ × List ℕ)). EachIsRead ps (one ∷ bs)) (sym s.1) (refl, s.2, h)));
       refused = refusals-append r.answers (one ∷ []) ∙ ap (λ l. l ++ onto_refusals a []) r.refused;
     }
 
 pub ran-all : (all ahead : List (ℕ × List ℕ)) (us : List Unread) → Ran all ahead us → ahead ≡ [] → AreRefusals all us
 ran-all all ahead us r e = (
   r.answers,
-  subst (λ (l : List Answer). Answers all l) (append-nil r.answers) (r.goes_on [] (subst (λ (ps : List (ℕ × List ℕ)). Answers ps []) (sym e) tt)),
+  subst (λ (l : List Answer). EachIsRead all l) (append-nil r.answers) (r.goes_on [] (subst (λ (ps : List (ℕ × List ℕ)). EachIsRead ps []) (sym e) tt)),
   r.refused,
 )

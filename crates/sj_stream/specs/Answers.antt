@@ -6,9 +6,9 @@ use Rattle.sj_text_core.specs.declared.error.ErrorKind.TheVariants.{InvalidUtf8,
 use Rattle.sj_stream.specs.declared.unread.Unread.{Unread}
 
 -- which line an answer is of
-abbrev pub line_of : Result ℕ Unread → ℕ
-line_of (Ok n) = n
-line_of (Err u) = u.line
+abbrev pub answer_line : Result ℕ Unread → ℕ
+answer_line (Ok n) = n
+answer_line (Err u) = u.line
 
 -- t is what the text spells, or the text was refused and why says what may be said of it
 abbrev pub IsRead : List ℕ → Result ℕ Unread → Option Tree → Type 0

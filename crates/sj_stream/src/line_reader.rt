@@ -52,9 +52,9 @@ pub(crate) enum Kept {
 }
 
 impl<'i> LineReader<'i> {
-    ghost use Rattle.sj_tape.specs.Value.{tree, choice};
+    ghost use Rattle.sj_tape.specs.Value.{tape_tree, tape_choice};
     ghost use Rattle.sj_stream.specs.Reader.{tree_read, tells_places, line_kept};
-    ghost use Rattle.sj_stream.specs.Answers.{line_of, IsRead};
+    ghost use Rattle.sj_stream.specs.Answers.{answer_line, IsRead};
 
     /// One that has read nothing. It asks for no memory.
     pub fn new(alloc: Global) -> Self
@@ -83,7 +83,7 @@ impl<'i> LineReader<'i> {
     /// Reads a line, and answers its number, or why it is not read. The bytes of the line are changed by
     /// the reading. The next line is read whatever came of this one.
     pub fn read(&mut self, line: Line<'i>) -> Result<usize, Unread>
-        ensures number { line_of result ≡ line.entry.number }
+        ensures number { answer_line result ≡ line.entry.number }
         ensures read { IsRead line.entry.text.now result (tree_read self.new) }
         ensures placed { IsPlaced (tells_places self.old) line.entry.text.now result (line_kept self.new) }
         ensures places { tells_places self.new ≡ tells_places self.old }
@@ -118,8 +118,8 @@ impl<'i> LineReader<'i> {
 
     /// The document of the line that was read last; None where it was not read, or where none was.
     pub fn value(&self, repeats: Repeats) -> Option<Value<'_, 'i>>
-        ensures tree { option_map tree result ≡ tree_read self.now }
-        ensures choice { IfSome result (λ v. choice v ≡ repeats) }
+        ensures tree { option_map tape_tree result ≡ tree_read self.now }
+        ensures choice { IfSome result (λ v. tape_choice v ≡ repeats) }
     {
         match &self.slot {
             Slot::Read(tape) => Some(tape.as_value_repeats(repeats)),

@@ -1,7 +1,7 @@
 //! The documents of an input, one after another, in memory that is used again.
 
 ghost use Rattle.std.specs.Prelude.{◌≡◌, None, true, false, [], IfNone, IfSome, IfOk, option_map};
-ghost use Rattle.sj_lines.specs.Lines.{texts};
+ghost use Rattle.sj_lines.specs.Lines.{numbered_lines};
 ghost use Rattle.sj_stream.specs.Readings.{AreRefusals};
 
 use crate::line_reader::LineReader;
@@ -22,13 +22,13 @@ pub struct Stream<'i> {
 }
 
 impl<'i> Stream<'i> {
-    ghost use Rattle.sj_tape.specs.Value.{tree, choice};
+    ghost use Rattle.sj_tape.specs.Value.{tape_tree, tape_choice};
     ghost use Rattle.sj_lines.specs.Ahead.{ahead};
-    ghost use Rattle.sj_stream.specs.Stream.{waiting, current, tells, kept, Steps};
+    ghost use Rattle.sj_stream.specs.Stream.{waiting, current, tells, text_kept, Steps};
 
     /// That of an input. It asks for no memory.
     pub fn new(alloc: Global, input: &'i mut [u8]) -> Stream<'i>
-        ensures waiting { waiting result ≡ texts input.entry.now }
+        ensures waiting { waiting result ≡ numbered_lines input.entry.now }
         ensures current { current result ≡ None }
         ensures tells { tells result ≡ false }
     {
@@ -72,8 +72,8 @@ impl<'i> Stream<'i> {
 
     /// The document of the line that was read last; None where it was not read, or where none was.
     pub fn value(&self, repeats: Repeats) -> Option<Value<'_, 'i>>
-        ensures tree { option_map tree result ≡ current self.now }
-        ensures choice { IfSome result (λ v. choice v ≡ repeats) }
+        ensures tree { option_map tape_tree result ≡ current self.now }
+        ensures choice { IfSome result (λ v. tape_choice v ≡ repeats) }
     {
         self.reader.value(repeats)
     }
@@ -81,7 +81,7 @@ impl<'i> Stream<'i> {
     /// The text of the line that was read last, as it came; None where no places are told, where memory
     /// for it was refused, and where none was read.
     pub fn text(&self) -> Option<&[u8]>
-        ensures { option_map (λ t. t.now) result ≡ kept self.now }
+        ensures { option_map (λ t. t.now) result ≡ text_kept self.now }
     {
         self.reader.text()
     }
@@ -90,7 +90,7 @@ impl<'i> Stream<'i> {
 /// The lines that are not read, with why, in order: what a stream over the input answers. The bytes
 /// of the input are changed by the reading.
 pub fn unread_lines(alloc: Global, input: &mut [u8]) -> Result<Vec<Unread>, AllocError>
-    ensures { IfOk result (λ found. AreRefusals (texts input.old) found.items) }
+    ensures { IfOk result (λ found. AreRefusals (numbered_lines input.old) found.items) }
 {
     let mut found = Vec::new(alloc);
     let mut stream = Stream::new(alloc, input);

@@ -8,9 +8,9 @@ use Rattle.sj_text_core.specs.Repeats.{visited, find_last_member}
 use Rattle.sj_text_core.specs.Nodes.{Mark, nothing, string, width, members_in}
 use Rattle.sj_text_core.specs.inner.Nodes.{AreMembers}
 use Rattle.sj_text_core.specs.declared.repeats.Repeats.{Repeats}
-use Rattle.sj_tape.specs.inner.Ahead.{MembersAhead, members_from, tree_from, part_from}
+use Rattle.sj_tape.specs.inner.Ahead.{MembersAhead, members_at, tree_from, part_from}
 use Rattle.sj_tape.specs.inner.Fronts.{BeginsTree}
-use Rattle.sj_tape.specs.inner.Tags.{member_at}
+use Rattle.sj_tape.specs.inner.Tags.{member_node}
 use Rattle.sj_tape.proofs.MemberPlaces.{member_from, next_member_place}
 use Rattle.sj_tape.proofs.Splits.{first_member, next_member, BeginsTree-member, tree_at}
 
@@ -21,7 +21,7 @@ pub record NextAhead (ns : List Mark) (place : ℕ) : Type 0 where
   pub fits : place + 1 + width (get_or ns (place + 1) nothing) ≤ length ns
   pub text : get_or ns place nothing ≡ string key
   pub begins : BeginsTree (drop (place + 1) ns)
-  pub members : members_from ns place ≡ member key (tree_from ns (place + 1)) (members_from ns (place + 1 + width (get_or ns (place + 1) nothing)))
+  pub members : members_at ns place ≡ member key (tree_from ns (place + 1)) (members_at ns (place + 1 + width (get_or ns (place + 1) nothing)))
   pub next : MembersAhead ns (place + 1 + width (get_or ns (place + 1) nothing))
 
 pub next_ahead : (ns : List Mark) (place : ℕ) → MembersAhead ns place → place < length ns → NextAhead ns place
@@ -83,24 +83,24 @@ pub later_holds : (r : Option ℕ) (b : Bool) (p : ℕ) (last : Option ℕ) (P :
 later_holds r b p last P e h i = subst (λ o. IfSome o P) (sym e) (by_later b p last P h i)
 
 -- a member begins where the widths in front of it end
-pub at_ahead : (ns : List Mark) → AreMembers ns → (i : ℕ) → i ≤ members_len (members_in ns) → MembersAhead ns (member_at ns i)
+pub at_ahead : (ns : List Mark) → AreMembers ns → (i : ℕ) → i ≤ members_len (members_in ns) → MembersAhead ns (member_node ns i)
 at_ahead ns a i l = let m = member_from ns a i l in record { inside = m.inside; are = m.are }
 
-pub at_more : (ns : List Mark) → AreMembers ns → (i : ℕ) → i < members_len (members_in ns) → member_at ns i < length ns
-at_more ns a i l = omega (arith, (next_member_place ns i (member_at ns i) (member_from ns a i (omega (arith, l))) l).behind)
+pub at_more : (ns : List Mark) → AreMembers ns → (i : ℕ) → i < members_len (members_in ns) → member_node ns i < length ns
+at_more ns a i l = omega (arith, (next_member_place ns i (member_node ns i) (member_from ns a i (omega (arith, l))) l).behind)
 
-pub next_at : (ns : List Mark) → AreMembers ns → (i : ℕ) → i < members_len (members_in ns) → NextAhead ns (member_at ns i)
-next_at ns a i l = next_ahead ns (member_at ns i) (at_ahead ns a i (omega (arith, l))) (at_more ns a i l)
+pub next_at : (ns : List Mark) → AreMembers ns → (i : ℕ) → i < members_len (members_in ns) → NextAhead ns (member_node ns i)
+next_at ns a i l = next_ahead ns (member_node ns i) (at_ahead ns a i (omega (arith, l))) (at_more ns a i l)
 
-pub at_next : (ns : List Mark) (i p : ℕ) → p ≡ member_at ns i → p + 1 + width (get_or ns (p + 1) nothing) ≡ member_at ns (i + 1)
-unfolding member_at
-at_next ns i p e = let n : suc i ≡ i + 1 = omega arith in ap (λ q. q + 1 + width (get_or ns (q + 1) nothing)) e ∙ ap (member_at ns) n
+pub at_next : (ns : List Mark) (i p : ℕ) → p ≡ member_node ns i → p + 1 + width (get_or ns (p + 1) nothing) ≡ member_node ns (i + 1)
+unfolding member_node
+at_next ns i p e = let n : suc i ≡ i + 1 = omega arith in ap (λ q. q + 1 + width (get_or ns (q + 1) nothing)) e ∙ ap (member_node ns) n
 
 -- what is found, with a choice
 pub parts_there : (c : Repeats) (ns : List Mark) (o : Option ℕ) (f : Option Tree) → option_map (tree_from ns) o ≡ f → option_map (part_from c ns) o ≡ option_map (λ (t : Tree). (c, t)) f
 parts_there c ns None f e = ap (λ (o : Option Tree). option_map (λ (t : Tree). (c, t)) o) e
 parts_there c ns (Some p) f e = ap (λ (o : Option Tree). option_map (λ (t : Tree). (c, t)) o) e
 
-pub first_at : (ns : List Mark) → 0 ≡ member_at ns 0
-unfolding member_at
+pub first_at : (ns : List Mark) → 0 ≡ member_node ns 0
+unfolding member_node
 first_at ns = refl

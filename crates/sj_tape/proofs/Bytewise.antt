@@ -2,13 +2,13 @@
 use Rattle.std.proofs.Common.{◌≡◌, ℕ, true, false, List, [], ◌∷◌, ◌++◌, Some, codes}
 use Rattle.sj_text_core.specs.Tree.{Tree, null, boolean, int, text, list, obj, Items, no_items, item, Members, no_members, member}
 use Rattle.sj_text_core.specs.Grammar.{IsBlank, Spaced, IsNumber}
-use Rattle.sj_text_core.specs.inner.Parse.{text_at}
+use Rattle.sj_text_core.specs.inner.Parse.{read_text}
 
 pub record IsString (b : List ℕ) (s : List ℕ) : Type 0 where
   pub inside : List ℕ
   pub rest : List ℕ
   pub is : b ≡ 34 ∷ (inside ++ 34 ∷ [])
-  pub was : text_at (inside ++ (34 ∷ rest)) ≡ Some (s, rest)
+  pub was : read_text (inside ++ (34 ∷ rest)) ≡ Some (s, rest)
 
 -- sections 3 to 5
 abbrev mutual

@@ -2,7 +2,7 @@
 use Rattle.std.proofs.Common.{◌≡◌, ℕ, List, [], ◌∷◌, map, refl, sym, ap, ◌∙◌}
 use Rattle.sj_text_core.specs.Tree.{Tree}
 use Rattle.sj_text_core.specs.declared.repeats.Repeats.{Repeats}
-use Rattle.sj_tape.specs.Members.{chosen}
+use Rattle.sj_tape.specs.Members.{chosen_pairs}
 
 abbrev Part : Type 0
 Part = Repeats × Tree
@@ -17,7 +17,7 @@ pub trees_of : (c : Repeats) (ts : List Tree) → trees (map {B = Repeats × Tre
 trees_of c [] = refl
 trees_of c (t ∷ ts) = ap (λ l. t ∷ l) (trees_of c ts)
 
-pub pairs_of : (c : Repeats) (ps : List (List ℕ × Tree)) → pairs (chosen c ps) ≡ ps
+pub pairs_of : (c : Repeats) (ps : List (List ℕ × Tree)) → pairs (chosen_pairs c ps) ≡ ps
 pairs_of c [] = refl
 pairs_of c (p ∷ ps) = ap (λ l. p ∷ l) (pairs_of c ps)
 
@@ -29,8 +29,8 @@ pub items_end : (c : Repeats) (ts : List Tree) → map {B = Repeats × Tree} (λ
 items_end c ts e = sym (trees_of c ts) ∙ ap trees e
 
 -- one member, and those behind it
-pub member_step : (c d : Repeats) (k : List ℕ) (p : Part) (ps qs : List (List ℕ × Tree)) → chosen c ps ≡ (k, p) ∷ chosen d qs → ps ≡ (k, p.1) ∷ qs
+pub member_step : (c d : Repeats) (k : List ℕ) (p : Part) (ps qs : List (List ℕ × Tree)) → chosen_pairs c ps ≡ (k, p) ∷ chosen_pairs d qs → ps ≡ (k, p.1) ∷ qs
 member_step c d k p ps qs e = sym (pairs_of c ps) ∙ ap pairs e ∙ ap (λ l. (k, p.1) ∷ l) (pairs_of d qs)
 
-pub members_end : (c : Repeats) (ps : List (List ℕ × Tree)) → chosen c ps ≡ [] → ps ≡ []
+pub members_end : (c : Repeats) (ps : List (List ℕ × Tree)) → chosen_pairs c ps ≡ [] → ps ≡ []
 members_end c ps e = sym (pairs_of c ps) ∙ ap pairs e

@@ -5,7 +5,7 @@ use Rattle.sj_text_core.specs.Tree.{Tree, null, boolean, int, text, list, obj, I
 use Rattle.sj_text_core.specs.Find.{find_member}
 use Rattle.sj_text_core.specs.Keep.{is_seen}
 use Rattle.sj_text_core.specs.Same.{Same}
-use Rattle.sj_text_core.specs.Agree.{is_before, texts}
+use Rattle.sj_text_core.specs.Agree.{is_seen_before, pair_keys}
 use Rattle.sj_text_core.specs.inner.Agree.{HasTexts, Agree}
 use Rattle.sj_text_core.proofs.Comparing.{by_either, not_found, not_there, agree_repeat, agree_found, agree_in_step, texts_in_step, not_same_absent, same_first, same_first_in_step, all_agree, same_in_step, not_same_extra}
 use Rattle.sj_text_core.proofs.Shapes.{members_from-paired}
@@ -67,49 +67,49 @@ either true x y e f = refl
 either false x y e f = f e
 
 -- what is before a place is before a later one
-before_later : (n m : ℕ) (k : List ℕ) (ps : List (List ℕ × Tree)) → n ≤ m → is_before n k ps ≡ true → is_before m k ps ≡ true
+before_later : (n m : ℕ) (k : List ℕ) (ps : List (List ℕ × Tree)) → n ≤ m → is_seen_before n k ps ≡ true → is_seen_before m k ps ≡ true
 before_later zero m k ps h e = cc
 before_later (suc n) zero k ps h e = absurd (omega (arith, h))
 before_later (suc n) (suc m) k [] h e = e
-before_later (suc n) (suc m) k (p ∷ ps) h e = either (bytes_eq k p.0) (is_before n k ps) (is_before m k ps) e (before_later n m k ps (omega (arith, h)))
+before_later (suc n) (suc m) k (p ∷ ps) h e = either (bytes_eq k p.0) (is_seen_before n k ps) (is_seen_before m k ps) e (before_later n m k ps (omega (arith, h)))
 
 pub agree_less : (n m : ℕ) (ps qs : List (List ℕ × Tree)) → n ≤ m → Agree m ps qs → Agree n ps qs
 agree_less n m ps qs h a = λ k e. a k (before_later n m k ps h e)
 
-seen_before : (n : ℕ) (k : List ℕ) (ps : List (List ℕ × Tree)) → is_seen k (texts (take n ps)) ≡ true → is_seen k (texts ps) ≡ true
+seen_before : (n : ℕ) (k : List ℕ) (ps : List (List ℕ × Tree)) → is_seen k (pair_keys (take n ps)) ≡ true → is_seen k (pair_keys ps) ≡ true
 seen_before zero k ps e = cc
 seen_before (suc n) k [] e = e
-seen_before (suc n) k (p ∷ ps) e = by (bytes_eq k p.0) (is_seen k (texts (take n ps))) (is_seen k (texts ps)) e (seen_before n k ps) where
+seen_before (suc n) k (p ∷ ps) e = by (bytes_eq k p.0) (is_seen k (pair_keys (take n ps))) (is_seen k (pair_keys ps)) e (seen_before n k ps) where
   by : (b x y : Bool) → (b || x) ≡ true → (x ≡ true → y ≡ true) → (b || y) ≡ true
   by true x y e f = refl
   by false x y e f = f e
 
-either_seen : (n : ℕ) (k : List ℕ) (ps : List (List ℕ × Tree)) (P : Type 0) → is_seen k (texts ps) ≡ true → (is_seen k (texts (take n ps)) ≡ true → P) → (is_seen k (drop n (texts ps)) ≡ true → P) → P
+either_seen : (n : ℕ) (k : List ℕ) (ps : List (List ℕ × Tree)) (P : Type 0) → is_seen k (pair_keys ps) ≡ true → (is_seen k (pair_keys (take n ps)) ≡ true → P) → (is_seen k (drop n (pair_keys ps)) ≡ true → P) → P
 either_seen zero k ps P e f g = g e
 either_seen (suc n) k [] P e f g = f e
-either_seen (suc n) k (p ∷ ps) P e f g = by (bytes_eq k p.0) (is_seen k (texts ps)) (is_seen k (texts (take n ps))) e f (λ h i. either_seen n k ps P h i g) where
+either_seen (suc n) k (p ∷ ps) P e f g = by (bytes_eq k p.0) (is_seen k (pair_keys ps)) (is_seen k (pair_keys (take n ps))) e f (λ h i. either_seen n k ps P h i g) where
   by : (b x y : Bool) → (b || x) ≡ true → ((b || y) ≡ true → P) → (x ≡ true → (y ≡ true → P) → P) → P
   by true x y e f h = f refl
   by false x y e f h = h e f
 
 -- texts in step are in both
-pub has_rest : (n : ℕ) (ps qs : List (List ℕ × Tree)) (ks : List (List ℕ)) → texts (take n ps) ≡ texts (take n qs) → ks ≡ texts qs → ((k : List ℕ) → is_seen k (drop n ks) ≡ true → is_seen k (texts ps) ≡ true) → HasTexts ps qs
+pub has_rest : (n : ℕ) (ps qs : List (List ℕ × Tree)) (ks : List (List ℕ)) → pair_keys (take n ps) ≡ pair_keys (take n qs) → ks ≡ pair_keys qs → ((k : List ℕ) → is_seen k (drop n ks) ≡ true → is_seen k (pair_keys ps) ≡ true) → HasTexts ps qs
 has_rest n ps qs ks w e h = λ k s. either_seen n k qs _ s (λ b. seen_before n k ps (ap (is_seen k) w ∙ b)) (λ b. h k (ap (λ ks. is_seen k (drop n ks)) e ∙ b))
 
 -- a key that is found is there
-pub has_key : (k : List ℕ) (ms : Members) → (find_member k ms ≡ None → ⊥) → is_seen k (texts (paired ms)) ≡ true
-has_key k ms h = by_either (is_seen k (texts (paired ms))) _ (λ b. b) (λ b. absurd (h (ap (find_member k) (sym (members_from-paired ms)) ∙ not_found k (paired ms) b)))
+pub has_key : (k : List ℕ) (ms : Members) → (find_member k ms ≡ None → ⊥) → is_seen k (pair_keys (paired ms)) ≡ true
+has_key k ms h = by_either (is_seen k (pair_keys (paired ms))) _ (λ b. b) (λ b. absurd (h (ap (find_member k) (sym (members_from-paired ms)) ∙ not_found k (paired ms) b)))
 
 -- a key that is not found is not there
-pub has_not_key : (k : List ℕ) (ms : Members) → find_member k ms ≡ None → is_seen k (texts (paired ms)) ≡ true → ⊥
+pub has_not_key : (k : List ℕ) (ms : Members) → find_member k ms ≡ None → is_seen k (pair_keys (paired ms)) ≡ true → ⊥
 has_not_key k ms e h = true≢false (sym h ∙ not_there k (paired ms) (ap (find_member k) (members_from-paired ms) ∙ e))
 
 -- one key more that is there
-pub key_there : (k l : List ℕ) (ks rest : List (List ℕ)) (n : ℕ) (ps : List (List ℕ × Tree)) → ks ≡ l ∷ rest → n ≤ 0 → is_seen l (texts ps) ≡ true → ((k : List ℕ) → is_seen k (drop n rest) ≡ true → is_seen k (texts ps) ≡ true)
-    → is_seen k (drop n ks) ≡ true → is_seen k (texts ps) ≡ true
+pub key_there : (k l : List ℕ) (ks rest : List (List ℕ)) (n : ℕ) (ps : List (List ℕ × Tree)) → ks ≡ l ∷ rest → n ≤ 0 → is_seen l (pair_keys ps) ≡ true → ((k : List ℕ) → is_seen k (drop n rest) ≡ true → is_seen k (pair_keys ps) ≡ true)
+    → is_seen k (drop n ks) ≡ true → is_seen k (pair_keys ps) ≡ true
 key_there k l ks rest zero ps e z f h s = by (bytes_eq k l) (is_seen k rest) refl (ap (is_seen k) (sym e) ∙ s) where
-  by : (b x : Bool) → bytes_eq k l ≡ b → (b || is_seen k rest) ≡ true → is_seen k (texts ps) ≡ true
-  by true x d s = ap (λ k. is_seen k (texts ps)) ((bytes_eq-Decides k l).0 d) ∙ f
+  by : (b x : Bool) → bytes_eq k l ≡ b → (b || is_seen k rest) ≡ true → is_seen k (pair_keys ps) ≡ true
+  by true x d s = ap (λ k. is_seen k (pair_keys ps)) ((bytes_eq-Decides k l).0 d) ∙ f
   by false x d s = h k s
 key_there k l ks rest (suc n) ps e z f h s = absurd (omega (arith, z))
 
@@ -141,21 +141,21 @@ module _ (n : ℕ) (k : List ℕ) (t : Tree) (ms ns : Members) (ahead rest : Lis
   next = omega arith
 
   -- a first pair that the other has not
-  pub differ_absent : is_before n k (paired ms) ≡ false → find_member k ns ≡ None → Same (obj ms) (obj ns) → ⊥
+  pub differ_absent : is_seen_before n k (paired ms) ≡ false → find_member k ns ≡ None → Same (obj ms) (obj ns) → ⊥
   differ_absent b f h = not_same_absent n k t (paired ms) (paired ns) rest here b (ap (find_member k) (members_from-paired ns) ∙ f) (to_pairs ms ns h)
 
   -- a first pair, and what the other has
-  pub same_found : (u : Tree) → is_before n k (paired ms) ≡ false → find_member k ns ≡ Some u → Same (obj ms) (obj ns) → Same t u
+  pub same_found : (u : Tree) → is_seen_before n k (paired ms) ≡ false → find_member k ns ≡ Some u → Same (obj ms) (obj ns) → Same t u
   same_found u b f h = same_first n k t u (paired ms) (paired ns) rest here b (ap (find_member k) (members_from-paired ns) ∙ f) (to_pairs ms ns h)
 
-  pub further_repeat : is_before n k (paired ms) ≡ true → Agree n (paired ms) (paired ns) → Agree (n + 1) (paired ms) (paired ns)
+  pub further_repeat : is_seen_before n k (paired ms) ≡ true → Agree n (paired ms) (paired ns) → Agree (n + 1) (paired ms) (paired ns)
   further_repeat b a = subst (λ m. Agree m (paired ms) (paired ns)) next (agree_repeat n k t (paired ms) (paired ns) rest here b a)
 
-  pub further_found : (u : Tree) → is_before n k (paired ms) ≡ false → find_member k ns ≡ Some u → Same t u → Agree n (paired ms) (paired ns) → Agree (n + 1) (paired ms) (paired ns)
+  pub further_found : (u : Tree) → is_seen_before n k (paired ms) ≡ false → find_member k ns ≡ Some u → Same t u → Agree n (paired ms) (paired ns) → Agree (n + 1) (paired ms) (paired ns)
   further_found u b f s a = subst (λ m. Agree m (paired ms) (paired ns)) next (agree_found n k t u (paired ms) (paired ns) rest here b (ap (find_member k) (members_from-paired ns) ∙ f) s a)
 
   module _ (l : List ℕ) (u : Tree) (others more : List (List ℕ × Tree)) (also : drop n (paired ns) ≡ others) (shows : others ≡ (l, u) ∷ more) (b : Bool) (asked : b ≡ bytes_eq k l) (yes : b ≡ true)
-      (w : texts (take n (paired ms)) ≡ texts (take n (paired ns))) where
+      (w : pair_keys (take n (paired ms)) ≡ pair_keys (take n (paired ns))) where
     one_key : l ≡ k
     one_key = sym ((bytes_eq-Decides k l).0 (sym asked ∙ yes))
 
@@ -163,17 +163,17 @@ module _ (n : ℕ) (k : List ℕ) (t : Tree) (ms ns : Members) (ahead rest : Lis
     there = also ∙ shows ∙ ap (λ l. (l, u) ∷ more) one_key
 
     -- pairs of one text in one place, which is their first
-    pub same_here : is_before n k (paired ms) ≡ false → Same (obj ms) (obj ns) → Same t u
+    pub same_here : is_seen_before n k (paired ms) ≡ false → Same (obj ms) (obj ns) → Same t u
     same_here f h = same_first_in_step n k t u (paired ms) (paired ns) rest more here there w f (to_pairs ms ns h)
 
     pub further_in_step : Same t u → Agree n (paired ms) (paired ns) → Agree (n + 1) (paired ms) (paired ns)
     further_in_step s a = subst (λ m. Agree m (paired ms) (paired ns)) next (agree_in_step n k t u (paired ms) (paired ns) rest more here there w s a)
 
-    pub texts_further : texts (take (n + 1) (paired ms)) ≡ texts (take (n + 1) (paired ns))
-    texts_further = subst (λ m. texts (take m (paired ms)) ≡ texts (take m (paired ns))) next (texts_in_step n k t u (paired ms) (paired ns) rest more here there w)
+    pub texts_further : pair_keys (take (n + 1) (paired ms)) ≡ pair_keys (take (n + 1) (paired ns))
+    texts_further = subst (λ m. pair_keys (take m (paired ms)) ≡ pair_keys (take m (paired ns))) next (texts_in_step n k t u (paired ms) (paired ns) rest more here there w)
 
 -- both ended in step
-pub same_at_end : (n : ℕ) (ms ns : Members) (ahead others : List (List ℕ × Tree)) → drop n (paired ms) ≡ ahead → ahead ≡ [] → drop n (paired ns) ≡ others → others ≡ [] → texts (take n (paired ms)) ≡ texts (take n (paired ns))
+pub same_at_end : (n : ℕ) (ms ns : Members) (ahead others : List (List ℕ × Tree)) → drop n (paired ms) ≡ ahead → ahead ≡ [] → drop n (paired ns) ≡ others → others ≡ [] → pair_keys (take n (paired ms)) ≡ pair_keys (take n (paired ns))
     → Agree n (paired ms) (paired ns) → Same (obj ms) (obj ns)
 same_at_end n ms ns ahead others e f g h w a = from_pairs ms ns (same_in_step n (paired ms) (paired ns) (e ∙ f) (g ∙ h) w a)
 
@@ -182,7 +182,7 @@ pub same_if_has : (n : ℕ) (ms ns : Members) (ahead : List (List ℕ × Tree)) 
 same_if_has n ms ns ahead e f a w = from_pairs ms ns (all_agree n (paired ms) (paired ns) (e ∙ f) a w)
 
 pub has_if_same : (ms ns : Members) → Same (obj ms) (obj ns) → HasTexts (paired ms) (paired ns)
-has_if_same ms ns h = λ k s. by_either (is_seen k (texts (paired ms))) _ (λ b. b) (λ b. absurd (not_same_extra k (paired ms) (paired ns) s (not_found k (paired ms) b) (to_pairs ms ns h)))
+has_if_same ms ns h = λ k s. by_either (is_seen k (pair_keys (paired ms))) _ (λ b. b) (λ b. absurd (not_same_extra k (paired ms) (paired ns) s (not_found k (paired ms) b) (to_pairs ms ns h)))
 
 -- what a test's answer says
 pub allowed : (b : Bool) (P : Type 0) → (IsTrue b → P) × (P → IsTrue b) → b ≡ true → P

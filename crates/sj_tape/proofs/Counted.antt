@@ -8,7 +8,7 @@ use Rattle.sj_text_core.specs.Find.{find_member}
 use Rattle.sj_text_core.specs.Reads.{as_items, as_members}
 use Rattle.sj_text_core.specs.Keep.{is_seen}
 use Rattle.sj_text_core.specs.Same.{Same, SameItems}
-use Rattle.sj_text_core.specs.Agree.{texts}
+use Rattle.sj_text_core.specs.Agree.{pair_keys}
 use Rattle.sj_text_core.specs.inner.Agree.{SameFound, HasTexts}
 use Rattle.sj_text_core.specs.Repeats.{SameBy, by_first, keep_last, keep_last_items, keep_last_values, put_all, find_last_member, find_member_by}
 use Rattle.sj_text_core.specs.declared.repeats.Repeats.{Repeats}
@@ -17,7 +17,7 @@ use Rattle.sj_text_core.proofs.Equality.{found_from_at, at_from_found, none_on}
 use Rattle.sj_text_core.proofs.Comparing.{by_either, absent_by as first_none, there_by as none_first}
 use Rattle.sj_text_core.proofs.Last.{find-keep_last}
 use Rattle.sj_text_core.proofs.Shapes.{same_items_len}
-use Rattle.sj_tape.specs.Members.{chosen}
+use Rattle.sj_tape.specs.Members.{chosen_pairs}
 
 -- one item of each, and those behind
 pub items_taken : (ts us rest more : List Tree) (t u : Tree) → ts ≡ t ∷ rest → us ≡ u ∷ more → SameItems (items_from ts) (items_from us) → Same t u × SameItems (items_from rest) (items_from more)
@@ -86,22 +86,22 @@ last_none true x t r e h = cc
 last_none false x t r e h = ap (λ r. option_or r None) (h e)
 
 -- a text that none has is absent
-pub absent_by : (d : Repeats) (k : List ℕ) (ms : Members) → is_seen k (texts (paired ms)) ≡ false → find_member_by d k ms ≡ None
+pub absent_by : (d : Repeats) (k : List ℕ) (ms : Members) → is_seen k (pair_keys (paired ms)) ≡ false → find_member_by d k ms ≡ None
 absent_by First k no_members e = refl
-absent_by First k (member l t ms) e = first_none (bytes_eq k l) (is_seen k (texts (paired ms))) t (find_member k ms) e (absent_by First k ms)
+absent_by First k (member l t ms) e = first_none (bytes_eq k l) (is_seen k (pair_keys (paired ms))) t (find_member k ms) e (absent_by First k ms)
 absent_by Last k no_members e = refl
-absent_by Last k (member l t ms) e = last_none (bytes_eq k l) (is_seen k (texts (paired ms))) t (find_last_member k ms) e (absent_by Last k ms)
+absent_by Last k (member l t ms) e = last_none (bytes_eq k l) (is_seen k (pair_keys (paired ms))) t (find_last_member k ms) e (absent_by Last k ms)
 
 none_last : (b x : Bool) (t : Tree) (r : Option Tree) → option_or r (if b then Some t else None) ≡ None → (r ≡ None → x ≡ false) → (b || x) ≡ false
 none_last b x t (Some u) e h = cc
 none_last true x t None e h = cc
 none_last false x t None e h = h refl
 
-pub unseen_by : (d : Repeats) (k : List ℕ) (ms : Members) → find_member_by d k ms ≡ None → is_seen k (texts (paired ms)) ≡ false
+pub unseen_by : (d : Repeats) (k : List ℕ) (ms : Members) → find_member_by d k ms ≡ None → is_seen k (pair_keys (paired ms)) ≡ false
 unseen_by First k no_members e = refl
-unseen_by First k (member l t ms) e = none_first (bytes_eq k l) (is_seen k (texts (paired ms))) t (find_member k ms) e (unseen_by First k ms)
+unseen_by First k (member l t ms) e = none_first (bytes_eq k l) (is_seen k (pair_keys (paired ms))) t (find_member k ms) e (unseen_by First k ms)
 unseen_by Last k no_members e = refl
-unseen_by Last k (member l t ms) e = none_last (bytes_eq k l) (is_seen k (texts (paired ms))) t (find_last_member k ms) e (unseen_by Last k ms)
+unseen_by Last k (member l t ms) e = none_last (bytes_eq k l) (is_seen k (pair_keys (paired ms))) t (find_last_member k ms) e (unseen_by Last k ms)
 
 head_same : (p q : List ℕ × Tree) (ps qs : List (List ℕ × Tree)) → p ∷ ps ≡ q ∷ qs → p ≡ q
 head_same p q ps qs e = cc
@@ -109,16 +109,16 @@ head_same p q ps qs e = cc
 tail_same : (p q : List ℕ × Tree) (ps qs : List (List ℕ × Tree)) → p ∷ ps ≡ q ∷ qs → ps ≡ qs
 tail_same p q ps qs e = cc
 
-here_last : (k l : List ℕ) (t u : Tree) (ms : Members) (rest : List (List ℕ × Tree)) → (l, u) ∷ paired ms ≡ (k, t) ∷ rest → is_seen k (texts rest) ≡ false → find_last_member k (member l u ms) ≡ Some t
+here_last : (k l : List ℕ) (t u : Tree) (ms : Members) (rest : List (List ℕ × Tree)) → (l, u) ∷ paired ms ≡ (k, t) ∷ rest → is_seen k (pair_keys rest) ≡ false → find_last_member k (member l u ms) ≡ Some t
 here_last k l t u ms rest e f =
     let p = head_same (l, u) (k, t) (paired ms) rest e in
     let q = tail_same (l, u) (k, t) (paired ms) rest e in
     let own : bytes_eq k l ≡ true = (bytes_eq-Decides k l).1 (sym (ap (λ (p : List ℕ × Tree). p.0) p)) in
-    ap (λ o. option_or o (if bytes_eq k l then Some u else None)) (absent_by Last k ms (ap (λ ps. is_seen k (texts ps)) q ∙ f))
+    ap (λ o. option_or o (if bytes_eq k l then Some u else None)) (absent_by Last k ms (ap (λ ps. is_seen k (pair_keys ps)) q ∙ f))
     ∙ ap (λ b. if b then Some u else None) own ∙ ap (λ (p : List ℕ × Tree). Some p.1) p
 
 -- the last pair of a text is found
-pub found_last : (n : ℕ) (k : List ℕ) (t : Tree) (ms : Members) (rest : List (List ℕ × Tree)) → drop n (paired ms) ≡ (k, t) ∷ rest → is_seen k (texts rest) ≡ false → find_last_member k ms ≡ Some t
+pub found_last : (n : ℕ) (k : List ℕ) (t : Tree) (ms : Members) (rest : List (List ℕ × Tree)) → drop n (paired ms) ≡ (k, t) ∷ rest → is_seen k (pair_keys rest) ≡ false → find_last_member k ms ≡ Some t
 found_last zero k t no_members rest e f = cc
 found_last zero k t (member l u ms) rest e f = here_last k l t u ms rest e f
 found_last (suc n) k t no_members rest e f = cc
@@ -126,10 +126,10 @@ found_last (suc n) k t (member l u ms) rest e f = ap (λ o. option_or o (if byte
 
 -- the texts of which no member is ahead
 abbrev pub Counted : Repeats → Members → Members → List (List ℕ × Tree) → Type 0
-Counted d ms ns ahead = (k : List ℕ) → is_seen k (texts (paired ms)) ≡ true → is_seen k (texts ahead) ≡ false → CountSame d k ms ns
+Counted d ms ns ahead = (k : List ℕ) → is_seen k (pair_keys (paired ms)) ≡ true → is_seen k (pair_keys ahead) ≡ false → CountSame d k ms ns
 
 pub counted_none : (d : Repeats) (ms ns : Members) (ahead : List (List ℕ × Tree)) → ahead ≡ paired ms → Counted d ms ns ahead
-counted_none d ms ns ahead e = λ k s n. absurd (true≢false (sym s ∙ ap (λ ps. is_seen k (texts ps)) (sym e) ∙ n))
+counted_none d ms ns ahead e = λ k s n. absurd (true≢false (sym s ∙ ap (λ ps. is_seen k (pair_keys ps)) (sym e) ∙ n))
 
 neither : (b x : Bool) → b ≡ false → x ≡ false → (b || x) ≡ false
 neither true x e f = e
@@ -137,23 +137,23 @@ neither false x e f = f
 
 module _ (d : Repeats) (ms ns : Members) (k : List ℕ) (t : Tree) (ahead rest : List (List ℕ × Tree)) (step : ahead ≡ (k, t) ∷ rest) where
   -- a member behind which its text stands again
-  pub counted_again : is_seen k (texts rest) ≡ true → Counted d ms ns ahead → Counted d ms ns rest
+  pub counted_again : is_seen k (pair_keys rest) ≡ true → Counted d ms ns ahead → Counted d ms ns rest
   counted_again b h = λ l s n. by_either (bytes_eq l k) _
-      (λ e. absurd (true≢false (sym b ∙ ap (λ k. is_seen k (texts rest)) (sym ((bytes_eq-Decides l k).0 e)) ∙ n)))
-      (λ e. h l s (ap (λ ps. is_seen l (texts ps)) step ∙ neither (bytes_eq l k) (is_seen l (texts rest)) e n))
+      (λ e. absurd (true≢false (sym b ∙ ap (λ k. is_seen k (pair_keys rest)) (sym ((bytes_eq-Decides l k).0 e)) ∙ n)))
+      (λ e. h l s (ap (λ ps. is_seen l (pair_keys ps)) step ∙ neither (bytes_eq l k) (is_seen l (pair_keys rest)) e n))
 
   both_some : (x : Tree) (f g : Option Tree) → f ≡ Some t → g ≡ Some x → Same (keep_last t) (by_first d x) → SameFound (option_map keep_last f) (option_map (by_first d) g)
   both_some x f g e i s = subst (λ f. SameFound (option_map keep_last f) (option_map (by_first d) g)) (sym e) (subst (λ g. SameFound (Some (keep_last t)) (option_map (by_first d) g)) (sym i) s)
 
   -- the last member of its text, and what the other has
-  module _ (n : ℕ) (at : drop n (paired ms) ≡ ahead) (b : is_seen k (texts rest) ≡ false) where
+  module _ (n : ℕ) (at : drop n (paired ms) ≡ ahead) (b : is_seen k (pair_keys rest) ≡ false) where
     mine : find_last_member k ms ≡ Some t
     mine = found_last n k t ms rest (at ∙ step) b
 
     pub counted_same : (x : Tree) → find_member_by d k ns ≡ Some x → Same (keep_last t) (by_first d x) → Counted d ms ns ahead → Counted d ms ns rest
     counted_same x f s h = λ l z n. by_either (bytes_eq l k) _
         (λ e. subst (λ l. CountSame d l ms ns) (sym ((bytes_eq-Decides l k).0 e)) (both_some x _ _ mine f s))
-        (λ e. h l z (ap (λ ps. is_seen l (texts ps)) step ∙ neither (bytes_eq l k) (is_seen l (texts rest)) e n))
+        (λ e. h l z (ap (λ ps. is_seen l (pair_keys ps)) step ∙ neither (bytes_eq l k) (is_seen l (pair_keys rest)) e n))
 
     pub same_last : (x : Tree) → find_member_by d k ns ≡ Some x → SameBy Last d (obj ms) (obj ns) → Same (keep_last t) (by_first d x)
     same_last x f h = subst (λ g. SameFound (Some (keep_last t)) (option_map (by_first d) g)) f (subst (λ f. SameFound (option_map keep_last f) (option_map (by_first d) (find_member_by d k ns))) mine (each_counts d ms ns h k))
@@ -168,25 +168,25 @@ both_same : (k l : List ℕ) (ks ls : List (List ℕ)) → k ∷ ks ≡ l ∷ ls
 both_same k l ks ls e = (cc, cc)
 
 -- one place of two objects with the same texts in one order
-module _ (ms ns : Members) (same : texts (paired ms) ≡ texts (paired ns)) (n : ℕ) (k : List ℕ) (t : Tree) (ahead rest : List (List ℕ × Tree)) (at : drop n (paired ms) ≡ ahead) (step : ahead ≡ (k, t) ∷ rest) where
+module _ (ms ns : Members) (same : pair_keys (paired ms) ≡ pair_keys (paired ns)) (n : ℕ) (k : List ℕ) (t : Tree) (ahead rest : List (List ℕ × Tree)) (at : drop n (paired ms) ≡ ahead) (step : ahead ≡ (k, t) ∷ rest) where
   module _ (l : List ℕ) (x : Tree) (others more : List (List ℕ × Tree)) (also : drop n (paired ns) ≡ others) (shows : others ≡ (l, x) ∷ more) where
-    pub one_place : (k ≡ l) × (texts rest ≡ texts more)
+    pub one_place : (k ≡ l) × (pair_keys rest ≡ pair_keys more)
     one_place =
-        both_same k l (texts rest) (texts more) (ap texts (sym step) ∙ ap texts (sym at) ∙ sym (drop-map (λ (p : List ℕ × Tree). p.0) n (paired ms)) ∙ ap (drop n) same
-        ∙ drop-map (λ (p : List ℕ × Tree). p.0) n (paired ns) ∙ ap texts also ∙ ap texts shows)
+        both_same k l (pair_keys rest) (pair_keys more) (ap pair_keys (sym step) ∙ ap pair_keys (sym at) ∙ sym (drop-map (λ (p : List ℕ × Tree). p.0) n (paired ms)) ∙ ap (drop n) same
+        ∙ drop-map (λ (p : List ℕ × Tree). p.0) n (paired ns) ∙ ap pair_keys also ∙ ap pair_keys shows)
 
     -- the last member of a text is the last in both
-    pub last_in_both : is_seen k (texts rest) ≡ false → find_last_member k ns ≡ Some x
+    pub last_in_both : is_seen k (pair_keys rest) ≡ false → find_last_member k ns ≡ Some x
     last_in_both b = found_last n k x ns more (also ∙ shows ∙ ap (λ l. (l, x) ∷ more) (sym one_place.0)) (ap (is_seen k) (sym one_place.1) ∙ b)
 
     pub counted_in_step : Same (keep_last t) (keep_last x) → Counted Last ms ns ahead → Counted Last ms ns rest
-    counted_in_step s h = by_either (is_seen k (texts rest)) _ (λ b. counted_again Last ms ns k t ahead rest step b h) (λ b. counted_same Last ms ns k t ahead rest step n at b x (last_in_both b) s h)
+    counted_in_step s h = by_either (is_seen k (pair_keys rest)) _ (λ b. counted_again Last ms ns k t ahead rest step b h) (λ b. counted_same Last ms ns k t ahead rest step n at b x (last_in_both b) s h)
 
   -- where the first goes on, so does the second
   pub goes_on : (others : List (List ℕ × Tree)) → drop n (paired ns) ≡ others → others ≡ [] → ⊥
   goes_on others also ends =
-      cons_none k (texts rest) (ap texts (sym step) ∙ ap texts (sym at) ∙ sym (drop-map (λ (p : List ℕ × Tree). p.0) n (paired ms)) ∙ ap (drop n) same
-      ∙ drop-map (λ (p : List ℕ × Tree). p.0) n (paired ns) ∙ ap texts also ∙ ap texts ends)
+      cons_none k (pair_keys rest) (ap pair_keys (sym step) ∙ ap pair_keys (sym at) ∙ sym (drop-map (λ (p : List ℕ × Tree). p.0) n (paired ms)) ∙ ap (drop n) same
+      ∙ drop-map (λ (p : List ℕ × Tree). p.0) n (paired ns) ∙ ap pair_keys also ∙ ap pair_keys ends)
 
 map_none : (f : Tree → Tree) (o : Option Tree) → option_map f o ≡ None → o ≡ None
 map_none f None e = refl
@@ -197,12 +197,12 @@ both_none d f g e i = subst (λ f. SameFound (option_map keep_last f) (option_ma
 
 -- all are counted, and no text of the second is missing
 pub same_if_counted : (d : Repeats) (ms ns : Members) (ahead : List (List ℕ × Tree)) → ahead ≡ [] → Counted d ms ns ahead → HasTexts (paired ms) (paired ns) → SameBy Last d (obj ms) (obj ns)
-same_if_counted d ms ns ahead e h w = from_each d ms ns (λ k. by_either (is_seen k (texts (paired ms))) _
-    (λ b. h k b (ap (λ ps. is_seen k (texts ps)) e))
-    (λ b. both_none d _ _ (absent_by Last k ms b) (absent_by d k ns (by_either (is_seen k (texts (paired ns))) _ (λ c. absurd (true≢false (sym (w k c) ∙ b))) (λ c. c)))))
+same_if_counted d ms ns ahead e h w = from_each d ms ns (λ k. by_either (is_seen k (pair_keys (paired ms))) _
+    (λ b. h k b (ap (λ ps. is_seen k (pair_keys ps)) e))
+    (λ b. both_none d _ _ (absent_by Last k ms b) (absent_by d k ns (by_either (is_seen k (pair_keys (paired ns))) _ (λ c. absurd (true≢false (sym (w k c) ∙ b))) (λ c. c)))))
 
 pub has_if_counted : (d : Repeats) (ms ns : Members) → SameBy Last d (obj ms) (obj ns) → HasTexts (paired ms) (paired ns)
-has_if_counted d ms ns h = λ k s. by_either (is_seen k (texts (paired ms))) _ (λ b. b)
+has_if_counted d ms ns h = λ k s. by_either (is_seen k (pair_keys (paired ms))) _ (λ b. b)
     (λ b. absurd (true≢false (sym s ∙ unseen_by d k ns (map_none (by_first d) (find_member_by d k ns) (none_on (option_map keep_last (find_last_member k ms)) _ (ap (option_map keep_last) (absent_by Last k ms b)) (each_counts d ms ns h k))))))
 
 -- parts of one choice
@@ -223,9 +223,9 @@ part_choice c p ps ts us e f =
     let g = part_parts p (c, p.1) ps (parts c us) (sym e ∙ ap (parts c) f) in
     (ap (λ (p : Repeats × Tree). p.0) g.0, g.1)
 
-pub member_choice : (c : Repeats) (k : List ℕ) (p : Part) (qs : List (List ℕ × Part)) (ps us : List (List ℕ × Tree)) → chosen c ps ≡ (k, p) ∷ qs → ps ≡ (k, p.1) ∷ us → (p.0 ≡ c) × (qs ≡ chosen c us)
+pub member_choice : (c : Repeats) (k : List ℕ) (p : Part) (qs : List (List ℕ × Part)) (ps us : List (List ℕ × Tree)) → chosen_pairs c ps ≡ (k, p) ∷ qs → ps ≡ (k, p.1) ∷ us → (p.0 ≡ c) × (qs ≡ chosen_pairs c us)
 member_choice c k p qs ps us e f =
-    let g = pair_parts (k, p) (k, (c, p.1)) qs (chosen c us) (sym e ∙ ap (chosen c) f) in
+    let g = pair_parts (k, p) (k, (c, p.1)) qs (chosen_pairs c us) (sym e ∙ ap (chosen_pairs c) f) in
     (ap (λ (q : List ℕ × (Repeats × Tree)). q.1.0) g.0, g.1)
 
 -- a leaf is what it is with either choice

@@ -2,7 +2,7 @@
 use Rattle.std.proofs.Common.{◌≡◌, ◌⊎◌, ℕ, zero, suc, Bool, true, false, cond, List, [], ◌∷◌, ◌++◌, Some, None, refl, sym, ap, subst, ◌∙◌, append_assoc, append-nil, inl, inr, ⊎_elim}
 use Rattle.std.proofs.lemmas.Option.{none-some, option_and_then_some, some_pair_parts}
 use Rattle.sj_text_core.specs.Grammar.{IsBlank}
-use Rattle.sj_text_core.specs.inner.Parse.{Read, after_blank, separator_at, separator_or, with_first, parts_at}
+use Rattle.sj_text_core.specs.inner.Parse.{Reading, after_blank, separator_at, separator_or, with_first, parts_at}
 use Rattle.sj_text_core.proofs.parse.Steps.{blank_off, separator_is}
 
 -- a spelling was taken off the front
@@ -11,7 +11,7 @@ pub record Front {X : Type 0} (P : X → List ℕ → Type 0) (b : List ℕ) (x 
   pub is : b ≡ front ++ r
   pub has : P x front
 
-abbrev pub Sound : {X : Type 0} → (X → List ℕ → Type 0) → (List ℕ → Read X) → Type 0
+abbrev pub Sound : {X : Type 0} → (X → List ℕ → Type 0) → (List ℕ → Reading X) → Type 0
 Sound {X} P read = (b : List ℕ) (x : X) (r : List ℕ) → read b ≡ Some (x, r) → Front P b x r
 
 -- a word, whitespace, and what R says of the rest
@@ -50,7 +50,7 @@ separated close b after (c ∷ rest) m s h e f = record {
 pub separator_off : (close : ℕ) (b : List ℕ) (m : Bool) (s : List ℕ) → separator_at close b ≡ Some (m, s) → Separated close b m s
 separator_off close b m s e = let q = blank_off b in separated close b q.front (after_blank b) m s q.blank q.is e
 
-pub with_first_some : {X : Type 0} (x : X) (o : Read (List X)) (xs : List X) (r : List ℕ) → with_first x o ≡ Some (xs, r) → (ys : List X) × (o ≡ Some (ys, r)) × (xs ≡ x ∷ ys)
+pub with_first_some : {X : Type 0} (x : X) (o : Reading (List X)) (xs : List X) (r : List ℕ) → with_first x o ≡ Some (xs, r) → (ys : List X) × (o ≡ Some (ys, r)) × (xs ≡ x ∷ ys)
 with_first_some x None xs r e = absurd (none-some (xs, r) e)
 with_first_some x (Some p) xs r e = let k = some_pair_parts (x ∷ p.0) xs p.1 r e in (p.0, ap (λ l. Some (p.0, l)) k.1, sym k.0)
 
@@ -62,7 +62,7 @@ pub record PartsFront {X : Type 0} (P : X → List ℕ → Type 0) (close : ℕ)
   pub is : b ≡ inside ++ (close ∷ r)
   pub spelled : Word (λ w. P head w) (λ l. More P tail l) inside
 
-module _ {X : Type 0} (P : X → List ℕ → Type 0) (close : ℕ) (read : List ℕ → Read X) where
+module _ {X : Type 0} (P : X → List ℕ → Type 0) (close : ℕ) (read : List ℕ → Reading X) where
   finish : (n : ℕ) → ((b : List ℕ) (xs : List X) (r : List ℕ) → parts_at close read n b ≡ Some (xs, r) → PartsFront P close b xs r)
       → (b : List ℕ) (x : X) (r1 : List ℕ) (m : Bool) (s : List ℕ) (xs : List X) (r : List ℕ) → Front P b x r1 → Separated close r1 m s
       → cond m (with_first x (parts_at close read n s)) (Some (x ∷ [], s)) ≡ Some (xs, r) → PartsFront P close b xs r

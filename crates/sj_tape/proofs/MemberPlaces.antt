@@ -7,7 +7,7 @@ use Rattle.sj_text_core.proofs.Shapes.{members_from-paired}
 use Rattle.sj_text_core.specs.Tree.{Tree, members_len, members_from, paired}
 use Rattle.sj_text_core.specs.Nodes.{Mark, nothing, string, width, flat_members, members_in, tree_of}
 use Rattle.sj_text_core.specs.inner.Nodes.{AreMembers}
-use Rattle.sj_tape.specs.inner.Tags.{MembersFrom, AreTags, AreMemberPlaces, member_at, key_tag}
+use Rattle.sj_tape.specs.inner.Tags.{MembersFrom, AreTags, AreMemberPlaces, member_node, key_tag}
 use Rattle.sj_tape.proofs.Compared.{length-paired}
 use Rattle.sj_tape.proofs.Splits.{first_width, first_member, next_member, members_len-le, BeginsTree-member}
 
@@ -63,12 +63,12 @@ next_member_place ns i place h more =
     }
 
 -- a member begins where the widths in front of it end
-pub member_from : (ns : List Mark) → AreMembers ns → (i : ℕ) → i ≤ members_len (members_in ns) → MembersFrom ns i (member_at ns i)
-unfolding member_at
+pub member_from : (ns : List Mark) → AreMembers ns → (i : ℕ) → i ≤ members_len (members_in ns) → MembersFrom ns i (member_node ns i)
+unfolding member_node
 member_from ns a zero l = first_members ns a
 member_from ns a (suc i) l =
-    let next = next_member_place ns i (member_at ns i) (member_from ns a i (omega (arith, l))) (omega (arith, l)) in
-    subst (λ k. MembersFrom ns k (member_at ns i + 1 + width (get_or ns (member_at ns i + 1) nothing))) (omega arith) next.next
+    let next = next_member_place ns i (member_node ns i) (member_from ns a i (omega (arith, l))) (omega (arith, l)) in
+    subst (λ k. MembersFrom ns k (member_node ns i + 1 + width (get_or ns (member_node ns i + 1) nothing))) (omega arith) next.next
 
 -- a member begins at one place alone
 pub one_member_place : (ns : List Mark) (i p q : ℕ) → MembersFrom ns i p → MembersFrom ns i q → p ≡ q
@@ -84,15 +84,15 @@ tagged_with ns tags more place t a h some e is there j l = elim (cases_lt j (len
   | inl low ↦ ap (λ ts. get_or ts j 0) e ∙ get_or_append_left tags (t ∷ []) 0 j low ∙ there j low
   | inr high ↦
       let last : j ≡ length tags = omega (arith, l, high, ap (λ (ts : List ℕ). length ts) e, length-append tags (t ∷ [])) in
-      let here : place ≡ member_at ns (length tags) = one_member_place ns (length tags) place (member_at ns (length tags)) h (member_from ns a (length tags) (omega (arith, some))) in
-      ap (λ ts. get_or ts j 0) e ∙ ap (λ k. get_or (tags ++ t ∷ []) k 0) last ∙ get_or-append_seam tags t [] 0 ∙ is ∙ ap (λ p. key_tag (get_or ns p nothing)) here ∙ ap (λ k. key_tag (get_or ns (member_at ns k) nothing)) (sym last)
+      let here : place ≡ member_node ns (length tags) = one_member_place ns (length tags) place (member_node ns (length tags)) h (member_from ns a (length tags) (omega (arith, some))) in
+      ap (λ ts. get_or ts j 0) e ∙ ap (λ k. get_or (tags ++ t ∷ []) k 0) last ∙ get_or-append_seam tags t [] 0 ∙ is ∙ ap (λ p. key_tag (get_or ns p nothing)) here ∙ ap (λ k. key_tag (get_or ns (member_node ns k) nothing)) (sym last)
 ]
 
 -- one place more is kept
-pub placed_with : (ns : List Mark) (places more : List ℕ) (place : ℕ) → more ≡ places ++ place ∷ [] → place ≡ member_at ns (length places * 64) → AreMemberPlaces ns places → AreMemberPlaces ns more
+pub placed_with : (ns : List Mark) (places more : List ℕ) (place : ℕ) → more ≡ places ++ place ∷ [] → place ≡ member_node ns (length places * 64) → AreMemberPlaces ns places → AreMemberPlaces ns more
 placed_with ns places more place e here there j l = elim (cases_lt j (length places)) [
   | inl low ↦ ap (λ ps. get_or ps j 0) e ∙ get_or_append_left places (place ∷ []) 0 j low ∙ there j low
   | inr high ↦
       let last : j ≡ length places = omega (arith, l, high, ap (λ (ps : List ℕ). length ps) e, length-append places (place ∷ [])) in
-      ap (λ ps. get_or ps j 0) e ∙ ap (λ k. get_or (places ++ place ∷ []) k 0) last ∙ get_or-append_seam places place [] 0 ∙ here ∙ ap (λ k. member_at ns (k * 64)) (sym last)
+      ap (λ ps. get_or ps j 0) e ∙ ap (λ k. get_or (places ++ place ∷ []) k 0) last ∙ get_or-append_seam places place [] 0 ∙ here ∙ ap (λ k. member_node ns (k * 64)) (sym last)
 ]

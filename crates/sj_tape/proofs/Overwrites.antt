@@ -7,7 +7,7 @@ use Rattle.std.proofs.lemmas.List.{take-take, take-append-drop, length-take-le}
 use Rattle.std.proofs.lemmas.Str.{IsUtf8-take, IsCharBoundary-before_ascii}
 use Rattle.sj_text_core.proofs.Characters.{string_utf8}
 use Rattle.sj_tape.specs.inner.Gives.{EndsUtf8}
-use Rattle.sj_text_core.specs.inner.Parse.{escape_at, with_front, text_at}
+use Rattle.sj_text_core.specs.inner.Parse.{escape_at, with_front, read_text}
 use Rattle.sj_print.specs.inner.Runs.{is_plain}
 use Rattle.sj_tape.proofs.Decode.{written, written_size, written_rest, written_text, same_byte, same_rest}
 use Rattle.sj_text_core.proofs.parse.Escapes.{text_ends, with_front_front, escape_sound}
@@ -17,11 +17,11 @@ use Rattle.sj_text_core.proofs.parse.Strings.{string_is}
 use Rattle.sj_tape.proofs.Texts.{cut}
 
 -- a text of UTF-8 is UTF-8
-pub text_utf8 : (b s r : List ℕ) → IsUtf8 b → text_at b ≡ Some (s, r) → IsUtf8 s
+pub text_utf8 : (b s r : List ℕ) → IsUtf8 b → read_text b ≡ Some (s, r) → IsUtf8 s
 text_utf8 b s r u e =
     let k = text_ends 0 b s r e in
     let inside : IsUtf8 k.0 = (cut k.0 r 34 (omega arith) (subst (λ l. IsUtf8 l) k.1 u)).0 in
-    string_utf8 _ s (string_is k.0 r s inside (ap (λ l. text_at l) (sym k.1) ∙ e))
+    string_utf8 _ s (string_is k.0 r s inside (ap (λ l. read_text l) (sym k.1) ∙ e))
 
 -- what is left of UTF-8
 pub ends_cut : (b t : List ℕ) (n : ℕ) → IsUtf8 b → t ≡ drop n b → EndsUtf8 t
@@ -44,33 +44,33 @@ pub record Written (old b : List ℕ) (from to : ℕ) : Type 0 where
   pub size : length b ≡ length old
   pub rest : drop from b ≡ drop from old
   pub stop : from < length old → is_plain (get_or old from 0) ≡ false
-  pub text : text_at old ≡ with_front (slice_range b 0 to) (text_at (drop from old))
+  pub text : read_text old ≡ with_front (slice_range b 0 to) (read_text (drop from old))
 
 module _ (old b : List ℕ) (from to : ℕ) (w : Written old b from to) where
   old_byte : (c : ℕ) → get_or b from 0 ≡ c → get_or old from 0 ≡ c
   old_byte c e = sym (same_byte b old from from (omega arith) w.rest) ∙ e
 
   -- at the quote
-  pub at_quote : (h t : List ℕ) → from < length b → get_or b from 0 ≡ 34 → h ≡ take (from + 1) b → t ≡ drop (from + 1) b → text_at old ≡ Some (take to h, t)
+  pub at_quote : (h t : List ℕ) → from < length b → get_or b from 0 ≡ 34 → h ≡ take (from + 1) b → t ≡ drop (from + 1) b → read_text old ≡ Some (take to h, t)
   at_quote h t lt q k m =
       let tail : drop (from + 1) old ≡ t = sym (same_rest b old from (from + 1) (omega arith) w.rest) ∙ sym m in
       w.text ∙ (ap (λ o. with_front (slice_range b 0 to) o) (place_quote old from (omega (arith, lt, w.size)) (old_byte 34 q))
       ∙ (ap (λ l. Some (l, drop (from + 1) old)) (append-nil (slice_range b 0 to) ∙ head_is b h to (from + 1) (omega (arith, w.order)) k) ∙ ap (λ l. Some (take to h, l)) tail))
 
   -- at a control byte
-  pub at_control : from < length b → ¬ (get_or b from 0 ≡ 34) → ¬ (get_or b from 0 ≡ 92) → text_at old ≡ None
+  pub at_control : from < length b → ¬ (get_or b from 0 ≡ 34) → ¬ (get_or b from 0 ≡ 92) → read_text old ≡ None
   at_control lt q s =
       let lt' : from < length old = omega (arith, lt, w.size) in
       let same = same_byte b old from from (omega arith) w.rest in
       w.text ∙ ap (λ o. with_front (slice_range b 0 to) o) (place_control old from lt' (control_is _ (w.stop lt') (λ e. q (same ∙ e)) (λ e. s (same ∙ e))))
 
   -- at a bad escape
-  pub at_bad : from < length b → get_or b from 0 ≡ 92 → escape_at (drop (from + 1) b) ≡ None → text_at old ≡ None
+  pub at_bad : from < length b → get_or b from 0 ≡ 92 → escape_at (drop (from + 1) b) ≡ None → read_text old ≡ None
   at_bad lt q e =
       w.text ∙ ap (λ o. with_front (slice_range b 0 to) o) (place_bad old from (omega (arith, lt, w.size)) (old_byte 92 q) (ap (λ l. escape_at l) (sym (same_rest b old from (from + 1) (omega arith) w.rest)) ∙ e))
 
   -- at the end
-  pub at_end : length b ≤ from → text_at old ≡ None
+  pub at_end : length b ≤ from → read_text old ≡ None
   at_end h = w.text ∙ ap (λ o. with_front (slice_range b 0 to) o) (place_end old from (omega (arith, h, w.size)))
 
   -- an escape is longer than its character
@@ -105,8 +105,8 @@ module _ (old b : List ℕ) (from to : ℕ) (w : Written old b from to) where
         stop = λ h. stop_is old next e run0 h;
         text = w.text
             ∙ (ap (λ o. with_front A o) (place_escape old from c next (omega (arith, lt, w.size)) (old_byte 92 q) l esc0)
-            ∙ (with_front_front A f (text_at (drop next old))
+            ∙ (with_front_front A f (read_text (drop next old))
             ∙ (ap (λ o. with_front (A ++ f) o) (plain_so_far old next e run0)
-            ∙ (with_front_front (A ++ f) (slice_range old next e) (text_at (drop e old))
-            ∙ ap (λ l. with_front l (text_at (drop e old))) (ap (λ l. (A ++ f) ++ l) (sym same) ∙ sym both)))));
+            ∙ (with_front_front (A ++ f) (slice_range old next e) (read_text (drop e old))
+            ∙ ap (λ l. with_front l (read_text (drop e old))) (ap (λ l. (A ++ f) ++ l) (sym same) ∙ sym both)))));
       }

@@ -5,7 +5,7 @@ use Rattle.std.specs.List.{AllByRecursion, prefix_len}
 use Rattle.std.proofs.lemmas.Bool.Decides.{nat_tests}
 use Rattle.std.proofs.lemmas.List.{take-append-drop, drop-drop, get_or-drop}
 use Rattle.std.proofs.lemmas.List.Sums.{prefix_len_stops}
-use Rattle.sj_text_core.specs.inner.Parse.{with_front, text_at}
+use Rattle.sj_text_core.specs.inner.Parse.{with_front, read_text}
 use Rattle.sj_print.specs.inner.Runs.{is_plain, IsAllPlain}
 use Rattle.sj_text_core.proofs.parse.Escapes.{IsPlain, text_run}
 use Rattle.sj_tape.proofs.Places.{SoFar}
@@ -56,9 +56,9 @@ plain_so_far b at e h =
     let n = prefix_len is_plain (drop at b) in
     let m : e - at ≡ n = omega (arith, h) in
     let rest : drop n (drop at b) ≡ drop e b = drop-drop n at b ∙ ap (λ k. drop k b) (omega (arith, h)) in
-    ap (λ l. text_at l) (sym (take-append-drop n (drop at b)))
+    ap (λ l. read_text l) (sym (take-append-drop n (drop at b)))
     ∙ (text_run (take n (drop at b)) (drop n (drop at b)) (all_plain (drop at b))
-    ∙ (ap (λ l. with_front (take n (drop at b)) (text_at l)) rest ∙ ap (λ k. with_front (take k (drop at b)) (text_at (drop e b))) (sym m)))
+    ∙ (ap (λ l. with_front (take n (drop at b)) (read_text l)) rest ∙ ap (λ k. with_front (take k (drop at b)) (read_text (drop e b))) (sym m)))
 
 -- what is neither plain nor a quote nor a backslash is a control byte
 pub control_is : (c : ℕ) → is_plain c ≡ false → c ≢ 34 → c ≢ 92 → c < 32

@@ -8,7 +8,7 @@ use Rattle.sj_text_core.specs.Tree.{Carrier, i64, u64, i128, u128, Tree, null, b
 use Rattle.sj_text_core.specs.Grammar.{IsBlank, IsDigit, IsNumeral, IsNumber, value_of, number_of}
 use Rattle.sj_tape.proofs.Bytewise.{IsString, Spelling, SpellsItems, MoreItems, SpellsMembers, MoreMembers}
 use Rattle.sj_text_core.proofs.parse.Escapes.{text_ends}
-use Rattle.sj_text_core.specs.inner.Parse.{Read, after_blank, text_at, after_key, member_at, is_digit, digits_len, goes_on, numeral_at, number_at, word_at, parts_at, all_parts_at, list_at, obj_at, value_at, value_by, nothing_at}
+use Rattle.sj_text_core.specs.inner.Parse.{Reading, after_blank, read_text, after_key, read_member, is_digit, digits_len, goes_on, numeral_at, number_at, word_at, parts_at, all_parts_at, list_at, obj_at, read_value, value_by, nothing_at}
 use Rattle.sj_text_core.specs.Tree.{items_from, members_from}
 use Rattle.sj_text_core.proofs.parse.Steps.{by_cases, blank_off, digits_are}
 use Rattle.sj_tape.proofs.Fronts.{parts_sound, Front, Sound, Word, More, PartsFront}
@@ -57,7 +57,7 @@ first_is [] k e = absurd (omega (arith, e))
 first_is (x ∷ c) k e = ap (λ y. y ∷ c) e
 
 -- a result under a map
-pub option_map_pair : {X : Type 0} (g : X → Tree) (o : Read X) (t : Tree) (r : List ℕ) → option_map {U = Tree × List ℕ} (λ p. (g p.0, p.1)) o ≡ Some (t, r) → (x : X) × (o ≡ Some (x, r)) × (g x ≡ t)
+pub option_map_pair : {X : Type 0} (g : X → Tree) (o : Reading X) (t : Tree) (r : List ℕ) → option_map {U = Tree × List ℕ} (λ p. (g p.0, p.1)) o ≡ Some (t, r) → (x : X) × (o ≡ Some (x, r)) × (g x ≡ t)
 option_map_pair g None t r e = absurd (none-some (t, r) e)
 option_map_pair g (Some p) t r e = let k = some_pair_parts (g p.0) t p.1 r e in (p.0, ap (λ l. Some (p.0, l)) k.1, k.0)
 
@@ -78,20 +78,20 @@ list_of d b before c r xs h e f =
     regroup a b r = simp append_assoc
 
 -- a list that is read is spelled
-pub list_sound : (d : ℕ) → Sound (Deep d) (value_at d) → Sound (InList d) (list_at (value_at d))
+pub list_sound : (d : ℕ) → Sound (Deep d) (read_value d) → Sound (InList d) (list_at (read_value d))
 list_sound d h b t r e =
     let q = blank_off b in
-    let m = option_map_pair (λ l. list (items_from l)) (all_parts_at 93 (value_at d) (after_blank b)) t r e in
+    let m = option_map_pair (λ l. list (items_from l)) (all_parts_at 93 (read_value d) (after_blank b)) t r e in
     subst (λ u. Front (InList d) b u r) m.2 (by_cases (get_or (after_blank b) 0 0 == 93)
-    (λ c. let f : all_parts_at 93 (value_at d) (after_blank b) ≡ Some ([], drop 1 (after_blank b)) = ap (λ k. cond k (Some ([], drop 1 (after_blank b))) (parts_at 93 (value_at d) (length (after_blank b)) (after_blank b))) c in
+    (λ c. let f : all_parts_at 93 (read_value d) (after_blank b) ≡ Some ([], drop 1 (after_blank b)) = ap (λ k. cond k (Some ([], drop 1 (after_blank b))) (parts_at 93 (read_value d) (length (after_blank b)) (after_blank b))) c in
     let k = some_pair_parts [] m.0 (drop 1 (after_blank b)) r (sym f ∙ m.1) in
     subst (λ l. Front (InList d) b (list (items_from l)) r) k.0 (record {
       front = q.front ++ 93 ∷ [];
       is = q.is ∙ (ap (λ l. q.front ++ l) (first_is (after_blank b) 92 (eqb-true _ _ c)) ∙ (ap (λ l. q.front ++ (93 ∷ l)) k.1 ∙ sym (append_assoc q.front (93 ∷ []) r)));
       has = ((q.front, refl, q.blank), omega arith);
     }))
-    (λ c. let f : all_parts_at 93 (value_at d) (after_blank b) ≡ parts_at 93 (value_at d) (length (after_blank b)) (after_blank b) = ap (λ k. cond k (Some ([], drop 1 (after_blank b))) (parts_at 93 (value_at d) (length (after_blank b)) (after_blank b))) c in
-    list_of d b q.front (after_blank b) r m.0 q.blank q.is (parts_sound (Deep d) 93 (value_at d) h (length (after_blank b)) (after_blank b) m.0 r (sym f ∙ m.1))))
+    (λ c. let f : all_parts_at 93 (read_value d) (after_blank b) ≡ parts_at 93 (read_value d) (length (after_blank b)) (after_blank b) = ap (λ k. cond k (Some ([], drop 1 (after_blank b))) (parts_at 93 (read_value d) (length (after_blank b)) (after_blank b))) c in
+    list_of d b q.front (after_blank b) r m.0 q.blank q.is (parts_sound (Deep d) 93 (read_value d) h (length (after_blank b)) (after_blank b) m.0 r (sym f ∙ m.1))))
 
 -- scalars
 pub three_tests : {Y : Type 0} (a b c : Bool) (o : Option Y) (y : Y) → cond a None (cond b None (cond c None o)) ≡ Some y → (a ≡ false) × (b ≡ false) × (c ≡ false) × (o ≡ Some y)
@@ -175,12 +175,12 @@ abbrev pub BehindQuote : List ℕ → List ℕ → Type 0
 BehindQuote s p = IsString (34 ∷ p) s
 
 -- a text that is read ends with a quote
-pub text_sound : Sound BehindQuote text_at
+pub text_sound : Sound BehindQuote read_text
 text_sound b s r e =
     let k = text_ends 0 b s r e in record {
       front = k.0 ++ 34 ∷ [];
       is = k.1 ∙ sym (append_assoc k.0 (34 ∷ []) r);
-      has = record { inside = k.0; rest = r; is = refl; was = ap (λ l. text_at l) (sym k.1) ∙ e };
+      has = record { inside = k.0; rest = r; is = refl; was = ap (λ l. read_text l) (sym k.1) ∙ e };
     }
 
 -- words
@@ -219,16 +219,16 @@ guarded : {Y : Type 0} (b : Bool) (o : Option Y) (y : Y) → cond b o None ≡ S
 guarded true o y e = (refl, e)
 guarded false o y e = absurd (none-some y e)
 
-keyed : (k : List ℕ) (o : Read Tree) (m : List ℕ × Tree) (r : List ℕ) → option_map {U = (List ℕ × Tree) × List ℕ} (λ q. ((k, q.0), q.1)) o ≡ Some (m, r) → (t : Tree) × (o ≡ Some (t, r)) × ((k, t) ≡ m)
+keyed : (k : List ℕ) (o : Reading Tree) (m : List ℕ × Tree) (r : List ℕ) → option_map {U = (List ℕ × Tree) × List ℕ} (λ q. ((k, q.0), q.1)) o ≡ Some (m, r) → (t : Tree) × (o ≡ Some (t, r)) × ((k, t) ≡ m)
 keyed k None m r e = absurd (none-some (m, r) e)
 keyed k (Some q) m r e = let z = some_pair_parts (k, q.0) m q.1 r e in (q.0, ap (λ l. Some (q.0, l)) z.1, z.0)
 
-member_of : (d : ℕ) → Sound (Deep d) (value_at d) → (b s c : List ℕ) (m : List ℕ × Tree) (r : List ℕ) → b ≡ 34 ∷ drop 1 b → Front BehindQuote (drop 1 b) s c
-    → after_key (value_at d) s (after_blank c) ≡ Some (m, r) → Front (DeepMember d) b m r
+member_of : (d : ℕ) → Sound (Deep d) (read_value d) → (b s c : List ℕ) (m : List ℕ × Tree) (r : List ℕ) → b ≡ 34 ∷ drop 1 b → Front BehindQuote (drop 1 b) s c
+    → after_key (read_value d) s (after_blank c) ≡ Some (m, r) → Front (DeepMember d) b m r
 member_of d h b s c m r e f g =
     let q = blank_off c in
-    let u = guarded (get_or (after_blank c) 0 0 == 58) (option_map {U = (List ℕ × Tree) × List ℕ} (λ p. ((s, p.0), p.1)) (value_at d (after_blank (drop 1 (after_blank c))))) (m, r) g in
-    let k = keyed s (value_at d (after_blank (drop 1 (after_blank c)))) m r u.1 in
+    let u = guarded (get_or (after_blank c) 0 0 == 58) (option_map {U = (List ℕ × Tree) × List ℕ} (λ p. ((s, p.0), p.1)) (read_value d (after_blank (drop 1 (after_blank c))))) (m, r) g in
+    let k = keyed s (read_value d (after_blank (drop 1 (after_blank c)))) m r u.1 in
     let v = h (after_blank (drop 1 (after_blank c))) k.0 r k.1 in
     let p = blank_off (drop 1 (after_blank c)) in
     subst (λ n. Front (DeepMember d) b n r) k.2 (record {
@@ -241,10 +241,10 @@ member_of d h b s c m r e f g =
     regroup a b c d r = simp append_assoc
 
 -- a member that is read is spelled
-pub member_sound : (d : ℕ) → Sound (Deep d) (value_at d) → Sound (DeepMember d) (member_at (value_at d))
+pub member_sound : (d : ℕ) → Sound (Deep d) (read_value d) → Sound (DeepMember d) (read_member (read_value d))
 member_sound d h b m r e =
     let u = guarded (get_or b 0 0 == 34) _ (m, r) e in
-    option_and_then_some _ (text_at (drop 1 b)) (m, r) u.1 (λ p e1 e2.
+    option_and_then_some _ (read_text (drop 1 b)) (m, r) u.1 (λ p e1 e2.
     member_of d h b p.0 p.1 m r (first_is b 33 (eqb-true _ _ u.0)) (text_sound (drop 1 b) p.0 p.1 e1) e2)
 
 members_split : (before key a1 b2 vs after rest : List ℕ) → before ++ ((key ++ (a1 ++ (58 ∷ (b2 ++ vs)))) ++ (after ++ rest)) ≡ (before ++ (key ++ a1)) ++ (58 ∷ ((b2 ++ (vs ++ after)) ++ rest))
@@ -298,10 +298,10 @@ obj_of d b before c r xs h e f =
     regroup a b r = simp append_assoc
 
 -- an object that is read is spelled
-pub obj_sound : (d : ℕ) → Sound (Deep d) (value_at d) → Sound (InObj d) (obj_at (value_at d))
+pub obj_sound : (d : ℕ) → Sound (Deep d) (read_value d) → Sound (InObj d) (obj_at (read_value d))
 obj_sound d h b t r e =
     let q = blank_off b in
-    let read : List ℕ → Read (List ℕ × Tree) = member_at (value_at d) in
+    let read : List ℕ → Reading (List ℕ × Tree) = read_member (read_value d) in
     let m = option_map_pair (λ l. obj (members_from l)) (all_parts_at 125 read (after_blank b)) t r e in
     subst (λ u. Front (InObj d) b u r) m.2 (by_cases (get_or (after_blank b) 0 0 == 125)
     (λ c. let f : all_parts_at 125 read (after_blank b) ≡ Some ([], drop 1 (after_blank b)) = ap (λ k. cond k (Some ([], drop 1 (after_blank b))) (parts_at 125 read (length (after_blank b)) (after_blank b))) c in
@@ -322,14 +322,14 @@ chosen false x y z e = inr (refl, e)
 behind : (d k c : ℕ) (b : List ℕ) (t : Tree) (r : List ℕ) → c ≡ k → Front (λ u p. Deep d u (k ∷ p)) b t r → Front (Deep d) (c ∷ b) t r
 behind d k c b t r e f = record { front = k ∷ f.front; is = ap (λ x. x ∷ b) e ∙ ap (λ l. k ∷ l) f.is; has = f.has }
 
-text_front : (d : ℕ) (b : List ℕ) (t : Tree) (r : List ℕ) → option_map {U = Tree × List ℕ} (λ p. (text p.0, p.1)) (text_at b) ≡ Some (t, r) → Front (λ u p. Deep d u (34 ∷ p)) b t r
+text_front : (d : ℕ) (b : List ℕ) (t : Tree) (r : List ℕ) → option_map {U = Tree × List ℕ} (λ p. (text p.0, p.1)) (read_text b) ≡ Some (t, r) → Front (λ u p. Deep d u (34 ∷ p)) b t r
 text_front d b t r e =
-    let m = option_map_pair (λ s. text s) (text_at b) t r e in
+    let m = option_map_pair (λ s. text s) (read_text b) t r e in
     let f = text_sound b m.0 r m.1 in
     subst (λ u. Front (λ u' p. Deep d u' (34 ∷ p)) b u r) m.2 (record { front = f.front; is = f.is; has = (f.has, omega arith) })
 
 -- a value that is read is spelled, where lists and objects are
-pub value_by_sound : (d : ℕ) (f g : List ℕ → Read Tree)
+pub value_by_sound : (d : ℕ) (f g : List ℕ → Reading Tree)
     → ((b : List ℕ) (t : Tree) (r : List ℕ) → f b ≡ Some (t, r) → Front (λ u p. Deep d u (91 ∷ p)) b t r)
     → ((b : List ℕ) (t : Tree) (r : List ℕ) → g b ≡ Some (t, r) → Front (λ u p. Deep d u (123 ∷ p)) b t r) → Sound (Deep d) (value_by f g)
 value_by_sound d f g hf hg [] t r e = absurd (none-some (t, r) e)
@@ -344,7 +344,7 @@ value_by_sound d f g hf hg (c ∷ b) t r e =
     (chosen (c == 102) _ _ (t, r) n5.1)) (chosen (c == 116) _ _ (t, r) n4.1)) (chosen (c == 110) _ _ (t, r) n3.1)) (chosen (c == 123) _ _ (t, r) n2.1)) (chosen (c == 91) _ _ (t, r) n1.1)) (chosen (c == 34) _ _ (t, r) e)
 
 -- a value that is read is spelled
-pub value_sound : (d : ℕ) → Sound (Deep d) (value_at d)
-unfolding value_at
+pub value_sound : (d : ℕ) → Sound (Deep d) (read_value d)
+unfolding read_value
 value_sound zero = value_by_sound 0 nothing_at nothing_at (λ b t r e. absurd (none-some (t, r) e)) (λ b t r e. absurd (none-some (t, r) e))
-value_sound (suc d) = value_by_sound (suc d) (list_at (value_at d)) (obj_at (value_at d)) (list_sound d (value_sound d)) (obj_sound d (value_sound d))
+value_sound (suc d) = value_by_sound (suc d) (list_at (read_value d)) (obj_at (read_value d)) (list_sound d (value_sound d)) (obj_sound d (value_sound d))

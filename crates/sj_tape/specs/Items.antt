@@ -20,5 +20,5 @@ abbrev pub array_choice : Array → Repeats
 array_choice a = a.repeats
 
 -- the parts that an iterator has left
-abbrev pub parts_ahead : Iter → List (Repeats × Tree)
-parts_ahead it = map (λ t. (it.repeats, t)) (items_ahead it)
+abbrev pub items_parts_ahead : Iter → List (Repeats × Tree)
+items_parts_ahead it = map (λ t. (it.repeats, t)) (items_ahead it)

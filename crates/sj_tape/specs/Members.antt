@@ -30,13 +30,13 @@ abbrev pub object_choice : Object → Repeats
 object_choice o = o.repeats
 
 -- the members with a choice, their values as parts
-abbrev pub chosen : Repeats → List (List ℕ × Tree) → List (List ℕ × (Repeats × Tree))
-chosen c ps = map (λ p. (p.0, (c, p.1))) ps
+abbrev pub chosen_pairs : Repeats → List (List ℕ × Tree) → List (List ℕ × (Repeats × Tree))
+chosen_pairs c ps = map (λ p. (p.0, (c, p.1))) ps
 
 -- the members that an iterator has left, their values as parts
-abbrev pub parts_ahead : Iter → List (List ℕ × (Repeats × Tree))
-parts_ahead it = chosen it.repeats (members_ahead it)
+abbrev pub members_parts_ahead : Iter → List (List ℕ × (Repeats × Tree))
+members_parts_ahead it = chosen_pairs it.repeats (members_ahead it)
 
 -- the values that an iterator has left, as parts
 abbrev pub value_parts_ahead : Values → List (Repeats × Tree)
-value_parts_ahead it = map (λ (p : List ℕ × (Repeats × Tree)). p.1) (parts_ahead it.members)
+value_parts_ahead it = map (λ (p : List ℕ × (Repeats × Tree)). p.1) (members_parts_ahead it.members)

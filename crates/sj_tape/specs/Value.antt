@@ -9,20 +9,20 @@ use Rattle.sj_tape.specs.Stretches.{nodes_in}
 use Rattle.sj_tape.specs.declared.value.Value.{Value}
 
 -- the tree that a part of a tape lists
-abbrev pub tree : Value → Tree
-tree v = tree_of (nodes_in v.nodes)
+abbrev pub tape_tree : Value → Tree
+tape_tree v = tree_of (nodes_in v.nodes)
 
 -- which member of several with one key counts in the part
-abbrev pub choice : Value → Repeats
-choice v = v.repeats
+abbrev pub tape_choice : Value → Repeats
+tape_choice v = v.repeats
 
 -- a part of a tape as contracts see it
-abbrev pub part : Value → Repeats × Tree
-part v = (choice v, tree v)
+abbrev pub tape_part : Value → Repeats × Tree
+tape_part v = (tape_choice v, tape_tree v)
 
 -- the value of the member with the text that counts in the part
-abbrev pub found : Value → List ℕ → Option Tree
-found v k = find_by (choice v) k (tree v)
+abbrev pub tape_found : Value → List ℕ → Option Tree
+tape_found v k = find_by (tape_choice v) k (tape_tree v)
 
 -- the tree itself, where it is a null, a truth value or a whole number
 abbrev pub as_scalar : Tree → Option Tree

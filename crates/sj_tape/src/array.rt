@@ -27,8 +27,8 @@ impl<'t, 'i> Array<'t, 'i> {
     ghost use Rattle.sj_text_core.specs.Find.{nth_item};
     ghost use Rattle.sj_text_core.specs.Tree.{no_items, listed};
     ghost use Rattle.std.specs.Prelude.{◌<◌, map, IfSome};
-    ghost use Rattle.sj_tape.specs.Value.{tree, choice};
-    ghost use Rattle.sj_tape.specs.Items.{items, items_ahead, parts_ahead, array_choice};
+    ghost use Rattle.sj_tape.specs.Value.{tape_tree, tape_choice};
+    ghost use Rattle.sj_tape.specs.Items.{items, items_ahead, items_parts_ahead, array_choice};
     ghost use Rattle.sj_tape.specs.inner.Parts.{ItemsFrom};
 
     /// The array with so many items, whose nodes are these.
@@ -64,7 +64,7 @@ impl<'t, 'i> Array<'t, 'i> {
     #[inline(always)]
     pub fn iter(&self) -> Iter<'t, 'i>
         ensures items { items_ahead result ≡ listed (items self.now) }
-        ensures parts { parts_ahead result ≡ map (λ t. (array_choice self.now, t)) (listed (items self.now)) }
+        ensures parts { items_parts_ahead result ≡ map (λ t. (array_choice self.now, t)) (listed (items self.now)) }
     {
         Iter {
             nodes: self.nodes,
@@ -74,8 +74,8 @@ impl<'t, 'i> Array<'t, 'i> {
 
     /// The item at that position, counted from 0; None past the last.
     pub fn get(&self, index: usize) -> Option<Value<'t, 'i>>
-        ensures value { option_map tree result ≡ nth_item index (items self.now) }
-        ensures choice { IfSome result (λ v. choice v ≡ array_choice self.now) }
+        ensures value { option_map tape_tree result ≡ nth_item index (items self.now) }
+        ensures choice { IfSome result (λ v. tape_choice v ≡ array_choice self.now) }
     {
         if index >= self.len {
             return None;
@@ -110,12 +110,12 @@ impl<'t, 'i> Iterator for Iter<'t, 'i> {
     type Item = Value<'t, 'i>;
 
     ghost use Rattle.std.specs.Iterator.{YieldsFirstBy, item_count};
-    ghost use Rattle.sj_tape.specs.Items.{parts_ahead};
-    ghost use Rattle.sj_tape.specs.Value.{part};
+    ghost use Rattle.sj_tape.specs.Items.{items_parts_ahead};
+    ghost use Rattle.sj_tape.specs.Value.{tape_part};
 
-    ghost next_gives = { YieldsFirstBy part parts_ahead };
+    ghost next_gives = { YieldsFirstBy tape_part items_parts_ahead };
 
-    ghost remaining = { item_count parts_ahead };
+    ghost remaining = { item_count items_parts_ahead };
 
     #[inline(always)]
     fn next(&mut self) -> Option<Value<'t, 'i>> {

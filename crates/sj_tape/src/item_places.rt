@@ -6,7 +6,7 @@ ghost use Rattle.sj_text_core.specs.Tree.{items_len};
 ghost use Rattle.sj_tape.specs.Marks.{packed_marks};
 ghost use Rattle.sj_tape.specs.Parts.{items_in};
 ghost use Rattle.sj_tape.specs.inner.Parts.{AreItemNodes, ItemsFrom};
-ghost use Rattle.sj_tape.specs.inner.Places.{AllPlaced, ArePlaces, IsPlaced};
+ghost use Rattle.sj_tape.specs.inner.Places.{AllPlaced, ArePlaces, IsArrayPlaced};
 
 use crate::kept::{Kept, between, kept_at, pass_run};
 use crate::landmarks::{Begins, FREE_CHANGES, MANY_ITEMS, PER_CHANGE, STEP, index_of};
@@ -114,7 +114,7 @@ fn places_of<'i, N: Kept<'i>>(alloc: Global, nodes: &[N], len: usize) -> Option<
 pub(crate) fn array_at(alloc: Global, nodes: &[Packed<'_>], at: usize) -> Option<ArrayPlaces>
     requires tree { IsPreorder (packed_marks nodes.now) }
     requires at { at < length (packed_marks nodes.now) }
-    ensures { IfSome result (λ a. IsPlaced (packed_marks nodes.now) a) }
+    ensures { IfSome result (λ a. IsArrayPlaced (packed_marks nodes.now) a) }
 {
     let node = kept_at(nodes, at);
     let len = node.array_len()?;

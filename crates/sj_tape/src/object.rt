@@ -28,17 +28,17 @@ pub struct Object<'t, 'i> {
 
 impl<'t, 'i> Object<'t, 'i> {
     ghost use Rattle.std.specs.Prelude.{◌≡◌, ◌↔◌, ℕ, List, IsTrue, IfSome, map, drop, option_map};
-    ghost use Rattle.sj_text_core.specs.Agree.{is_before, texts};
+    ghost use Rattle.sj_text_core.specs.Agree.{is_seen_before, pair_keys};
     ghost use Rattle.sj_text_core.specs.Find.{find_member};
     ghost use Rattle.sj_text_core.specs.Keep.{is_seen};
     ghost use Rattle.sj_text_core.specs.Repeats.{find_member_by};
     ghost use Rattle.sj_text_core.specs.Tree.{Tree, no_members, paired};
-    ghost use Rattle.sj_tape.specs.Members.{members, members_ahead, keys_ahead, values_ahead, object_choice, parts_ahead, value_parts_ahead, chosen};
+    ghost use Rattle.sj_tape.specs.Members.{members, members_ahead, keys_ahead, values_ahead, object_choice, members_parts_ahead, value_parts_ahead, chosen_pairs};
     ghost use Rattle.sj_tape.specs.inner.Ahead.{tree_from};
     ghost use Rattle.sj_tape.specs.inner.Fronts.{BeginsTree};
     ghost use Rattle.sj_tape.specs.Marks.{packed_marks};
     ghost use Rattle.sj_tape.specs.inner.Tags.{IsTagged};
-    ghost use Rattle.sj_tape.specs.Value.{tree, choice, part};
+    ghost use Rattle.sj_tape.specs.Value.{tape_tree, tape_choice, tape_part};
 
     /// The object with so many members, whose nodes are these.
     #[inline(always)]
@@ -73,7 +73,7 @@ impl<'t, 'i> Object<'t, 'i> {
     #[inline(always)]
     pub fn iter(&self) -> Iter<'t, 'i>
         ensures members { members_ahead result ≡ paired (members self.now) }
-        ensures parts { parts_ahead result ≡ chosen (object_choice self.now) (paired (members self.now)) }
+        ensures parts { members_parts_ahead result ≡ chosen_pairs (object_choice self.now) (paired (members self.now)) }
     {
         Iter {
             nodes: self.nodes,
@@ -95,7 +95,7 @@ impl<'t, 'i> Object<'t, 'i> {
     pub(crate) fn value_at(&self, nodes: &[Packed<'i>], place: usize) -> Value<'t, 'i>
         requires nodes { packed_marks nodes.now ≡ nodes_in self.now.nodes }
         requires begins { BeginsTree (drop place (packed_marks nodes.now)) }
-        ensures { part result ≡ (object_choice self.now, tree_from (packed_marks nodes.now) place) }
+        ensures { tape_part result ≡ (object_choice self.now, tree_from (packed_marks nodes.now) place) }
     {
         let width = kept_at(nodes, place).width();
         Value::at(&self.nodes, place, width, self.repeats)
@@ -123,7 +123,7 @@ impl<'t, 'i> Object<'t, 'i> {
     /// The values in order.
     pub fn values(&self) -> Values<'t, 'i>
         ensures values { values_ahead result ≡ map (λ (p : List ℕ × Tree). p.1) (paired (members self.now)) }
-        ensures parts { value_parts_ahead result ≡ map (λ p. p.1) (chosen (object_choice self.now) (paired (members self.now))) }
+        ensures parts { value_parts_ahead result ≡ map (λ p. p.1) (chosen_pairs (object_choice self.now) (paired (members self.now))) }
     {
         Values {
             members: self.iter(),
@@ -139,15 +139,15 @@ impl<'t, 'i> Object<'t, 'i> {
 
     /// The value of the member with that key that counts; None where there is none.
     pub fn get(&self, key: &str) -> Option<Value<'t, 'i>>
-        ensures value { option_map tree result ≡ find_member_by (object_choice self.now) key.now (members self.now) }
-        ensures choice { IfSome result (λ v. choice v ≡ object_choice self.now) }
+        ensures value { option_map tape_tree result ≡ find_member_by (object_choice self.now) key.now (members self.now) }
+        ensures choice { IfSome result (λ v. tape_choice v ≡ object_choice self.now) }
     {
         self.find(key)
     }
 
     /// The value of the first member with that key, whichever counts; None where there is none.
     pub(crate) fn first(&self, key: &str) -> Option<Value<'t, 'i>>
-        ensures { option_map tree result ≡ find_member key.now (members self.now) }
+        ensures { option_map tape_tree result ≡ find_member key.now (members self.now) }
     {
         for (name, value) in self.iter() {
             if are_same_texts(key, name) {
@@ -159,7 +159,7 @@ impl<'t, 'i> Object<'t, 'i> {
 
     /// Whether one of the first `place` members has that key.
     pub fn has_before(&self, place: usize, key: &str) -> bool
-        ensures { result ≡ is_before place key.now (paired (members self.now)) }
+        ensures { result ≡ is_seen_before place key.now (paired (members self.now)) }
     {
         let mut at = 0;
         for name in self.keys() {
@@ -176,7 +176,7 @@ impl<'t, 'i> Object<'t, 'i> {
 
     /// Whether a member behind the first `place` has that key.
     pub fn has_behind(&self, place: usize, key: &str) -> bool
-        ensures { result ≡ is_seen key.now (drop place (texts (paired (members self.now)))) }
+        ensures { result ≡ is_seen key.now (drop place (pair_keys (paired (members self.now)))) }
     {
         let mut known = place;
         for name in self.keys() {
@@ -202,12 +202,12 @@ impl<'t, 'i> Iterator for Iter<'t, 'i> {
     type Item = (&'i str, Value<'t, 'i>);
 
     ghost use Rattle.std.specs.Iterator.{YieldsFirstBy, item_count};
-    ghost use Rattle.sj_tape.specs.Members.{parts_ahead};
-    ghost use Rattle.sj_tape.specs.Value.{part};
+    ghost use Rattle.sj_tape.specs.Members.{members_parts_ahead};
+    ghost use Rattle.sj_tape.specs.Value.{tape_part};
 
-    ghost next_gives = { YieldsFirstBy (λ p. (p.0.now, part p.1)) parts_ahead };
+    ghost next_gives = { YieldsFirstBy (λ p. (p.0.now, tape_part p.1)) members_parts_ahead };
 
-    ghost remaining = { item_count parts_ahead };
+    ghost remaining = { item_count members_parts_ahead };
 
     #[inline(always)]
     fn next(&mut self) -> Option<(&'i str, Value<'t, 'i>)> {
@@ -254,9 +254,9 @@ impl<'t, 'i> Iterator for Values<'t, 'i> {
 
     ghost use Rattle.std.specs.Iterator.{YieldsFirstBy, item_count};
     ghost use Rattle.sj_tape.specs.Members.{value_parts_ahead};
-    ghost use Rattle.sj_tape.specs.Value.{part};
+    ghost use Rattle.sj_tape.specs.Value.{tape_part};
 
-    ghost next_gives = { YieldsFirstBy part value_parts_ahead };
+    ghost next_gives = { YieldsFirstBy tape_part value_parts_ahead };
 
     ghost remaining = { item_count value_parts_ahead };
 

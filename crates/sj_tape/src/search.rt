@@ -8,11 +8,11 @@ ghost use Rattle.sj_text_core.specs.Repeats.{find_last_member, find_member_by, v
 ghost use Rattle.sj_text_core.specs.Tree.{members_len};
 ghost use Rattle.sj_tape.specs.inner.Ahead.{part_from, tree_from};
 ghost use Rattle.sj_tape.specs.inner.Fronts.{BeginsTree};
-ghost use Rattle.sj_tape.specs.inner.Lookup.{first_value, last_value, compared};
+ghost use Rattle.sj_tape.specs.inner.Lookup.{first_value, last_value, keys_compared};
 ghost use Rattle.sj_tape.specs.Marks.{packed_marks};
-ghost use Rattle.sj_tape.specs.Members.{members, object_choice, parts_ahead};
+ghost use Rattle.sj_tape.specs.Members.{members, object_choice, members_parts_ahead};
 ghost use Rattle.sj_tape.specs.Stretches.{nodes_in};
-ghost use Rattle.sj_tape.specs.Value.{tree, choice, part};
+ghost use Rattle.sj_tape.specs.Value.{tape_tree, tape_choice, tape_part};
 
 mod places;
 mod tagged;
@@ -41,8 +41,8 @@ fn first_plain<'t, 'i, L: Ledger>(
     key: &[u8],
     steps: &mut Steps<L>,
 ) -> Option<Value<'t, 'i>>
-    ensures value { option_map part result ≡ first_value key.now (parts_ahead ahead.entry) }
-    ensures exact { steps.new ≡ steps.old + compared key.now (parts_ahead ahead.entry) }
+    ensures value { option_map tape_part result ≡ first_value key.now (members_parts_ahead ahead.entry) }
+    ensures exact { steps.new ≡ steps.old + keys_compared key.now (members_parts_ahead ahead.entry) }
 {
     for (name, value) in ahead {
         if is_key(name, key, steps) {
@@ -58,8 +58,8 @@ fn last_plain<'t, 'i, L: Ledger>(
     key: &[u8],
     steps: &mut Steps<L>,
 ) -> Option<Value<'t, 'i>>
-    ensures value { option_map part result ≡ last_value key.now (parts_ahead ahead.entry) }
-    ensures exact { steps.new ≡ steps.old + length (parts_ahead ahead.entry) }
+    ensures value { option_map tape_part result ≡ last_value key.now (members_parts_ahead ahead.entry) }
+    ensures exact { steps.new ≡ steps.old + length (members_parts_ahead ahead.entry) }
 {
     let mut found = None;
     for (name, value) in ahead {
@@ -79,7 +79,7 @@ fn value_there<'t, 'i>(
 ) -> Option<Value<'t, 'i>>
     requires nodes { packed_marks nodes.now ≡ nodes_in object.now.nodes }
     requires begins { IfSome place (λ p. BeginsTree (drop p (packed_marks nodes.now))) }
-    ensures { option_map part result ≡ option_map (part_from (object_choice object.now) (packed_marks nodes.now)) place }
+    ensures { option_map tape_part result ≡ option_map (part_from (object_choice object.now) (packed_marks nodes.now)) place }
 {
     match place {
         Some(place) => Some(object.value_at(nodes, place)),
@@ -210,7 +210,7 @@ fn find_plain<'t, 'i, L: Ledger>(
     key: &[u8],
     steps: &mut Steps<L>,
 ) -> Option<Value<'t, 'i>>
-    ensures value { option_map part result ≡ option_map (λ t. (object_choice object.now, t)) (find_member_by (object_choice object.now) key.now (members object.now)) }
+    ensures value { option_map tape_part result ≡ option_map (λ t. (object_choice object.now, t)) (find_member_by (object_choice object.now) key.now (members object.now)) }
     ensures exact { steps.new ≡ steps.old + visited_by (object_choice object.now) key.now (members object.now) }
 {
     match object.repeats() {
@@ -225,8 +225,8 @@ pub(crate) fn find_counted<'t, 'i, L: Ledger>(
     key: &[u8],
     steps: &mut Steps<L>,
 ) -> Option<Value<'t, 'i>>
-    ensures value { option_map tree result ≡ find_member_by (object_choice object.now) key.now (members object.now) }
-    ensures choice { IfSome result (λ v. choice v ≡ object_choice object.now) }
+    ensures value { option_map tape_tree result ≡ find_member_by (object_choice object.now) key.now (members object.now) }
+    ensures choice { IfSome result (λ v. tape_choice v ≡ object_choice object.now) }
     ensures exact { steps.new ≡ steps.old + visited_by (object_choice object.now) key.now (members object.now) }
 {
     match object.packed() {
@@ -243,8 +243,8 @@ impl<'t, 'i> Object<'t, 'i> {
         requires name { blank.name ≡ L.name }
         requires parts { blank.parts ≡ L.parts }
         requires some { 0 < L.parts }
-        ensures value { option_map tree result ≡ find_member_by (object_choice self.now) key.now (members self.now) }
-        ensures choice { IfSome result (λ v. choice v ≡ object_choice self.now) }
+        ensures value { option_map tape_tree result ≡ find_member_by (object_choice self.now) key.now (members self.now) }
+        ensures choice { IfSome result (λ v. tape_choice v ≡ object_choice self.now) }
     {
         let mut steps = Steps::<L>::new(blank);
         match self.packed() {
@@ -255,8 +255,8 @@ impl<'t, 'i> Object<'t, 'i> {
 
     /// The value of the member with the key that counts.
     pub(crate) fn find(&self, key: &str) -> Option<Value<'t, 'i>>
-        ensures value { option_map tree result ≡ find_member_by (object_choice self.now) key.now (members self.now) }
-        ensures choice { IfSome result (λ v. choice v ≡ object_choice self.now) }
+        ensures value { option_map tape_tree result ≡ find_member_by (object_choice self.now) key.now (members self.now) }
+        ensures choice { IfSome result (λ v. tape_choice v ≡ object_choice self.now) }
     {
         self.find_blank::<Brand>(key.as_bytes(), Blank::new(1))
     }

@@ -36,7 +36,7 @@ impl<'i> Tape<'i> {
     ghost use Rattle.std.specs.Prelude.{◌≡◌, ◌↔◌, IsOk, IfOk, IfErr};
     ghost use Rattle.sj_text_core.specs.Nodes.{flat, tree_of, IsPreorder};
     ghost use Rattle.sj_tape.specs.Marks.{marks, packed_marks};
-    ghost use Rattle.sj_tape.specs.Value.{tree, choice};
+    ghost use Rattle.sj_tape.specs.Value.{tape_tree, tape_choice};
 
     /// The tape of the nodes, where they are the preorder of one tree, of any depth.
     ///
@@ -92,16 +92,16 @@ impl<'i> Tape<'i> {
 
     /// The whole tape.
     pub fn as_value(&self) -> Value<'_, 'i>
-        ensures tree { tree result ≡ self.now }
-        ensures choice { choice result ≡ Repeats.First }
+        ensures tree { tape_tree result ≡ self.now }
+        ensures choice { tape_choice result ≡ Repeats.First }
     {
         self.as_value_repeats(Repeats::First)
     }
 
     /// The whole tape, where that member of several with one key counts.
     pub fn as_value_repeats(&self, repeats: Repeats) -> Value<'_, 'i>
-        ensures tree { tree result ≡ self.now }
-        ensures choice { choice result ≡ repeats }
+        ensures tree { tape_tree result ≡ self.now }
+        ensures choice { tape_choice result ≡ repeats }
     {
         Value::from_nodes(Nodes::all(&self.nodes), repeats)
     }

@@ -32,12 +32,12 @@ impl<'t, 'i> Value<'t, 'i> {
     ghost use Rattle.sj_text_core.specs.Tree.{null};
     ghost use Rattle.sj_tape.specs.inner.Ahead.{tree_from};
     ghost use Rattle.sj_tape.specs.inner.Fronts.{BeginsTree};
-    ghost use Rattle.sj_tape.specs.Value.{tree, choice, part};
+    ghost use Rattle.sj_tape.specs.Value.{tape_tree, tape_choice, tape_part};
 
     /// A null of its own.
     pub fn null() -> Self
-        ensures tree { tree result ≡ null }
-        ensures choice { choice result ≡ Repeats.First }
+        ensures tree { tape_tree result ≡ null }
+        ensures choice { tape_choice result ≡ Repeats.First }
     {
         Value {
             nodes: Nodes::null(),
@@ -49,7 +49,7 @@ impl<'t, 'i> Value<'t, 'i> {
     #[inline(always)]
     pub(crate) fn from_nodes(nodes: Nodes<'t, 'i>, repeats: Repeats) -> Self
         requires { IsPreorder (nodes_in nodes) }
-        ensures { part result ≡ (repeats, tree_of (nodes_in nodes.entry)) }
+        ensures { tape_part result ≡ (repeats, tree_of (nodes_in nodes.entry)) }
     {
         Value { nodes, repeats }
     }
@@ -59,7 +59,7 @@ impl<'t, 'i> Value<'t, 'i> {
     #[inline(always)]
     pub(crate) fn take(nodes: &mut Nodes<'t, 'i>, place: usize, repeats: Repeats) -> Self
         requires { BeginsTree (drop place (nodes_in nodes.old)) }
-        ensures choice { choice result ≡ repeats }
+        ensures choice { tape_choice result ≡ repeats }
         ensures all { drop place (nodes_in nodes.old) ≡ nodes_in result.nodes ++ nodes_in nodes.new }
     {
         let end = place + nodes.width_at(place);
@@ -76,14 +76,14 @@ impl<'t, 'i> Value<'t, 'i> {
     pub(crate) fn at(nodes: &Nodes<'t, 'i>, place: usize, width: usize, repeats: Repeats) -> Self
         requires begins { BeginsTree (drop place (nodes_in nodes.now)) }
         requires wide { width ≡ node_width (get_or (nodes_in nodes.now) place nothing) }
-        ensures { part result ≡ (repeats, tree_from (nodes_in nodes.now) place) }
+        ensures { tape_part result ≡ (repeats, tree_from (nodes_in nodes.now) place) }
     {
         Value::from_nodes(nodes.between(place, place + width), repeats)
     }
 
     /// Which member of several with one key counts.
     pub fn repeats(&self) -> Repeats
-        ensures { result ≡ choice self.now }
+        ensures { result ≡ tape_choice self.now }
     {
         self.repeats
     }
@@ -91,7 +91,7 @@ impl<'t, 'i> Value<'t, 'i> {
     /// The nodes, a preorder.
     pub fn nodes(&self) -> Nodes<'t, 'i>
         ensures whole { IsPreorder (nodes_in result) }
-        ensures tree { tree_of (nodes_in result) ≡ tree self.now }
+        ensures tree { tree_of (nodes_in result) ≡ tape_tree self.now }
     {
         self.nodes
     }

@@ -28,10 +28,10 @@ numbered-carrier_number u128 = refl
 abbrev pub carrier_code : Coded Carrier
 carrier_code = code_by ℕ coded_ℕ carrier_number numbered_carrier numbered-carrier_number
 
-abbrev Parts : Type 0
-Parts = ⊤ ⊎ (Bool ⊎ ((ℤ × Carrier) ⊎ (List ℕ ⊎ ((ℕ × ℕ) ⊎ (ℕ × ℕ)))))
+abbrev MarkParts : Type 0
+MarkParts = ⊤ ⊎ (Bool ⊎ ((ℤ × Carrier) ⊎ (List ℕ ⊎ ((ℕ × ℕ) ⊎ (ℕ × ℕ)))))
 
-abbrev parts_of : Mark → Parts
+abbrev parts_of : Mark → MarkParts
 parts_of nothing = inl tt
 parts_of (truth b) = inr (inl b)
 parts_of (number n c) = inr (inr (inl (n, c)))
@@ -39,7 +39,7 @@ parts_of (string s) = inr (inr (inr (inl s)))
 parts_of (array l n) = inr (inr (inr (inr (inl (l, n)))))
 parts_of (object l n) = inr (inr (inr (inr (inr (l, n)))))
 
-abbrev mark_of : Parts → Mark
+abbrev mark_of : MarkParts → Mark
 mark_of (inl u) = nothing
 mark_of (inr (inl b)) = truth b
 mark_of (inr (inr (inl p))) = number p.0 p.1
@@ -57,7 +57,7 @@ mark_of-parts_of (object l n) = refl
 
 abbrev pub mark_code : Coded Mark
 mark_code =
-    code_by Parts (coded⊎ coded_unit (coded⊎ coded_bool (coded⊎ (coded× coded_ℤ carrier_code) (coded⊎ (coded_list coded_ℕ) (coded⊎ (coded× coded_ℕ coded_ℕ) (coded× coded_ℕ coded_ℕ))))))
+    code_by MarkParts (coded⊎ coded_unit (coded⊎ coded_bool (coded⊎ (coded× coded_ℤ carrier_code) (coded⊎ (coded_list coded_ℕ) (coded⊎ (coded× coded_ℕ coded_ℕ) (coded× coded_ℕ coded_ℕ))))))
     parts_of mark_of mark_of-parts_of
 
 pub tree_of-flat : (t : Tree) → tree_of (flat t) ≡ t

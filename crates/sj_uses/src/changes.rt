@@ -4,7 +4,7 @@ ghost use Rattle.std.specs.Prelude.{◌≡◌, Some, None, IfOk, IfErr};
 ghost use Rattle.std.specs.Cow.{cow_str_bytes};
 ghost use Rattle.sj_text_core.specs.Find.{find, nth};
 ghost use Rattle.sj_text_core.specs.Paths.{by_key, by_place, set_found};
-ghost use Rattle.sj_document.specs.Document.{tree, with_member};
+ghost use Rattle.sj_document.specs.Document.{document_tree, with_member};
 ghost use Rattle.sj_lazy.specs.Value.{lazy_kept, owned};
 
 use sj_borrowed::KnownKey;
@@ -23,9 +23,9 @@ pub fn replace_member<T: KeyText>(
     key: &str,
     new: Document<T>,
 ) -> Result<Document<T>, Replace<Document<T>>>
-    ensures answer { IfOk result (λ before. Some (tree T.text_of before) ≡ find key.now (tree T.text_of document.old)) }
-    ensures written { IfOk result (λ before. tree T.text_of document.new ≡ set_found (by_key key.now) (tree T.text_of new) (tree T.text_of document.old)) }
-    ensures absent { IfErr result (λ back. (back.value ≡ new) × (None ≡ find key.now (tree T.text_of document.old)) × (tree T.text_of document.new ≡ tree T.text_of document.old)) }
+    ensures answer { IfOk result (λ before. Some (document_tree T.text_of before) ≡ find key.now (document_tree T.text_of document.old)) }
+    ensures written { IfOk result (λ before. document_tree T.text_of document.new ≡ set_found (by_key key.now) (document_tree T.text_of new) (document_tree T.text_of document.old)) }
+    ensures absent { IfErr result (λ back. (back.value ≡ new) × (None ≡ find key.now (document_tree T.text_of document.old)) × (document_tree T.text_of document.new ≡ document_tree T.text_of document.old)) }
 {
     change_member(document, key, Replace { value: new })
 }
@@ -37,9 +37,9 @@ pub fn replace_item<T: KeyText>(
     index: usize,
     new: Document<T>,
 ) -> Result<Document<T>, Replace<Document<T>>>
-    ensures answer { IfOk result (λ before. Some (tree T.text_of before) ≡ nth index (tree T.text_of document.old)) }
-    ensures written { IfOk result (λ before. tree T.text_of document.new ≡ set_found (by_place index) (tree T.text_of new) (tree T.text_of document.old)) }
-    ensures absent { IfErr result (λ back. (back.value ≡ new) × (None ≡ nth index (tree T.text_of document.old)) × (tree T.text_of document.new ≡ tree T.text_of document.old)) }
+    ensures answer { IfOk result (λ before. Some (document_tree T.text_of before) ≡ nth index (document_tree T.text_of document.old)) }
+    ensures written { IfOk result (λ before. document_tree T.text_of document.new ≡ set_found (by_place index) (document_tree T.text_of new) (document_tree T.text_of document.old)) }
+    ensures absent { IfErr result (λ back. (back.value ≡ new) × (None ≡ nth index (document_tree T.text_of document.old)) × (document_tree T.text_of document.new ≡ document_tree T.text_of document.old)) }
 {
     change_item(document, index, Replace { value: new })
 }
@@ -70,9 +70,9 @@ pub fn replace_known<'k, T: KeyText>(
     key: &KnownKey<'k>,
     new: Document<T>,
 ) -> Result<Document<T>, Document<T>>
-    ensures answer { IfOk result (λ before. Some (tree T.text_of before) ≡ find (cow_str_bytes key.now) (tree T.text_of document.old)) }
-    ensures written { IfOk result (λ before. tree T.text_of document.new ≡ set_found (by_key (cow_str_bytes key.now)) (tree T.text_of new) (tree T.text_of document.old)) }
-    ensures absent { IfErr result (λ back. (back ≡ new) × (tree T.text_of document.new ≡ tree T.text_of document.old)) }
+    ensures answer { IfOk result (λ before. Some (document_tree T.text_of before) ≡ find (cow_str_bytes key.now) (document_tree T.text_of document.old)) }
+    ensures written { IfOk result (λ before. document_tree T.text_of document.new ≡ set_found (by_key (cow_str_bytes key.now)) (document_tree T.text_of new) (document_tree T.text_of document.old)) }
+    ensures absent { IfErr result (λ back. (back ≡ new) × (document_tree T.text_of document.new ≡ document_tree T.text_of document.old)) }
 {
     KnownKey::replace(document, key, new)
 }
@@ -85,8 +85,8 @@ pub fn replace_known_or_insert<'k, T: StoredKey<'k>>(
     key: &KnownKey<'k>,
     new: Document<T>,
 ) -> Result<Document<T>, Refused<Error, (Document<T>, Replace<Document<T>>)>>
-    ensures written { IfOk result (λ before. tree T.text_of document.new ≡ with_member (cow_str_bytes key.now) (tree T.text_of new) (tree T.text_of document.old)) }
-    ensures refused { IfErr result (λ r. (r.value.1.value ≡ new) × (tree T.text_of document.new ≡ tree T.text_of document.old)) }
+    ensures written { IfOk result (λ before. document_tree T.text_of document.new ≡ with_member (cow_str_bytes key.now) (document_tree T.text_of new) (document_tree T.text_of document.old)) }
+    ensures refused { IfErr result (λ r. (r.value.1.value ≡ new) × (document_tree T.text_of document.new ≡ document_tree T.text_of document.old)) }
 {
     KnownKey::change_or_insert(document, key, Document::null(), Replace { value: new })
 }
@@ -116,8 +116,8 @@ pub fn replace_lazy_member<P: Upgrade<T> + Drop, B: Lent<T> + Drop, T: KeyText +
     key: &str,
     new: Document<T>,
 ) -> Result<Result<Document<T>, Replace<Document<T>>>, Refused<AllocError, Replace<Document<T>>>>
-    ensures answer { IfOk result (λ done. IfOk done (λ before. Some (tree T.text_of before) ≡ find key.now (lazy_kept P.part_kept B.lent_tree T.text_of value.old))) }
-    ensures written { IfOk result (λ done. IfOk done (λ before. owned T.text_of value.new ≡ Some (set_found (by_key key.now) (tree T.text_of new) (lazy_kept P.part_kept B.lent_tree T.text_of value.old)))) }
+    ensures answer { IfOk result (λ done. IfOk done (λ before. Some (document_tree T.text_of before) ≡ find key.now (lazy_kept P.part_kept B.lent_tree T.text_of value.old))) }
+    ensures written { IfOk result (λ done. IfOk done (λ before. owned T.text_of value.new ≡ Some (set_found (by_key key.now) (document_tree T.text_of new) (lazy_kept P.part_kept B.lent_tree T.text_of value.old)))) }
     ensures absent { IfOk result (λ done. IfErr done (λ back. (back.value ≡ new) × (owned T.text_of value.new ≡ Some (lazy_kept P.part_kept B.lent_tree T.text_of value.old)))) }
     ensures refused { IfErr result (λ r. (r.value.value ≡ new) × (value.new ≡ value.old)) }
 {

@@ -2,7 +2,7 @@
 
 ghost use Rattle.std.specs.Prelude.{◌≡◌, OnOk};
 ghost use Rattle.sj_object.specs.Members.{entry_members};
-ghost use Rattle.sj_document.specs.Document.{tree};
+ghost use Rattle.sj_document.specs.Document.{document_tree};
 ghost use Rattle.sj_uses.specs.Merge.{merged, merged_members, NothingOver};
 
 use sj_document::{Document, Object, Taken};
@@ -13,7 +13,7 @@ use std::alloc::AllocError;
 /// Refused for want of memory, the lower one may have some of the upper one's members.
 #[cycle(merge)]
 pub fn merge<T: KeyText + Drop>(base: &mut Document<T>, over: Document<T>) -> Result<(), AllocError>
-    ensures { OnOk result (tree T.text_of base.new ≡ merged (tree T.text_of base.old) (tree T.text_of over)) }
+    ensures { OnOk result (document_tree T.text_of base.new ≡ merged (document_tree T.text_of base.old) (document_tree T.text_of over)) }
 {
     match over.take_apart() {
         Taken::Object(members) => match base {
@@ -43,7 +43,7 @@ fn merge_members<T: KeyText + Drop>(
     into: &mut Object<T>,
     members: Object<T>,
 ) -> Result<(), AllocError>
-    ensures { OnOk result (entry_members (tree T.text_of) into.new.entries ≡ merged_members (entry_members (tree T.text_of) into.old.entries) (entry_members (tree T.text_of) members.entries)) }
+    ensures { OnOk result (entry_members (document_tree T.text_of) into.new.entries ≡ merged_members (entry_members (document_tree T.text_of) into.old.entries) (entry_members (document_tree T.text_of) members.entries)) }
 {
     for (key, value) in members {
         match into.get_mut(key.text()) {

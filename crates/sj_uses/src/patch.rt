@@ -2,7 +2,7 @@
 //! was.
 
 ghost use Rattle.std.specs.Prelude.{◌≡◌, Some, OnErr, OnOk, option_map, string_bytes};
-ghost use Rattle.sj_document.specs.Document.{tree};
+ghost use Rattle.sj_document.specs.Document.{document_tree};
 ghost use Rattle.sj_uses.specs.Patch.{with_token, without_token, added, removed};
 
 use sj_document::Change;
@@ -48,7 +48,7 @@ struct Put {
 impl Change<Value> for Put {
     type Answer = Result<(), PatchError>;
 
-    ghost makes = { λ c v w r. OnOk r (Some (tree string_bytes w) ≡ with_token (string_bytes c.token) (tree string_bytes c.value) (tree string_bytes v)) × OnErr r (tree string_bytes w ≡ tree string_bytes v) };
+    ghost makes = { λ c v w r. OnOk r (Some (document_tree string_bytes w) ≡ with_token (string_bytes c.token) (document_tree string_bytes c.value) (document_tree string_bytes v)) × OnErr r (document_tree string_bytes w ≡ document_tree string_bytes v) };
 
     fn change(self, container: &mut Value) -> Result<(), PatchError> {
         let Put { token, value } = self;
@@ -65,7 +65,7 @@ struct Take<'t> {
 impl<'t> Change<Value> for Take<'t> {
     type Answer = Result<Value, PatchError>;
 
-    ghost makes = { λ c v w r. OnOk r (Some (tree string_bytes w) ≡ without_token c.token.now (tree string_bytes v)) × OnErr r (tree string_bytes w ≡ tree string_bytes v) };
+    ghost makes = { λ c v w r. OnOk r (Some (document_tree string_bytes w) ≡ without_token c.token.now (document_tree string_bytes v)) × OnErr r (document_tree string_bytes w ≡ document_tree string_bytes v) };
 
     fn change(self, container: &mut Value) -> Result<Value, PatchError> {
         take_from(container, self.token)
@@ -74,8 +74,8 @@ impl<'t> Change<Value> for Take<'t> {
 
 /// Puts the value into the container.
 fn put_in(container: &mut Value, token: String, new: Value) -> Result<(), PatchError>
-    ensures done { OnOk result (Some (tree string_bytes container.new) ≡ with_token (string_bytes token) (tree string_bytes new) (tree string_bytes container.old)) }
-    ensures kept { OnErr result (tree string_bytes container.new ≡ tree string_bytes container.old) }
+    ensures done { OnOk result (Some (document_tree string_bytes container.new) ≡ with_token (string_bytes token) (document_tree string_bytes new) (document_tree string_bytes container.old)) }
+    ensures kept { OnErr result (document_tree string_bytes container.new ≡ document_tree string_bytes container.old) }
 {
     if container.is_object() {
         container.insert(token, new)?;
@@ -96,8 +96,8 @@ fn put_in(container: &mut Value, token: String, new: Value) -> Result<(), PatchE
 
 /// Takes out of the container what is at the token.
 fn take_from(container: &mut Value, token: &str) -> Result<Value, PatchError>
-    ensures done { OnOk result (Some (tree string_bytes container.new) ≡ without_token token.now (tree string_bytes container.old)) }
-    ensures kept { OnErr result (tree string_bytes container.new ≡ tree string_bytes container.old) }
+    ensures done { OnOk result (Some (document_tree string_bytes container.new) ≡ without_token token.now (document_tree string_bytes container.old)) }
+    ensures kept { OnErr result (document_tree string_bytes container.new ≡ document_tree string_bytes container.old) }
 {
     if container.is_object() {
         return match container.remove(token)? {
@@ -116,8 +116,8 @@ fn take_from(container: &mut Value, token: &str) -> Result<Value, PatchError>
 
 /// The operation `add`. Refused, the document is as it was, and the value is let go.
 pub fn add(document: &mut Value, place: Place, new: Value) -> Result<(), PatchError>
-    ensures done { OnOk result (Some (tree string_bytes document.new) ≡ added (place.parent, option_map string_bytes place.last) (tree string_bytes new) (tree string_bytes document.old)) }
-    ensures kept { OnErr result (tree string_bytes document.new ≡ tree string_bytes document.old) }
+    ensures done { OnOk result (Some (document_tree string_bytes document.new) ≡ added (place.parent, option_map string_bytes place.last) (document_tree string_bytes new) (document_tree string_bytes document.old)) }
+    ensures kept { OnErr result (document_tree string_bytes document.new ≡ document_tree string_bytes document.old) }
 {
     let Place { parent, last } = place;
     let Some(token) = last else {
@@ -132,8 +132,8 @@ pub fn add(document: &mut Value, place: Place, new: Value) -> Result<(), PatchEr
 
 /// The operation `remove`, which answers what it took out. Refused, the document is as it was.
 pub fn remove(document: &mut Value, place: &Place) -> Result<Value, PatchError>
-    ensures done { OnOk result (Some (tree string_bytes document.new) ≡ removed (place.now.parent, option_map string_bytes place.now.last) (tree string_bytes document.old)) }
-    ensures kept { OnErr result (tree string_bytes document.new ≡ tree string_bytes document.old) }
+    ensures done { OnOk result (Some (document_tree string_bytes document.new) ≡ removed (place.now.parent, option_map string_bytes place.now.last) (document_tree string_bytes document.old)) }
+    ensures kept { OnErr result (document_tree string_bytes document.new ≡ document_tree string_bytes document.old) }
 {
     let Some(token) = &place.last else {
         return Err(PatchError::Missing);

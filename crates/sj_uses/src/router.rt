@@ -6,7 +6,7 @@ ghost use Rattle.sj_text_core.specs.Tree.{Tree};
 ghost use Rattle.sj_text_core.specs.Grammar.{Spells};
 ghost use Rattle.sj_text_core.specs.Print.{compact};
 ghost use Rattle.sj_text_core.specs.declared.repeats.Repeats.TheVariants.{First};
-ghost use Rattle.sj_lazy.specs.Value.{tree, choice, kept, owned};
+ghost use Rattle.sj_lazy.specs.Value.{value_tree, value_choice, value_kept, owned};
 ghost use Rattle.sj_uses.specs.Routing.{route, hopped, route_name, forwarded};
 
 use sj_borrowed::KnownKey;
@@ -55,8 +55,8 @@ impl Router {
 
     /// Where the message goes. Nothing is built.
     fn route_of(&self, message: &Value) -> Route
-        requires { choice message.now ≡ First }
-        ensures { result ≡ route (cow_str_bytes self.now.topic) self.now.urgent (tree message.now) }
+        requires { value_choice message.now ≡ First }
+        ensures { result ≡ route (cow_str_bytes self.now.topic) self.now.urgent (value_tree message.now) }
     {
         if lazy::find(message, &self.urgent).is_some() {
             return Route::Alerts;
@@ -69,7 +69,7 @@ impl Router {
 
     /// One more hop; the message is then a document.
     fn count_hop(&self, alloc: Global, message: &mut Value) -> Result<(), JsonError>
-        ensures { OnOk result (owned cow_str_bytes message.new ≡ Some (hopped (cow_str_bytes self.now.hops) (kept message.old))) }
+        ensures { OnOk result (owned cow_str_bytes message.new ≡ Some (hopped (cow_str_bytes self.now.hops) (value_kept message.old))) }
     {
         let document = message.as_mut(alloc)?;
         let hops = match self.hops.lookup(document) {
@@ -110,7 +110,7 @@ impl Router {
 }
 
 fn write_line(message: &Value, name: &str, out: &mut Vec<u8>) -> Result<(), JsonError>
-    ensures ok { OnOk result (out.new.items ≡ out.old.items ++ ((name.now ++ compact (tree message.now)) ++ 10 ∷ [])) }
+    ensures ok { OnOk result (out.new.items ≡ out.old.items ++ ((name.now ++ compact (value_tree message.now)) ++ 10 ∷ [])) }
     ensures err { OnErr result ((more : List ℕ) × (out.new.items ≡ out.old.items ++ more)) }
 {
     out.extend_from_slice(name.as_bytes())?;

@@ -7,7 +7,7 @@ ghost use Rattle.sj_text_core.specs.Keep.{keep};
 ghost use Rattle.sj_text_core.specs.Find.{find};
 ghost use Rattle.sj_text_core.specs.Print.{compact};
 ghost use Rattle.sj_text_core.specs.Reads.{member_as, as_unsigned};
-ghost use Rattle.sj_document.specs.Document.{tree, with_member};
+ghost use Rattle.sj_document.specs.Document.{document_tree, with_member};
 ghost use Rattle.sj_pointer.specs.Pointed.{set_pointed};
 
 use sj_owned::prelude::*;
@@ -28,7 +28,7 @@ pub fn set_on(
     settings: &mut Value,
     key: String,
 ) -> Result<Option<Value>, Refused<AccessError, Value>>
-    ensures { OnOk result (tree string_bytes settings.new ≡ with_member (string_bytes key) (boolean true) (tree string_bytes settings.old)) }
+    ensures { OnOk result (document_tree string_bytes settings.new ≡ with_member (string_bytes key) (boolean true) (document_tree string_bytes settings.old)) }
 {
     settings.insert(key, Value::from(true))
 }
@@ -38,14 +38,14 @@ pub fn set_found(
     settings: &mut Value,
     key: String,
 ) -> Result<Option<Value>, Refused<AccessError, Value>>
-    ensures { OnOk result (find (string_bytes key) (tree string_bytes settings.new) ≡ Some (boolean true)) }
+    ensures { OnOk result (find (string_bytes key) (document_tree string_bytes settings.new) ≡ Some (boolean true)) }
 {
     settings.insert(key, Value::from(true))
 }
 
 /// The document with a value at a pointer.
 pub fn patched(document: &mut Value, pointer: &Pointer, new: Value) -> bool
-    ensures { tree string_bytes document.new ≡ set_pointed pointer.now (tree string_bytes new) (tree string_bytes document.old) }
+    ensures { document_tree string_bytes document.new ≡ set_pointed pointer.now (document_tree string_bytes new) (document_tree string_bytes document.old) }
 {
     sj_path::owned::replace(document, pointer, new).is_ok()
 }

@@ -2,7 +2,7 @@
 
 ghost use Rattle.std.specs.Prelude.{◌≡◌, IfOk, OnOk, string_bytes};
 ghost use Rattle.sj_text_core.specs.Tree.{Tree};
-ghost use Rattle.sj_document.specs.Document.{tree, with_member};
+ghost use Rattle.sj_document.specs.Document.{document_tree, with_member};
 ghost use Rattle.sj_uses.specs.Typed.{MeansNumber, MeansText, MeansOption, MeansList, HasMember, HasOptional};
 
 use sj_owned::prelude::*;
@@ -45,14 +45,14 @@ pub trait Meant {
 pub trait ToJson: Meant {
     /// A document that is read as the value.
     fn to_json(&self, alloc: Global) -> Result<Value, AllocError>
-        ensures { IfOk result (λ v. Self.means (tree string_bytes v) self.now) };
+        ensures { IfOk result (λ v. Self.means (document_tree string_bytes v) self.now) };
 }
 
 /// Values that are read of documents.
 pub trait FromJson: Meant + Sized + Drop {
     /// The value that the document is read as.
     fn from_json(alloc: Global, value: &Value) -> Result<Self, ReadError>
-        ensures { IfOk result (λ x. Self.means (tree string_bytes value.now) x) };
+        ensures { IfOk result (λ x. Self.means (document_tree string_bytes value.now) x) };
 }
 
 impl Meant for u16 {
@@ -135,7 +135,7 @@ impl<T: FromJson> FromJson for Vec<T> {
 
 /// The member of the key, which has to be there.
 pub fn member<T: FromJson>(alloc: Global, value: &Value, key: &str) -> Result<T, ReadError>
-    ensures { IfOk result (λ x. HasMember T.means key.now (tree string_bytes value.now) x) }
+    ensures { IfOk result (λ x. HasMember T.means key.now (document_tree string_bytes value.now) x) }
 {
     match value.try_get(key)? {
         Some(found) => T::from_json(alloc, found),
@@ -149,7 +149,7 @@ pub fn optional<T: FromJson>(
     value: &Value,
     key: &str,
 ) -> Result<Option<T>, ReadError>
-    ensures { IfOk result (λ x. HasOptional T.means key.now (tree string_bytes value.now) x) }
+    ensures { IfOk result (λ x. HasOptional T.means key.now (document_tree string_bytes value.now) x) }
 {
     match value.try_get(key)? {
         Some(found) => Option::from_json(alloc, found),
@@ -164,7 +164,7 @@ pub fn put<T: ToJson>(
     key: &str,
     value: &T,
 ) -> Result<(), AllocError>
-    ensures { OnOk result ((u : Tree) × T.means u value.now × (tree string_bytes object.new ≡ with_member key.now u (tree string_bytes object.old))) }
+    ensures { OnOk result ((u : Tree) × T.means u value.now × (document_tree string_bytes object.new ≡ with_member key.now u (document_tree string_bytes object.old))) }
 {
     let name = String::from_str(alloc, key)?;
     match object.insert(name, value.to_json(alloc)?) {

@@ -10,7 +10,7 @@ use Rattle.sj_kinds.specs.Kinds.{kind_in}
 use Rattle.sj_kinds.specs.declared.kind.Kind.{Kind}
 use Rattle.sj_pointer.specs.Pointed.{pointed}
 use Rattle.sj_document.specs.declared.value.Document.{Document}
-use Rattle.sj_document.specs.Document.{tree}
+use Rattle.sj_document.specs.Document.{document_tree}
 use Rattle.sjconf.specs.declared.demand.Limits.{Limits}
 use Rattle.sjconf.specs.declared.demand.Demand.{Demand}
 
@@ -63,7 +63,7 @@ IsAsShort (Some most) t = IsSomeAnd (length_in t) (λ n. n ≤ most)
 -- the same document as one of those
 abbrev pub is_same_as_one : Tree → List (Document (String Global)) → Bool
 is_same_as_one t [] = false
-is_same_as_one t (v ∷ vs) = tree_eq t (tree string_bytes v) || is_same_as_one t vs
+is_same_as_one t (v ∷ vs) = tree_eq t (document_tree string_bytes v) || is_same_as_one t vs
 
 -- one of the choices, where there are any
 abbrev pub is_choice : Option (Vec (Document (String Global)) Global) → Tree → Bool

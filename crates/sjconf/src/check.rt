@@ -2,7 +2,7 @@
 
 ghost use Rattle.std.specs.Prelude.{◌≡◌, OnOk, string_bytes};
 ghost use Rattle.std.specs.List.{list_all};
-ghost use Rattle.sj_document.specs.Document.{tree};
+ghost use Rattle.sj_document.specs.Document.{document_tree};
 ghost use Rattle.sjconf.specs.Demands.{AllMet};
 
 use crate::demand::Demand;
@@ -20,7 +20,7 @@ fn are_true(verdicts: &[bool]) -> bool
 
 /// Refuses what does not meet each demand, and tells those that it does not meet.
 pub fn check(alloc: Global, made: Made<'_, '_>, demands: &[Demand]) -> Result<(), Fault>
-    ensures { OnOk result (AllMet (tree string_bytes made.entry.whole.now) demands.now) }
+    ensures { OnOk result (AllMet (document_tree string_bytes made.entry.whole.now) demands.now) }
 {
     let verdicts = verdicts(alloc, demands, made.whole)?;
     if !are_true(&verdicts) {

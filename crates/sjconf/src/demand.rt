@@ -3,7 +3,7 @@
 ghost use Rattle.std.specs.Prelude.{◌≡◌, ◌↔◌, IsTrue, map, string_bytes};
 ghost use Rattle.sj_text_core.specs.Tree.{keys_of};
 ghost use Rattle.sj_object.specs.Members.{entry_members};
-ghost use Rattle.sj_document.specs.Document.{tree};
+ghost use Rattle.sj_document.specs.Document.{document_tree};
 ghost use Rattle.sjconf.specs.Demands.{Admits, Fits, IsAsLong, IsAsShort, IsAtLeast, IsAtMost, IsKind, IsMet, IsWanted, are_of, characters, has_only, is_choice, is_one_of, is_same_as_one, length_in};
 
 use sj_kinds::Kind;
@@ -39,7 +39,7 @@ pub struct Demand {
 
 /// Whether the value is of the kind, where one is asked for.
 fn is_kind(value: &Value, kind: Option<Kind>) -> bool
-    ensures { IsTrue result ↔ IsKind kind (tree string_bytes value.now) }
+    ensures { IsTrue result ↔ IsKind kind (document_tree string_bytes value.now) }
 {
     match kind {
         Some(kind) => Kind::of(value) == kind,
@@ -49,7 +49,7 @@ fn is_kind(value: &Value, kind: Option<Kind>) -> bool
 
 /// Whether the value is a whole number that is no less, where an end is asked for.
 fn is_at_least(value: &Value, least: Option<i128>) -> bool
-    ensures { IsTrue result ↔ IsAtLeast least (tree string_bytes value.now) }
+    ensures { IsTrue result ↔ IsAtLeast least (document_tree string_bytes value.now) }
 {
     let Some(least) = least else {
         return true;
@@ -62,7 +62,7 @@ fn is_at_least(value: &Value, least: Option<i128>) -> bool
 
 /// Whether the value is a whole number that is no more, where an end is asked for.
 fn is_at_most(value: &Value, most: Option<i128>) -> bool
-    ensures { IsTrue result ↔ IsAtMost most (tree string_bytes value.now) }
+    ensures { IsTrue result ↔ IsAtMost most (document_tree string_bytes value.now) }
 {
     let Some(most) = most else {
         return true;
@@ -88,7 +88,7 @@ fn count_characters(text: &str) -> usize
 
 /// How many characters a text has, or an array items; None of any other value.
 fn length_of(value: &Value) -> Option<usize>
-    ensures { result ≡ length_in (tree string_bytes value.now) }
+    ensures { result ≡ length_in (document_tree string_bytes value.now) }
 {
     match value.as_str() {
         Some(text) => Some(count_characters(text)),
@@ -98,7 +98,7 @@ fn length_of(value: &Value) -> Option<usize>
 
 /// Whether the value has a length that is no less, where an end is asked for.
 fn is_as_long(value: &Value, shortest: Option<usize>) -> bool
-    ensures { IsTrue result ↔ IsAsLong shortest (tree string_bytes value.now) }
+    ensures { IsTrue result ↔ IsAsLong shortest (document_tree string_bytes value.now) }
 {
     let Some(shortest) = shortest else {
         return true;
@@ -111,7 +111,7 @@ fn is_as_long(value: &Value, shortest: Option<usize>) -> bool
 
 /// Whether the value has a length that is no more, where an end is asked for.
 fn is_as_short(value: &Value, longest: Option<usize>) -> bool
-    ensures { IsTrue result ↔ IsAsShort longest (tree string_bytes value.now) }
+    ensures { IsTrue result ↔ IsAsShort longest (document_tree string_bytes value.now) }
 {
     let Some(longest) = longest else {
         return true;
@@ -124,7 +124,7 @@ fn is_as_short(value: &Value, longest: Option<usize>) -> bool
 
 /// Whether the value is the same as one of those.
 fn is_among(value: &Value, choices: &[Value]) -> bool
-    ensures { result ≡ is_same_as_one (tree string_bytes value.now) choices.now }
+    ensures { result ≡ is_same_as_one (document_tree string_bytes value.now) choices.now }
 {
     let mut rest = choices;
     while let [first, behind @ ..] = rest {
@@ -138,7 +138,7 @@ fn is_among(value: &Value, choices: &[Value]) -> bool
 
 /// Whether the value is one of the choices, where there are any.
 fn is_chosen(value: &Value, choices: &Option<Vec<Value>>) -> bool
-    ensures { result ≡ is_choice choices.now (tree string_bytes value.now) }
+    ensures { result ≡ is_choice choices.now (document_tree string_bytes value.now) }
 {
     match choices {
         Some(choices) => is_among(value, choices),
@@ -162,7 +162,7 @@ pub fn is_key_of(key: &str, keys: &[String]) -> bool
 
 /// Whether each member has one of those keys.
 fn are_keys_of(members: &Object, keys: &[String]) -> bool
-    ensures { result ≡ are_of (map string_bytes keys.now) (keys_of (entry_members (tree string_bytes) members.now.entries)) }
+    ensures { result ≡ are_of (map string_bytes keys.now) (keys_of (entry_members (document_tree string_bytes) members.now.entries)) }
 {
     let mut left = members.iter();
     while let Some((key, _)) = left.next() {
@@ -175,7 +175,7 @@ fn are_keys_of(members: &Object, keys: &[String]) -> bool
 
 /// Whether an object has no other keys, where they are asked for.
 fn has_keys(value: &Value, keys: &Option<Vec<String>>) -> bool
-    ensures { result ≡ has_only keys.now (tree string_bytes value.now) }
+    ensures { result ≡ has_only keys.now (document_tree string_bytes value.now) }
 {
     match keys {
         Some(keys) => match value.as_object() {
@@ -189,7 +189,7 @@ fn has_keys(value: &Value, keys: &Option<Vec<String>>) -> bool
 impl Limits {
     /// Whether the value is within them.
     fn admit(&self, value: &Value) -> bool
-        ensures { IsTrue result ↔ Admits self.now (tree string_bytes value.now) }
+        ensures { IsTrue result ↔ Admits self.now (document_tree string_bytes value.now) }
     {
         is_kind(value, self.kind)
             && is_at_least(value, self.least)
@@ -202,21 +202,21 @@ impl Limits {
 impl Demand {
     /// Whether the value is what is asked for, whatever its keys.
     pub fn is_wanted(&self, value: &Value) -> bool
-        ensures { IsTrue result ↔ IsWanted self.now (tree string_bytes value.now) }
+        ensures { IsTrue result ↔ IsWanted self.now (document_tree string_bytes value.now) }
     {
         self.limits.admit(value) && is_chosen(value, &self.choices)
     }
 
     /// Whether the value is what is asked for, and has no other keys.
     fn fits(&self, value: &Value) -> bool
-        ensures { IsTrue result ↔ Fits self.now (tree string_bytes value.now) }
+        ensures { IsTrue result ↔ Fits self.now (document_tree string_bytes value.now) }
     {
         self.is_wanted(value) && has_keys(value, &self.keys)
     }
 
     /// Whether what stands at the place is what is asked for.
     pub fn is_met(&self, document: &Value) -> bool
-        ensures { IsTrue result ↔ IsMet self.now (tree string_bytes document.now) }
+        ensures { IsTrue result ↔ IsMet self.now (document_tree string_bytes document.now) }
     {
         match find(document, &self.place) {
             Some(value) => self.fits(value),

@@ -1,7 +1,7 @@
 //! Files, read whole, as documents.
 
 ghost use Rattle.std.specs.Prelude.{IfOk, string_bytes};
-ghost use Rattle.sj_document.specs.Document.{tree};
+ghost use Rattle.sj_document.specs.Document.{document_tree};
 ghost use Rattle.sjconf.specs.Layers.{IsRead};
 
 use crate::fault::Fault;
@@ -43,7 +43,7 @@ pub fn read_layer<'w, R: Files + Input + AllocGlobal>(
 
 /// The document of a file; of repeated keys the first counts.
 pub fn document(alloc: Global, layer: &Layer<'_>) -> Result<Value, Fault>
-    ensures { IfOk result (λ v. IsRead layer.now (tree string_bytes v)) }
+    ensures { IfOk result (λ v. IsRead layer.now (document_tree string_bytes v)) }
 {
     let mut bytes = layer.text.clone()?;
     match to_value(alloc, bytes.as_mut_slice()) {

@@ -2,7 +2,7 @@
 
 ghost use Rattle.std.specs.Prelude.{◌≡◌, ◌∷◌, ◌++◌, [], IfOk, if◌then◌else◌, string_bytes};
 ghost use Rattle.sj_text_core.specs.Print.{compact, pretty};
-ghost use Rattle.sj_document.specs.Document.{tree};
+ghost use Rattle.sj_document.specs.Document.{document_tree};
 
 use sj_owned::prelude::*;
 use sj_owned::{Value, WriteError};
@@ -10,7 +10,7 @@ use std::alloc::Global;
 
 /// The value's print and a line feed; with `is_pretty` it is indented by two spaces a level.
 pub fn print_of(alloc: Global, value: &Value, is_pretty: bool) -> Result<Vec<u8>, WriteError>
-    ensures { IfOk result (λ text. text.items ≡ (if is_pretty then pretty 0 (tree string_bytes value.now) else compact (tree string_bytes value.now)) ++ 10 ∷ []) }
+    ensures { IfOk result (λ text. text.items ≡ (if is_pretty then pretty 0 (document_tree string_bytes value.now) else compact (document_tree string_bytes value.now)) ++ 10 ∷ []) }
 {
     let mut text = Vec::new(alloc);
     if is_pretty {

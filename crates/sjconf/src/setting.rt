@@ -1,7 +1,7 @@
 //! Values that words set.
 
 ghost use Rattle.std.specs.Prelude.{◌≡◌, Some, None, IfErr, OnErr, OnOk, string_bytes};
-ghost use Rattle.sj_document.specs.Document.{tree};
+ghost use Rattle.sj_document.specs.Document.{document_tree};
 ghost use Rattle.sj_path.specs.Made.{set_made};
 ghost use Rattle.sjconf.specs.Settings.{all_set};
 
@@ -122,8 +122,8 @@ pub fn set_all(
     document: &mut Value,
     settings: &[Setting<'_>],
 ) -> Result<(), (usize, SettingFault)>
-    ensures set { OnOk result (all_set settings.now (tree string_bytes document.old) ≡ Some (tree string_bytes document.new)) }
-    ensures nowhere { IfErr result (λ e. e.1 ≡ SettingFault.LeadsNowhere → all_set settings.now (tree string_bytes document.old) ≡ None) }
+    ensures set { OnOk result (all_set settings.now (document_tree string_bytes document.old) ≡ Some (document_tree string_bytes document.new)) }
+    ensures nowhere { IfErr result (λ e. e.1 ≡ SettingFault.LeadsNowhere → all_set settings.now (document_tree string_bytes document.old) ≡ None) }
 {
     for (index, setting) in settings.iter().enumerate() {
         if let Err(fault) = set_one(alloc, document, setting) {
@@ -135,9 +135,9 @@ pub fn set_all(
 
 /// Puts the value where it goes. Refused, the document is as it was.
 fn set_one(alloc: Global, document: &mut Value, setting: &Setting<'_>) -> Result<(), SettingFault>
-    ensures set { OnOk result (set_made setting.now.place (tree string_bytes setting.now.value) (tree string_bytes document.old) ≡ Some (tree string_bytes document.new)) }
-    ensures nowhere { IfErr result (λ e. e ≡ SettingFault.LeadsNowhere → set_made setting.now.place (tree string_bytes setting.now.value) (tree string_bytes document.old) ≡ None) }
-    ensures refused { OnErr result (tree string_bytes document.new ≡ tree string_bytes document.old) }
+    ensures set { OnOk result (set_made setting.now.place (document_tree string_bytes setting.now.value) (document_tree string_bytes document.old) ≡ Some (document_tree string_bytes document.new)) }
+    ensures nowhere { IfErr result (λ e. e ≡ SettingFault.LeadsNowhere → set_made setting.now.place (document_tree string_bytes setting.now.value) (document_tree string_bytes document.old) ≡ None) }
+    ensures refused { OnErr result (document_tree string_bytes document.new ≡ document_tree string_bytes document.old) }
 {
     let value = setting.value.clone()?;
     match set(document, alloc, &setting.place, value) {

@@ -1,7 +1,7 @@
 //! Which demands a document meets.
 
 ghost use Rattle.std.specs.Prelude.{IfOk, string_bytes};
-ghost use Rattle.sj_document.specs.Document.{tree};
+ghost use Rattle.sj_document.specs.Document.{document_tree};
 ghost use Rattle.sjconf.specs.Demands.{Judged};
 
 use crate::demand::Demand;
@@ -14,7 +14,7 @@ pub fn verdicts(
     demands: &[Demand],
     document: &Value,
 ) -> Result<Vec<bool>, AllocError>
-    ensures { IfOk result (λ v. Judged (tree string_bytes document.now) demands.now v.items) }
+    ensures { IfOk result (λ v. Judged (document_tree string_bytes document.now) demands.now v.items) }
 {
     let mut verdicts = Vec::new(alloc);
     for demand in demands {

@@ -1,7 +1,7 @@
 //! Files merged, values set in what they make, and the whole checked.
 
 ghost use Rattle.std.specs.Prelude.{IfOk, map, string_bytes};
-ghost use Rattle.sj_document.specs.Document.{tree};
+ghost use Rattle.sj_document.specs.Document.{document_tree};
 ghost use Rattle.sjconf.specs.Demands.{AllMet};
 ghost use Rattle.sjconf.specs.Layers.{AreRead};
 ghost use Rattle.sjconf.specs.Settings.{IsMade};
@@ -18,7 +18,7 @@ use std::alloc::Global;
 
 /// The documents of the files.
 fn documents(alloc: Global, layers: &[Layer<'_>]) -> Result<Vec<Value>, Fault>
-    ensures { IfOk result (λ v. AreRead layers.now (map (tree string_bytes) v.items)) }
+    ensures { IfOk result (λ v. AreRead layers.now (map (document_tree string_bytes) v.items)) }
 {
     let mut documents = Vec::new(alloc);
     for layer in layers {
@@ -35,7 +35,7 @@ pub fn checked(
     settings: &[Setting<'_>],
     demands: &[Demand],
 ) -> Result<Value, Fault>
-    ensures { IfOk result (λ v. IsMade layers.now settings.now (tree string_bytes v) × AllMet (tree string_bytes v) demands.now) }
+    ensures { IfOk result (λ v. IsMade layers.now settings.now (document_tree string_bytes v) × AllMet (document_tree string_bytes v) demands.now) }
 {
     let whole = made_of(alloc, layers, settings)?;
     let made = Made {
@@ -49,7 +49,7 @@ pub fn checked(
 
 /// The files merged in turn, and what the settings make of that.
 fn made_of(alloc: Global, layers: &[Layer<'_>], settings: &[Setting<'_>]) -> Result<Value, Fault>
-    ensures { IfOk result (λ v. IsMade layers.now settings.now (tree string_bytes v)) }
+    ensures { IfOk result (λ v. IsMade layers.now settings.now (document_tree string_bytes v)) }
 {
     let documents = documents(alloc, layers)?;
     let mut whole = merge_all(alloc, documents)?;

@@ -6,9 +6,9 @@ use Rattle.sj_text_core.specs.Grammar.{IsReadable, Spells}
 use Rattle.sj_text_core.specs.declared.error.ErrorKind.{ErrorKind}
 use Rattle.sj_text_core.specs.declared.error.ErrorKind.TheVariants.{InvalidUtf8, Syntax, LoneSurrogate, Float, NumberTooLarge, TooDeep, OutOfMemory}
 use Rattle.sj_text_core.proofs.Proper.{spells_utf8}
-use Rattle.sj_stream.specs.Answers.{IsRead, line_of}
+use Rattle.sj_stream.specs.Answers.{IsRead, answer_line}
 use Rattle.sj_stream.specs.Places.{IsPlaced}
-use Rattle.sj_stream.specs.Stream.{Steps, current, kept, tells, waiting}
+use Rattle.sj_stream.specs.Stream.{Steps, current, text_kept, tells, waiting}
 use Rattle.sj_stream.specs.declared.stream.Stream.{Stream}
 use Rattle.sj_stream.specs.declared.unread.Unread.{Unread}
 use Rattle.sjroute.specs.Routed.{AllTaken, IsBroken, IsMessage, IsUnread, MeetsAny, Routed, TakesMessage, line_to, text_to}
@@ -40,11 +40,11 @@ kept-text x text (Err u) k e (h, inl g) = sym (some_text-is text x (e ∙ g))
 kept-text x text (Err u) k e (h, inr g) = absurd (some-none text (e ∙ g.0))
 
 -- the text that is kept is the one that was taken off
-pub taken-text : (old new : Stream) (text : List ℕ) (a : Result ℕ Unread) → tells old ≡ true → Some text ≡ kept new → Steps old a new
-    → (waiting old ≡ (line_of a, text) ∷ waiting new) × IsRead text a (current new)
+pub taken-text : (old new : Stream) (text : List ℕ) (a : Result ℕ Unread) → tells old ≡ true → Some text ≡ text_kept new → Steps old a new
+    → (waiting old ≡ (answer_line a, text) ∷ waiting new) × IsRead text a (current new)
 taken-text old new text a told e s =
-    let same : s.0 ≡ text = kept-text s.0 text a (kept new) e (subst (λ (b : Bool). IsPlaced b s.0 a (kept new)) told s.3) in (
-      s.1 ∙ ap (λ (x : List ℕ). (line_of a, x) ∷ waiting new) same,
+    let same : s.0 ≡ text = kept-text s.0 text a (text_kept new) e (subst (λ (b : Bool). IsPlaced b s.0 a (text_kept new)) told s.3) in (
+      s.1 ∙ ap (λ (x : List ℕ). (answer_line a, x) ∷ waiting new) same,
       subst (λ (x : List ℕ). IsRead x a (current new)) same s.2,
     )
 

@@ -7,7 +7,7 @@ use Rattle.sj_text_core.specs.Grammar.{IsReadable, Spells}
 use Rattle.sj_text_core.specs.Keep.{keep}
 use Rattle.sj_text_core.specs.Print.{compact}
 use Rattle.sj_merge.specs.Merge.{merged}
-use Rattle.sj_document.specs.Document.{tree}
+use Rattle.sj_document.specs.Document.{document_tree}
 use Rattle.sj_document.specs.declared.value.Document.{Document}
 use Rattle.sjroute.specs.Selects.{Selects}
 use Rattle.sjroute.specs.declared.routing.Takes.{Takes}
@@ -17,7 +17,7 @@ use Rattle.sjroute.specs.declared.routing.Route.{Route}
 -- what is written of a message: its text as it came, or the print of what the merge patch makes of the message, with the first member of each key
 abbrev pub line_of : Option (Document (String Global)) → List ℕ → Tree → List ℕ
 line_of None s t = s ++ 10 ∷ []
-line_of (Some p) s t = compact (merged (Some (keep t)) (tree string_bytes p)) ++ 10 ∷ []
+line_of (Some p) s t = compact (merged (Some (keep t)) (document_tree string_bytes p)) ++ 10 ∷ []
 
 -- the same to an output
 abbrev pub line_to : List ℕ → Tree → Route → List ℕ

@@ -4,7 +4,7 @@ use Rattle.sj_text_core.specs.Tree.{Tree}
 use Rattle.sj_text_core.specs.Reads.{kind_of}
 use Rattle.sj_text_core.specs.Same.{Same}
 use Rattle.sj_kinds.specs.Kinds.{kind_in}
-use Rattle.sj_document.specs.Document.{tree}
+use Rattle.sj_document.specs.Document.{document_tree}
 use Rattle.sj_pointer.specs.Pointed.{pointed}
 use Rattle.sjroute.specs.declared.rule.Test.{Test}
 use Rattle.sjroute.specs.declared.rule.Test.TheVariants as test
@@ -13,7 +13,7 @@ use Rattle.sjroute.specs.declared.rule.Rule.{Rule}
 -- the tree is what the test asks for
 abbrev pub Meets : Test → Tree → Type 0
 Meets test.There t = ⊤
-Meets (test.Same v) t = Same t (tree string_bytes v)
+Meets (test.Same v) t = Same t (document_tree string_bytes v)
 Meets (test.Kind k) t = kind_in (kind_of t) ≡ k
 
 abbrev pub FoundMeets : Test → Option Tree → Type 0

@@ -4,8 +4,8 @@ ghost use Rattle.std.specs.Prelude.{◌≡◌, ◌↔◌, ◌++◌, ◌∷◌, [
 ghost use Rattle.sj_text_core.specs.Keep.{keep};
 ghost use Rattle.sj_text_core.specs.Print.{compact};
 ghost use Rattle.sj_text_core.specs.declared.repeats.Repeats.TheVariants.{First};
-ghost use Rattle.sj_tape.specs.Value.{tree, choice};
-ghost use Rattle.sj_document.specs.Document.{tree as document_tree};
+ghost use Rattle.sj_tape.specs.Value.{tape_tree, tape_choice};
+ghost use Rattle.sj_document.specs.Document.{document_tree};
 ghost use Rattle.sj_merge.specs.Merge.{merged};
 ghost use Rattle.sjroute.specs.Routed.{AllTaken, Grown, IsUnmet, IsUnread, MeetsAny, MeetsRule, TakesMessage, line_of, line_to, text_to};
 
@@ -44,8 +44,8 @@ fn put_line(
     message: Value,
     waiting: &mut Vec<u8>,
 ) -> Result<(), JsonError>
-    requires { choice message ≡ First }
-    ensures ok { OnOk result (waiting.new.items ≡ waiting.old.items ++ line_of patch.now text.now (tree message.entry)) }
+    requires { tape_choice message ≡ First }
+    ensures ok { OnOk result (waiting.new.items ≡ waiting.old.items ++ line_of patch.now text.now (tape_tree message.entry)) }
     ensures refused { OnErr result (waiting.new.items ≡ waiting.old.items) }
 {
     match patch {
@@ -73,8 +73,8 @@ fn put_merged(
     message: Value,
     waiting: &mut Vec<u8>,
 ) -> Result<(), JsonError>
-    requires { choice message ≡ First }
-    ensures ok { OnOk result (waiting.new.items ≡ waiting.old.items ++ (compact (merged (Some (keep (tree message.entry))) (document_tree string_bytes patch.now)) ++ 10 ∷ [])) }
+    requires { tape_choice message ≡ First }
+    ensures ok { OnOk result (waiting.new.items ≡ waiting.old.items ++ (compact (merged (Some (keep (tape_tree message.entry))) (document_tree string_bytes patch.now)) ++ 10 ∷ [])) }
     ensures refused { OnErr result (waiting.new.items ≡ waiting.old.items) }
 {
     let document = owned_from_tape(alloc, message)?;
@@ -91,8 +91,8 @@ fn put_merged(
 impl Route {
     /// Whether the route has a rule that selects the message.
     fn is_met(&self, message: Value) -> bool
-        requires { choice message ≡ First }
-        ensures { IsTrue result ↔ MeetsRule (tree message.entry) self.now.takes }
+        requires { tape_choice message ≡ First }
+        ensures { IsTrue result ↔ MeetsRule (tape_tree message.entry) self.now.takes }
     {
         match &self.takes {
             Takes::Met(rule) => rule.selects(message),
@@ -116,8 +116,8 @@ impl Route {
 
     /// Puts the line of the message behind those that wait; refused, it leaves them.
     fn put(&mut self, alloc: Global, text: &[u8], message: Value) -> Result<(), JsonError>
-        requires { choice message ≡ First }
-        ensures ok { OnOk result (Grown (line_to text.now (tree message.entry) self.old) self.old self.new) }
+        requires { tape_choice message ≡ First }
+        ensures ok { OnOk result (Grown (line_to text.now (tape_tree message.entry) self.old) self.old self.new) }
         ensures refused { OnErr result (self.new.waiting.items ≡ self.old.waiting.items) }
     {
         put_line(alloc, &self.merge, text, message, &mut self.waiting)?;
@@ -143,9 +143,9 @@ fn put_met(
     text: &[u8],
     message: Value,
 ) -> Result<bool, JsonError>
-    requires { choice message ≡ First }
-    ensures any { IfOk result (λ met. IsTrue met ↔ MeetsAny (tree message.entry) routes.old) }
-    ensures taken { OnOk result (AllTaken (MeetsRule (tree message.entry)) (line_to text.now (tree message.entry)) routes.old routes.new) }
+    requires { tape_choice message ≡ First }
+    ensures any { IfOk result (λ met. IsTrue met ↔ MeetsAny (tape_tree message.entry) routes.old) }
+    ensures taken { OnOk result (AllTaken (MeetsRule (tape_tree message.entry)) (line_to text.now (tape_tree message.entry)) routes.old routes.new) }
 {
     let mut is_any = false;
     for route in routes.iter_mut() {
@@ -164,8 +164,8 @@ fn put_unmet(
     text: &[u8],
     message: Value,
 ) -> Result<(), JsonError>
-    requires { choice message ≡ First }
-    ensures { OnOk result (AllTaken IsUnmet (line_to text.now (tree message.entry)) routes.old routes.new) }
+    requires { tape_choice message ≡ First }
+    ensures { OnOk result (AllTaken IsUnmet (line_to text.now (tape_tree message.entry)) routes.old routes.new) }
 {
     for route in routes.iter_mut() {
         if route.is_unmet() {
@@ -182,9 +182,9 @@ pub fn put_message(
     text: &[u8],
     message: Value,
 ) -> Result<bool, JsonError>
-    requires { choice message ≡ First }
-    ensures any { IfOk result (λ met. IsTrue met ↔ MeetsAny (tree message.entry) routes.old) }
-    ensures taken { IfOk result (λ met. AllTaken (TakesMessage met (tree message.entry)) (line_to text.now (tree message.entry)) routes.old routes.new) }
+    requires { tape_choice message ≡ First }
+    ensures any { IfOk result (λ met. IsTrue met ↔ MeetsAny (tape_tree message.entry) routes.old) }
+    ensures taken { IfOk result (λ met. AllTaken (TakesMessage met (tape_tree message.entry)) (line_to text.now (tape_tree message.entry)) routes.old routes.new) }
 {
     let is_met = put_met(alloc, routes, text, message)?;
     if !is_met {

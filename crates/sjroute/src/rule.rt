@@ -2,7 +2,7 @@
 
 ghost use Rattle.std.specs.Prelude.{◌≡◌, ◌↔◌, IsTrue};
 ghost use Rattle.sj_text_core.specs.declared.repeats.Repeats.TheVariants.{First};
-ghost use Rattle.sj_tape.specs.Value.{tree, choice};
+ghost use Rattle.sj_tape.specs.Value.{tape_tree, tape_choice};
 ghost use Rattle.sjroute.specs.Selects.{Meets, Selects};
 
 use crate::found::find;
@@ -25,8 +25,8 @@ pub enum Test {
 impl Test {
     /// Whether the value is so.
     fn is_met(&self, value: Value) -> bool
-        requires { choice value ≡ First }
-        ensures { IsTrue result ↔ Meets self.now (tree value.entry) }
+        requires { tape_choice value ≡ First }
+        ensures { IsTrue result ↔ Meets self.now (tape_tree value.entry) }
     {
         match self {
             Test::There => true,
@@ -46,8 +46,8 @@ pub struct Rule {
 impl Rule {
     /// Whether the message has something at the place that is so. Nothing is built.
     pub fn selects(&self, message: Value) -> bool
-        requires { choice message ≡ First }
-        ensures { IsTrue result ↔ Selects self.now (tree message.entry) }
+        requires { tape_choice message ≡ First }
+        ensures { IsTrue result ↔ Selects self.now (tape_tree message.entry) }
     {
         match find(message, &self.place) {
             Some(found) => self.test.is_met(found),

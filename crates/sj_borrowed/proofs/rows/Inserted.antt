@@ -8,7 +8,7 @@ use Rattle.sj_text_core.specs.declared.value_type.ValueType.TheVariants as kind
 use Rattle.sj_object.specs.Keys.{is_borrowed}
 use Rattle.sj_object.specs.HashMap.{Contents}
 use Rattle.sj_object.specs.Edits.{with_value, with_entry}
-use Rattle.sj_borrowed.specs.Inserts.{IsCopy, IsPut, why_of}
+use Rattle.sj_borrowed.specs.Inserts.{IsCopy, IsPut, known_fault}
 use Rattle.sj_borrowed.specs.Loans.{IsInserted}
 use Rattle.sj_borrowed.specs.declared.known_key.error.Error.TheVariants.{NotAnObject, OutOfMemory}
 
@@ -61,25 +61,25 @@ inserted-first = (8, refl, refl)
 
 -- ---- why an insert is refused
 
-why-null : why_of null ≡ NotAnObject kind.Null
+why-null : known_fault null ≡ NotAnObject kind.Null
 why-null = refl
 
-why-truth : why_of (boolean true) ≡ NotAnObject kind.Bool
+why-truth : known_fault (boolean true) ≡ NotAnObject kind.Bool
 why-truth = refl
 
 -- of a number its carrier
-why-number : why_of (int (pos 1) u64) ≡ NotAnObject kind.U64
+why-number : known_fault (int (pos 1) u64) ≡ NotAnObject kind.U64
 why-number = refl
 
-why-wide-number : why_of (int (pos 1) i128) ≡ NotAnObject kind.I128
+why-wide-number : known_fault (int (pos 1) i128) ≡ NotAnObject kind.I128
 why-wide-number = refl
 
-why-text : why_of (text (codes "a")) ≡ NotAnObject kind.String
+why-text : known_fault (text (codes "a")) ≡ NotAnObject kind.String
 why-text = refl
 
-why-list : why_of (list no_items) ≡ NotAnObject kind.Array
+why-list : known_fault (list no_items) ≡ NotAnObject kind.Array
 why-list = refl
 
 -- an object takes every member, where there is memory
-why-object : why_of (obj no_members) ≡ OutOfMemory
+why-object : known_fault (obj no_members) ≡ OutOfMemory
 why-object = refl

@@ -4,7 +4,7 @@ ghost use Rattle.std.specs.Prelude.{◌≡◌, None, Some, IsSome, IfSome, IfOk,
 ghost use Rattle.std.specs.Cow.{cow_str_bytes};
 ghost use Rattle.sj_text_core.specs.Find.{find};
 ghost use Rattle.sj_text_core.specs.Reads.{as_members};
-ghost use Rattle.sj_object.specs.Edits.{lookup, put, with_value};
+ghost use Rattle.sj_object.specs.Edits.{lookup, put_entry, with_value};
 
 use super::KnownKey;
 use super::error::Error;
@@ -26,7 +26,7 @@ fn change_or_put<'k, K: StoredKey<'k>, V: Drop, C: Change<V>>(
     change: C,
 ) -> Result<C::Answer, Refused<AllocError, (V, C)>>
     ensures present { IfSome (lookup (cow_str_bytes key.now) map.old.entries) (λ before. IfOk result (λ answer. (w : V) × C.makes change before w answer × (map.new ≡ with_value map.old (cow_str_bytes key.now) w))) }
-    ensures absent { lookup (cow_str_bytes key.now) map.old.entries ≡ None → IfOk result (λ answer. (w : V) × C.makes change value w answer × ((copy : K) × (map.new.entries ≡ put (copy, cow_str_bytes key.now) w map.old.entries))) }
+    ensures absent { lookup (cow_str_bytes key.now) map.old.entries ≡ None → IfOk result (λ answer. (w : V) × C.makes change value w answer × ((copy : K) × (map.new.entries ≡ put_entry (copy, cow_str_bytes key.now) w map.old.entries))) }
     ensures refused { OnErr result (map.new ≡ map.old) }
     ensures returned { IfErr result (λ r. r.value ≡ (value, change)) }
     ensures succeeds { IsSome (lookup (cow_str_bytes key.now) map.old.entries) → IsOk result }
@@ -58,8 +58,8 @@ fn change_or_put<'k, K: StoredKey<'k>, V: Drop, C: Change<V>>(
 }
 
 impl<'k> KnownKey<'k> {
-    ghost use Rattle.sj_document.specs.Document.{tree, with_member};
-    ghost use Rattle.sj_borrowed.specs.Inserts.{why_of};
+    ghost use Rattle.sj_document.specs.Document.{document_tree, with_member};
+    ghost use Rattle.sj_borrowed.specs.Inserts.{known_fault};
 
     /// Changes the value of the key, and answers what the change does. The target is then as it
     /// was, with what the change left in the place of that value. Where there is none the target is
@@ -120,13 +120,13 @@ impl<'k> KnownKey<'k> {
         value: Document<T>,
         change: C,
     ) -> Result<C::Answer, Refused<Error, (Document<T>, C)>>
-        ensures present { IfSome (find (cow_str_bytes key.now) (tree T.text_of target.old)) (λ before. IfOk result (λ answer. (v : Document T) × (w : Document T) × (tree T.text_of v ≡ before) × C.makes change v w answer × (tree T.text_of target.new ≡ with_member (cow_str_bytes key.now) (tree T.text_of w) (tree T.text_of target.old)))) }
-        ensures absent { find (cow_str_bytes key.now) (tree T.text_of target.old) ≡ None → IfOk result (λ answer. (w : Document T) × C.makes change value w answer × (tree T.text_of target.new ≡ with_member (cow_str_bytes key.now) (tree T.text_of w) (tree T.text_of target.old))) }
-        ensures object { OnOk result (IsSome (as_members (tree T.text_of target.old))) }
-        ensures refused { OnErr result (tree T.text_of target.new ≡ tree T.text_of target.old) }
+        ensures present { IfSome (find (cow_str_bytes key.now) (document_tree T.text_of target.old)) (λ before. IfOk result (λ answer. (v : Document T) × (w : Document T) × (document_tree T.text_of v ≡ before) × C.makes change v w answer × (document_tree T.text_of target.new ≡ with_member (cow_str_bytes key.now) (document_tree T.text_of w) (document_tree T.text_of target.old)))) }
+        ensures absent { find (cow_str_bytes key.now) (document_tree T.text_of target.old) ≡ None → IfOk result (λ answer. (w : Document T) × C.makes change value w answer × (document_tree T.text_of target.new ≡ with_member (cow_str_bytes key.now) (document_tree T.text_of w) (document_tree T.text_of target.old))) }
+        ensures object { OnOk result (IsSome (as_members (document_tree T.text_of target.old))) }
+        ensures refused { OnErr result (document_tree T.text_of target.new ≡ document_tree T.text_of target.old) }
         ensures returned { IfErr result (λ r. r.value ≡ (value, change)) }
-        ensures kind { IfErr result (λ r. r.why ≡ why_of (tree T.text_of target.old)) }
-        ensures succeeds { IsSome (find (cow_str_bytes key.now) (tree T.text_of target.old)) → IsOk result }
+        ensures kind { IfErr result (λ r. r.why ≡ known_fault (document_tree T.text_of target.old)) }
+        ensures succeeds { IsSome (find (cow_str_bytes key.now) (document_tree T.text_of target.old)) → IsOk result }
     {
         match members_of(target) {
             Ok(members) => match change_or_put(members, key, value, change) {

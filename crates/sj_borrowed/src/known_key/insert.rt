@@ -18,8 +18,8 @@ use std::borrow::CowStr;
 use std::mem;
 
 impl<'k> KnownKey<'k> {
-    ghost use Rattle.sj_document.specs.Document.{tree, with_member};
-    ghost use Rattle.sj_borrowed.specs.Inserts.{IsPut, why_of};
+    ghost use Rattle.sj_document.specs.Document.{document_tree, with_member};
+    ghost use Rattle.sj_borrowed.specs.Inserts.{IsPut, known_fault};
 
     /// Sets the value of the key, and answers the one before, as the map's own insert does. The
     /// key is cloned only where it is absent. It is refused only for want of memory, and for no
@@ -72,13 +72,13 @@ impl<'k> KnownKey<'k> {
     ) -> Result<Option<BorrowedValue<'v>>, Refused<Error, BorrowedValue<'v>>>
     where
         'k: 'v,
-        ensures answer { IfOk result (λ before. option_map (tree cow_str_bytes) before ≡ find (cow_str_bytes self.now) (tree cow_str_bytes target.old)) }
-        ensures after { OnOk result (tree cow_str_bytes target.new ≡ with_member (cow_str_bytes self.now) (tree cow_str_bytes value.entry) (tree cow_str_bytes target.old)) }
-        ensures object { OnOk result (IsSome (as_members (tree cow_str_bytes target.old))) }
-        ensures refused { OnErr result (tree cow_str_bytes target.new ≡ tree cow_str_bytes target.old) }
+        ensures answer { IfOk result (λ before. option_map (document_tree cow_str_bytes) before ≡ find (cow_str_bytes self.now) (document_tree cow_str_bytes target.old)) }
+        ensures after { OnOk result (document_tree cow_str_bytes target.new ≡ with_member (cow_str_bytes self.now) (document_tree cow_str_bytes value.entry) (document_tree cow_str_bytes target.old)) }
+        ensures object { OnOk result (IsSome (as_members (document_tree cow_str_bytes target.old))) }
+        ensures refused { OnErr result (document_tree cow_str_bytes target.new ≡ document_tree cow_str_bytes target.old) }
         ensures returned { IfErr result (λ r. r.value ≡ value.entry) }
-        ensures kind { IfErr result (λ r. r.why ≡ why_of (tree cow_str_bytes target.old)) }
-        ensures succeeds { IsSome (find (cow_str_bytes self.now) (tree cow_str_bytes target.old)) → IsOk result }
+        ensures kind { IfErr result (λ r. r.why ≡ known_fault (document_tree cow_str_bytes target.old)) }
+        ensures succeeds { IsSome (find (cow_str_bytes self.now) (document_tree cow_str_bytes target.old)) → IsOk result }
     {
         let kind = target.value_type();
         match target.as_object_mut() {

@@ -7,9 +7,9 @@ ghost use Rattle.std.specs.declared.alloc.Global.{Global};
 ghost use Rattle.sj_text_core.specs.Find.{find};
 ghost use Rattle.sj_text_core.specs.Reads.{as_members, kind_of};
 ghost use Rattle.sj_text_core.specs.Tree.{obj};
-ghost use Rattle.sj_object.specs.Edits.{lookup, position, put, value_at as value_found, with_value_at};
+ghost use Rattle.sj_object.specs.Edits.{lookup, position, put_entry, nth_value, with_value_at};
 ghost use Rattle.sj_object.specs.Members.{entry_members};
-ghost use Rattle.sj_document.specs.Document.{tree};
+ghost use Rattle.sj_document.specs.Document.{document_tree};
 ghost use Rattle.sj_document.specs.Rows.{document_row, object_row};
 ghost use Rattle.sj_borrowed.specs.Inserts.{IsCopy};
 ghost use Rattle.sj_borrowed.specs.declared.known_key.error.Error.TheVariants.{NotAnObject, OutOfMemory};
@@ -26,10 +26,10 @@ use std::borrow::CowStr;
 /// The members of an object, to write. Anything else is refused for its kind, and is as it was.
 pub(super) fn members_of<T: KeyText>(target: &mut Document<T>) -> Result<&mut Object<T>, Error>
     ensures* writes_back { sem 𝓛 (LendsSoOk (document_row T.row T.KeyText) (object_row T.row T.KeyText) target.entry result
-        (λ n w. tree T.text_of n ≡ obj (entry_members (tree T.text_of) w.entries)) (λ n. tree T.text_of n ≡ tree T.text_of target.old)) }
-    ensures value { IfOk result (λ m. Some (entry_members (tree T.text_of) m.now.entries) ≡ as_members (tree T.text_of target.old)) }
-    ensures kind { IfErr result (λ why. why ≡ NotAnObject (kind_of (tree T.text_of target.old))) }
-    ensures refused { OnErr result (as_members (tree T.text_of target.old) ≡ None) }
+        (λ n w. document_tree T.text_of n ≡ obj (entry_members (document_tree T.text_of) w.entries)) (λ n. document_tree T.text_of n ≡ document_tree T.text_of target.old)) }
+    ensures value { IfOk result (λ m. Some (entry_members (document_tree T.text_of) m.now.entries) ≡ as_members (document_tree T.text_of target.old)) }
+    ensures kind { IfErr result (λ why. why ≡ NotAnObject (kind_of (document_tree T.text_of target.old))) }
+    ensures refused { OnErr result (as_members (document_tree T.text_of target.old) ≡ None) }
 {
     let kind = target.value_type();
     match target.as_object_mut() {
@@ -48,7 +48,7 @@ fn place_or_put<'k: 'v, 'v, F: FnOnce() -> BorrowedValue<'v> + Drop>(
     requires { lookup (cow_str_bytes key.now) members.old.entries ≡ None → F.pre with }
     ensures placed { IfOk result (λ i. position (cow_str_bytes key.now) members.new.entries ≡ Some i) }
     ensures found { IsSome (lookup (cow_str_bytes key.now) members.old.entries) → (members.new ≡ members.old) × IsOk result }
-    ensures made { lookup (cow_str_bytes key.now) members.old.entries ≡ None → OnOk result ((copy : CowStr Global) × (v : Document (CowStr Global)) × IsCopy key.now copy × F.post with v × (members.new.entries ≡ put (copy, cow_str_bytes key.now) v members.old.entries)) }
+    ensures made { lookup (cow_str_bytes key.now) members.old.entries ≡ None → OnOk result ((copy : CowStr Global) × (v : Document (CowStr Global)) × IsCopy key.now copy × F.post with v × (members.new.entries ≡ put_entry (copy, cow_str_bytes key.now) v members.old.entries)) }
     ensures refused { OnErr result (members.new ≡ members.old) }
     ensures kind { IfErr result (λ why. why ≡ OutOfMemory) }
 {
@@ -78,7 +78,7 @@ fn value_at<T: KeyText>(
     requires { IfOk place (λ i. i < length members.old.entries) }
     ensures* writes_back { sem 𝓛 (LendsSoOk (object_row T.row T.KeyText) (document_row T.row T.KeyText) members.entry result
         (λ n w. (i : ℕ) × (place ≡ Ok i) × (n ≡ with_value_at members.old i w)) (λ n. n ≡ members.old)) }
-    ensures value { IfOk result (λ v. (i : ℕ) × (place ≡ Ok i) × (value_found i members.old.entries ≡ Some v.now)) }
+    ensures value { IfOk result (λ v. (i : ℕ) × (place ≡ Ok i) × (nth_value i members.old.entries ≡ Some v.now)) }
     ensures fault { IfErr result (λ why. place ≡ Err why) }
 {
     match place {
@@ -88,7 +88,7 @@ fn value_at<T: KeyText>(
 }
 
 impl<'k> KnownKey<'k> {
-    ghost use Rattle.sj_borrowed.specs.Inserts.{why_of};
+    ghost use Rattle.sj_borrowed.specs.Inserts.{known_fault};
     ghost use Rattle.sj_borrowed.specs.Loans.{LendsInserted, LendsMember};
 
     /// The value of the key in a map, to write; where the key is absent, a copy of it goes last
@@ -134,13 +134,13 @@ impl<'k> KnownKey<'k> {
     ) -> Result<&'t mut BorrowedValue<'v>, Error>
     where
         'k: 'v,
-        requires { IsSome (as_members (tree cow_str_bytes target.old)) → find (cow_str_bytes key.now) (tree cow_str_bytes target.old) ≡ None → F.pre with }
+        requires { IsSome (as_members (document_tree cow_str_bytes target.old)) → find (cow_str_bytes key.now) (document_tree cow_str_bytes target.old) ≡ None → F.pre with }
         ensures* writes_back { sem 𝓛 (LendsMember target.entry (cow_str_bytes key.now) result) }
-        ensures found { IfSome (find (cow_str_bytes key.now) (tree cow_str_bytes target.old)) (λ before. IfOk result (λ v. tree cow_str_bytes v.now ≡ before)) }
-        ensures made { find (cow_str_bytes key.now) (tree cow_str_bytes target.old) ≡ None → IfOk result (λ v. F.post with v.now) }
-        ensures object { OnOk result (IsSome (as_members (tree cow_str_bytes target.old))) }
-        ensures kind { IfErr result (λ why. why ≡ why_of (tree cow_str_bytes target.old)) }
-        ensures succeeds { IsSome (find (cow_str_bytes key.now) (tree cow_str_bytes target.old)) → IsOk result }
+        ensures found { IfSome (find (cow_str_bytes key.now) (document_tree cow_str_bytes target.old)) (λ before. IfOk result (λ v. document_tree cow_str_bytes v.now ≡ before)) }
+        ensures made { find (cow_str_bytes key.now) (document_tree cow_str_bytes target.old) ≡ None → IfOk result (λ v. F.post with v.now) }
+        ensures object { OnOk result (IsSome (as_members (document_tree cow_str_bytes target.old))) }
+        ensures kind { IfErr result (λ why. why ≡ known_fault (document_tree cow_str_bytes target.old)) }
+        ensures succeeds { IsSome (find (cow_str_bytes key.now) (document_tree cow_str_bytes target.old)) → IsOk result }
     {
         match members_of(target) {
             Ok(members) => {

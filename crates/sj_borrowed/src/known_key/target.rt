@@ -67,13 +67,13 @@ impl<K: KeyText, V> KnownKeyTargetMut for HashMap<K, V, ObjectHasher> {
 impl<T: KeyText> KnownKeyTarget for Document<T> {
     type Output = Document<T>;
 
-    ghost use Rattle.sj_document.specs.Document.{tree};
+    ghost use Rattle.sj_document.specs.Document.{document_tree};
 
-    ghost finds = { λ d k v. option_map (tree T.text_of) v ≡ find k (tree T.text_of d) };
+    ghost finds = { λ d k v. option_map (document_tree T.text_of) v ≡ find k (document_tree T.text_of d) };
 
     fn at_hash(&self, hash: u64, key: &str) -> Option<&Document<T>>
         requires { hash ≡ hash_of_text key.now }
-        ensures { option_map (λ v. tree T.text_of v.now) result ≡ find key.now (tree T.text_of self.now) }
+        ensures { option_map (λ v. document_tree T.text_of v.now) result ≡ find key.now (document_tree T.text_of self.now) }
     {
         self.as_object()?.get_hashed(hash, key)
     }
@@ -93,11 +93,11 @@ fn value_hashed_of<'a, T: KeyText>(
 }
 
 impl<T: KeyText> KnownKeyTargetMut for Document<T> {
-    ghost use Rattle.sj_document.specs.Document.{tree};
+    ghost use Rattle.sj_document.specs.Document.{document_tree};
 
-    ghost writes = { λ d k w n. tree T.text_of n ≡ set_found (by_key k) (tree T.text_of w) (tree T.text_of d) };
+    ghost writes = { λ d k w n. document_tree T.text_of n ≡ set_found (by_key k) (document_tree T.text_of w) (document_tree T.text_of d) };
 
-    ghost stays = { λ d n. tree T.text_of n ≡ tree T.text_of d };
+    ghost stays = { λ d n. document_tree T.text_of n ≡ document_tree T.text_of d };
 
     fn at_hash_mut(&mut self, hash: u64, key: &str) -> Option<&mut Document<T>> {
         match self.as_object_mut() {

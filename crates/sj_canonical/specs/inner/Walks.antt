@@ -50,6 +50,6 @@ module _ {I K V : Type 0} (c : Repeats) (items : I → List Tree) (key : K → L
   open_rest e = ahead_rest e.is_begun e.ahead
 
   -- what is left of all prints, the innermost first
-  abbrev pub rest : List (Open I K V) → List ℕ
-  rest [] = []
-  rest (e ∷ pile) = rest pile ++ open_rest e
+  abbrev pub canonical_rest : List (Open I K V) → List ℕ
+  canonical_rest [] = []
+  canonical_rest (e ∷ pile) = canonical_rest pile ++ open_rest e

@@ -7,8 +7,8 @@ use Rattle.sj_tape.specs.Items.{items, array_choice}
 use Rattle.sj_tape.specs.declared.array.Array.{Array}
 
 -- the tree of a part, with the member of each key that counts in it
-abbrev pub kept : Repeats × Tree → Tree
-kept p = keep_by p.0 p.1
+abbrev pub kept_part : Repeats × Tree → Tree
+kept_part p = keep_by p.0 p.1
 
 -- the parts of an array
 abbrev pub parts_in : Array → List (Repeats × Tree)

@@ -3,13 +3,13 @@
 
 ghost use Rattle.std.specs.Prelude.{◌≡◌, IfOk, option_map, unwrap_or, map, string_bytes};
 ghost use Rattle.sj_text_core.specs.Tree.{list, items_from};
-ghost use Rattle.sj_tape.specs.Value.{part};
-ghost use Rattle.sj_tape.specs.Items.{parts_ahead};
+ghost use Rattle.sj_tape.specs.Value.{tape_part};
+ghost use Rattle.sj_tape.specs.Items.{items_parts_ahead};
 ghost use Rattle.sj_pointer.specs.Pointed.{path_of};
 ghost use Rattle.sj_commands.specs.Commands.{PlainCommand, bad};
 ghost use Rattle.sj_commands.specs.CommandLines.{IsCommandOf, command_in as command_in_tree, command_with, command_with_path, command_with_text, command_with_value, command_with_member, path_in as path_in_tree, pointer_in as pointer_in_text, step_in as step_in_tree, steps_in as steps_in_items, width_named as width_of_name};
 ghost use Rattle.sj_commands.specs.Meant.{command_meant, step_meant, path_meant, width_meant};
-ghost use Rattle.sj_commands.specs.inner.Parts.{kept, parts_in};
+ghost use Rattle.sj_commands.specs.inner.Parts.{kept_part, parts_in};
 
 use super::{Command, Step, Width};
 use sj_document::owned_from_tape;
@@ -42,7 +42,7 @@ fn width_named(name: &str) -> Option<Width>
 
 /// A text is a key, a whole number below 2^64 a place.
 fn step_in(alloc: Global, value: Value<'_, '_>) -> Result<Option<Step>, AllocError>
-    ensures { IfOk result (λ step. option_map step_meant step ≡ step_in_tree (kept (part value.entry))) }
+    ensures { IfOk result (λ step. option_map step_meant step ≡ step_in_tree (kept_part (tape_part value.entry))) }
 {
     if let Some(key) = value.into_string() {
         return Ok(Some(Step::Key(String::from_str(alloc, key)?)));
@@ -54,7 +54,7 @@ fn step_in(alloc: Global, value: Value<'_, '_>) -> Result<Option<Step>, AllocErr
 }
 
 fn steps_in(alloc: Global, items: Array<'_, '_>) -> Result<Option<Vec<Step>>, AllocError>
-    ensures { IfOk result (λ p. option_map (λ steps. path_meant steps.items) p ≡ steps_in_items (items_from (map kept (parts_in items.entry)))) }
+    ensures { IfOk result (λ p. option_map (λ steps. path_meant steps.items) p ≡ steps_in_items (items_from (map kept_part (parts_in items.entry)))) }
 {
     let mut steps = Vec::with_capacity(alloc, items.len())?;
     for item in items.iter() {
@@ -89,7 +89,7 @@ fn pointer_in(alloc: Global, text: &str) -> Result<Option<Vec<Step>>, AllocError
 }
 
 fn path_in(alloc: Global, value: Value<'_, '_>) -> Result<Option<Vec<Step>>, AllocError>
-    ensures { IfOk result (λ p. option_map (λ steps. path_meant steps.items) p ≡ path_in_tree (kept (part value.entry))) }
+    ensures { IfOk result (λ p. option_map (λ steps. path_meant steps.items) p ≡ path_in_tree (kept_part (tape_part value.entry))) }
 {
     if let Some(text) = value.into_string() {
         return pointer_in(alloc, text);
@@ -135,7 +135,7 @@ fn with_value(
     path: Vec<Step>,
     value: Value<'_, '_>,
 ) -> Result<Command, AllocError>
-    ensures { IfOk result (λ command. command_meant command ≡ unwrap_or (command_with_value name.now (path_meant path.items) (kept (part value.entry))) bad) }
+    ensures { IfOk result (λ command. command_meant command ≡ unwrap_or (command_with_value name.now (path_meant path.items) (kept_part (tape_part value.entry))) bad) }
 {
     match name {
         "push" => Ok(Command::Push(path, owned_from_tape(alloc, value)?)),
@@ -154,7 +154,7 @@ fn with_member(
     key: Value<'_, '_>,
     value: Value<'_, '_>,
 ) -> Result<Command, AllocError>
-    ensures { IfOk result (λ command. command_meant command ≡ unwrap_or (command_with_member name.now (path_meant path.items) (kept (part key.entry)) (kept (part value.entry))) bad) }
+    ensures { IfOk result (λ command. command_meant command ≡ unwrap_or (command_with_member name.now (path_meant path.items) (kept_part (tape_part key.entry)) (kept_part (tape_part value.entry))) bad) }
 {
     let Some(key) = key.into_string() else {
         return Ok(Command::Bad);
@@ -174,7 +174,7 @@ fn with_items(
     path: Vec<Step>,
     mut items: array::Iter<'_, '_>,
 ) -> Result<Command, AllocError>
-    ensures { IfOk result (λ command. command_meant command ≡ unwrap_or (command_with name.now (path_meant path.items) (items_from (map kept (parts_ahead items.entry)))) bad) }
+    ensures { IfOk result (λ command. command_meant command ≡ unwrap_or (command_with name.now (path_meant path.items) (items_from (map kept_part (items_parts_ahead items.entry)))) bad) }
 {
     let Some(first) = items.next() else {
         return Ok(with_path(name, path));
@@ -189,7 +189,7 @@ fn with_items(
 }
 
 fn in_items(alloc: Global, items: Array<'_, '_>) -> Result<Command, AllocError>
-    ensures { IfOk result (λ command. command_meant command ≡ command_in_tree (list (items_from (map kept (parts_in items.entry))))) }
+    ensures { IfOk result (λ command. command_meant command ≡ command_in_tree (list (items_from (map kept_part (parts_in items.entry))))) }
 {
     let mut items = items.iter();
     let Some(first) = items.next() else {
@@ -208,7 +208,7 @@ fn in_items(alloc: Global, items: Array<'_, '_>) -> Result<Command, AllocError>
 }
 
 fn command_in(alloc: Global, value: Value<'_, '_>) -> Result<Command, AllocError>
-    ensures { IfOk result (λ command. command_meant command ≡ command_in_tree (kept (part value.entry))) }
+    ensures { IfOk result (λ command. command_meant command ≡ command_in_tree (kept_part (tape_part value.entry))) }
 {
     match value.as_array() {
         Some(items) => in_items(alloc, items),

@@ -3,7 +3,7 @@ use Rattle.std.proofs.Common.{◌≡◌, ℕ, pos, refl, codes, Some, None}
 use Rattle.sj_text_core.specs.Tree.{u64, Tree, null, int, list, obj, no_items, item, no_members, member}
 use Rattle.sj_text_core.specs.Reads.{as_items, as_members}
 use Rattle.sj_text_core.specs.declared.error.AccessError.TheVariants.{NotAnObject, NotAnArray, OutOfMemory}
-use Rattle.sj_document.specs.Document.{with_member, without_member, with_item, without_last, last_item, why_of}
+use Rattle.sj_document.specs.Document.{with_member, without_member, with_item, without_last, last_item, edit_fault}
 
 abbrev n : ℕ → Tree
 n m = int (pos m) u64
@@ -51,11 +51,11 @@ popped-object : without_last ab ≡ ab
 popped-object = refl
 
 -- the kind comes before memory
-why-null : why_of NotAnObject (as_members null) ≡ NotAnObject
+why-null : edit_fault NotAnObject (as_members null) ≡ NotAnObject
 why-null = refl
 
-why-object : why_of NotAnObject (as_members ab) ≡ OutOfMemory
+why-object : edit_fault NotAnObject (as_members ab) ≡ OutOfMemory
 why-object = refl
 
-why-array : why_of NotAnArray (as_items ab) ≡ NotAnArray
+why-array : edit_fault NotAnArray (as_items ab) ≡ NotAnArray
 why-array = refl

@@ -20,8 +20,8 @@ nodes_of None = 0
 nodes_of (Some d) = nodes d
 
 -- of the values of all members
-abbrev pub nodes_in : {T : Type 0} → List (Entry T (Document T)) → ℕ
-nodes_in {T} entries = sum_by (λ (e : Entry T (Document T)). nodes e.1) entries
+abbrev pub entry_nodes : {T : Type 0} → List (Entry T (Document T)) → ℕ
+entry_nodes {T} entries = sum_by (λ (e : Entry T (Document T)). nodes e.1) entries
 
 -- falls with each node that goes, and with each step down while none goes
 abbrev pub work : ℕ → ℕ → ℕ

@@ -21,10 +21,10 @@ module _ {I M : Type 0} (items : I → List Tree) (members : M → List (List �
   reach (e ∷ pile) = suc (max (ahead_depth e) (reach pile))
 
   -- what there is to do
-  abbrev pub left : List (Ahead I M) → ℕ
-  left pile = sum_by (λ e. suc (ahead_weight e)) pile
+  abbrev pub ahead_left : List (Ahead I M) → ℕ
+  ahead_left pile = sum_by (λ e. suc (ahead_weight e)) pile
 
   -- the new pile stands for a part of depth d and weight w on the old one; or that reaches too deep
   abbrev pub Reached : ℕ → List (Ahead I M) → ℕ → ℕ → Bool → List (Ahead I M) → Type 0
-  Reached levels old d w true new = ((max (reach old) (length old + d) ≤ levels) ↔ (reach new ≤ levels)) × (length new ≤ levels) × (left new < w + left old)
+  Reached levels old d w true new = ((max (reach old) (length old + d) ≤ levels) ↔ (reach new ≤ levels)) × (length new ≤ levels) × (ahead_left new < w + ahead_left old)
   Reached levels old d w false new = levels < max (reach old) (length old + d)

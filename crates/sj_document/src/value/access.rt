@@ -18,12 +18,12 @@ impl<T: KeyText> Document<T> {
     ghost use Rattle.sj_text_core.specs.Find.{nth_item};
     ghost use Rattle.sj_text_core.specs.Paths.{by_key, by_place, set_found};
     ghost use Rattle.sj_object.specs.Edits.{lookup, with_value};
-    ghost use Rattle.sj_document.specs.Document.{tree};
+    ghost use Rattle.sj_document.specs.Document.{document_tree};
     ghost use Rattle.sj_document.specs.Rows.{document_row, object_row, array_row};
 
     /// The value of the key; None where there is none, and on a non-object.
     pub fn get(&self, key: &str) -> Option<&Document<T>>
-        ensures { option_map (λ v. tree T.text_of v.now) result ≡ find key.now (tree T.text_of self.now) }
+        ensures { option_map (λ v. document_tree T.text_of v.now) result ≡ find key.now (document_tree T.text_of self.now) }
     {
         match self {
             Document::Object(members) => members.get(key),
@@ -33,7 +33,7 @@ impl<T: KeyText> Document<T> {
 
     /// As `get`; of a non-object, which kind it is.
     pub fn try_get(&self, key: &str) -> Result<Option<&Document<T>>, TryTypeError>
-        ensures { result_map_both (option_map (λ v. tree T.text_of v.now)) (λ e. e) result ≡ found_in (as_members (tree T.text_of self.now)) (kind_of (tree T.text_of self.now)) (find key.now (tree T.text_of self.now)) }
+        ensures { result_map_both (option_map (λ v. document_tree T.text_of v.now)) (λ e. e) result ≡ found_in (as_members (document_tree T.text_of self.now)) (kind_of (document_tree T.text_of self.now)) (find key.now (document_tree T.text_of self.now)) }
     {
         match self {
             Document::Object(members) => Ok(members.get(key)),
@@ -46,14 +46,14 @@ impl<T: KeyText> Document<T> {
 
     /// Whether a member has the key; false on a non-object.
     pub fn contains_key(&self, key: &str) -> bool
-        ensures { result ≡ is_some (find key.now (tree T.text_of self.now)) }
+        ensures { result ≡ is_some (find key.now (document_tree T.text_of self.now)) }
     {
         self.get(key).is_some()
     }
 
     /// The item at that position, counted from 0; None past the last, and on a non-array.
     pub fn get_idx(&self, index: usize) -> Option<&Document<T>>
-        ensures { option_map (λ v. tree T.text_of v.now) result ≡ nth index (tree T.text_of self.now) }
+        ensures { option_map (λ v. document_tree T.text_of v.now) result ≡ nth index (document_tree T.text_of self.now) }
     {
         match self {
             Document::Array(items) => items.get(index),
@@ -63,7 +63,7 @@ impl<T: KeyText> Document<T> {
 
     /// As `get_idx`; of a non-array, which kind it is.
     pub fn try_get_idx(&self, index: usize) -> Result<Option<&Document<T>>, TryTypeError>
-        ensures { result_map_both (option_map (λ v. tree T.text_of v.now)) (λ e. e) result ≡ read_as (option_map (λ _. nth index (tree T.text_of self.now)) (as_items (tree T.text_of self.now))) ValueType.Array (kind_of (tree T.text_of self.now)) }
+        ensures { result_map_both (option_map (λ v. document_tree T.text_of v.now)) (λ e. e) result ≡ read_as (option_map (λ _. nth index (document_tree T.text_of self.now)) (as_items (document_tree T.text_of self.now))) ValueType.Array (kind_of (document_tree T.text_of self.now)) }
     {
         match self {
             Document::Array(items) => Ok(items.get(index)),
@@ -76,7 +76,7 @@ impl<T: KeyText> Document<T> {
 
     /// The items, where it is an array; else None.
     pub fn as_array(&self) -> Option<&Vec<Document<T>>>
-        ensures { option_map (λ v. items_from (map (tree T.text_of) v.now.items)) result ≡ as_items (tree T.text_of self.now) }
+        ensures { option_map (λ v. items_from (map (document_tree T.text_of) v.now.items)) result ≡ as_items (document_tree T.text_of self.now) }
     {
         match self {
             Document::Array(items) => Some(items),
@@ -86,7 +86,7 @@ impl<T: KeyText> Document<T> {
 
     /// The items, where it is an array; else which kind it is.
     pub fn try_as_array(&self) -> Result<&Vec<Document<T>>, TryTypeError>
-        ensures { result_map_both (λ v. items_from (map (tree T.text_of) v.now.items)) (λ e. e) result ≡ read_as (as_items (tree T.text_of self.now)) ValueType.Array (kind_of (tree T.text_of self.now)) }
+        ensures { result_map_both (λ v. items_from (map (document_tree T.text_of) v.now.items)) (λ e. e) result ≡ read_as (as_items (document_tree T.text_of self.now)) ValueType.Array (kind_of (document_tree T.text_of self.now)) }
     {
         match self.as_array() {
             Some(items) => Ok(items),
@@ -99,7 +99,7 @@ impl<T: KeyText> Document<T> {
 
     /// The members, where it is an object; else None.
     pub fn as_object(&self) -> Option<&Object<T>>
-        ensures { option_map (λ m. entry_members (tree T.text_of) m.now.entries) result ≡ as_members (tree T.text_of self.now) }
+        ensures { option_map (λ m. entry_members (document_tree T.text_of) m.now.entries) result ≡ as_members (document_tree T.text_of self.now) }
     {
         match self {
             Document::Object(members) => Some(members),
@@ -109,7 +109,7 @@ impl<T: KeyText> Document<T> {
 
     /// The members, where it is an object; else which kind it is.
     pub fn try_as_object(&self) -> Result<&Object<T>, TryTypeError>
-        ensures { result_map_both (λ m. entry_members (tree T.text_of) m.now.entries) (λ e. e) result ≡ read_as (as_members (tree T.text_of self.now)) ValueType.Object (kind_of (tree T.text_of self.now)) }
+        ensures { result_map_both (λ m. entry_members (document_tree T.text_of) m.now.entries) (λ e. e) result ≡ read_as (as_members (document_tree T.text_of self.now)) ValueType.Object (kind_of (document_tree T.text_of self.now)) }
     {
         match self.as_object() {
             Some(members) => Ok(members),
@@ -123,8 +123,8 @@ impl<T: KeyText> Document<T> {
     /// The items of an array, to write. The document is then the array of what they last were.
     pub fn as_array_mut(&mut self) -> Option<&mut Vec<Document<T>>>
         ensures* writes_back { sem 𝓛 (LendsSo (document_row T.row T.KeyText) (array_row T.row T.KeyText) self.entry result
-            (λ n w. OnSome result (tree T.text_of n ≡ list (items_from (map (tree T.text_of) w.items)))) (λ n. tree T.text_of n ≡ tree T.text_of self.old)) }
-        ensures value { option_map (λ v. items_from (map (tree T.text_of) v.now.items)) result ≡ as_items (tree T.text_of self.old) }
+            (λ n w. OnSome result (document_tree T.text_of n ≡ list (items_from (map (document_tree T.text_of) w.items)))) (λ n. document_tree T.text_of n ≡ document_tree T.text_of self.old)) }
+        ensures value { option_map (λ v. items_from (map (document_tree T.text_of) v.now.items)) result ≡ as_items (document_tree T.text_of self.old) }
     {
         match self {
             Document::Array(items) => Some(items),
@@ -135,8 +135,8 @@ impl<T: KeyText> Document<T> {
     /// The map of an object, to write. The document is then the object of what it last was.
     pub fn as_object_mut(&mut self) -> Option<&mut Object<T>>
         ensures* writes_back { sem 𝓛 (LendsSo (document_row T.row T.KeyText) (object_row T.row T.KeyText) self.entry result
-            (λ n w. OnSome result (tree T.text_of n ≡ obj (entry_members (tree T.text_of) w.entries))) (λ n. tree T.text_of n ≡ tree T.text_of self.old)) }
-        ensures value { option_map (λ m. entry_members (tree T.text_of) m.now.entries) result ≡ as_members (tree T.text_of self.old) }
+            (λ n w. OnSome result (document_tree T.text_of n ≡ obj (entry_members (document_tree T.text_of) w.entries))) (λ n. document_tree T.text_of n ≡ document_tree T.text_of self.old)) }
+        ensures value { option_map (λ m. entry_members (document_tree T.text_of) m.now.entries) result ≡ as_members (document_tree T.text_of self.old) }
     {
         match self {
             Document::Object(members) => Some(members),
@@ -156,8 +156,8 @@ impl<T: KeyText> Document<T> {
     /// last held in the place of that value.
     pub fn get_mut(&mut self, key: &str) -> Option<&mut Document<T>>
         ensures* writes_back { sem 𝓛 (LendsSo (document_row T.row T.KeyText) (document_row T.row T.KeyText) self.entry result
-            (λ n w. OnSome result (tree T.text_of n ≡ set_found (by_key key.now) (tree T.text_of w) (tree T.text_of self.old))) (λ n. tree T.text_of n ≡ tree T.text_of self.old)) }
-        ensures value { option_map (λ v. tree T.text_of v.now) result ≡ find key.now (tree T.text_of self.old) }
+            (λ n w. OnSome result (document_tree T.text_of n ≡ set_found (by_key key.now) (document_tree T.text_of w) (document_tree T.text_of self.old))) (λ n. document_tree T.text_of n ≡ document_tree T.text_of self.old)) }
+        ensures value { option_map (λ v. document_tree T.text_of v.now) result ≡ find key.now (document_tree T.text_of self.old) }
     {
         match self.as_object_mut() {
             Some(members) => Document::value_of(members, key),
@@ -168,7 +168,7 @@ impl<T: KeyText> Document<T> {
     /// The item at that position among the items of an array, to write.
     fn item_of(items: &mut Vec<Document<T>>, index: usize) -> Option<&mut Document<T>>
         ensures* writes_back { sem 𝓛 (LendsIf (array_row T.row T.KeyText) (document_row T.row T.KeyText) items.entry result (with_item items.old index) items.old) }
-        ensures value { option_map (λ v. tree T.text_of v.now) result ≡ nth_item index (items_from (map (tree T.text_of) items.old.items)) }
+        ensures value { option_map (λ v. document_tree T.text_of v.now) result ≡ nth_item index (items_from (map (document_tree T.text_of) items.old.items)) }
     {
         items.get_mut(index)
     }
@@ -177,8 +177,8 @@ impl<T: KeyText> Document<T> {
     /// reference last held in the place of that item.
     pub fn get_idx_mut(&mut self, index: usize) -> Option<&mut Document<T>>
         ensures* writes_back { sem 𝓛 (LendsSo (document_row T.row T.KeyText) (document_row T.row T.KeyText) self.entry result
-            (λ n w. OnSome result (tree T.text_of n ≡ set_found (by_place index) (tree T.text_of w) (tree T.text_of self.old))) (λ n. tree T.text_of n ≡ tree T.text_of self.old)) }
-        ensures value { option_map (λ v. tree T.text_of v.now) result ≡ nth index (tree T.text_of self.old) }
+            (λ n w. OnSome result (document_tree T.text_of n ≡ set_found (by_place index) (document_tree T.text_of w) (document_tree T.text_of self.old))) (λ n. document_tree T.text_of n ≡ document_tree T.text_of self.old)) }
+        ensures value { option_map (λ v. document_tree T.text_of v.now) result ≡ nth index (document_tree T.text_of self.old) }
     {
         match self.as_array_mut() {
             Some(items) => Document::item_of(items, index),
@@ -188,11 +188,11 @@ impl<T: KeyText> Document<T> {
 }
 
 impl<T: KeyText + Drop> Document<T> {
-    ghost use Rattle.sj_document.specs.Document.{tree};
+    ghost use Rattle.sj_document.specs.Document.{document_tree};
 
     /// The items, where it is an array; anything else is given up.
     pub fn into_array(self) -> Option<Vec<Document<T>>>
-        ensures { option_map (λ v. items_from (map (tree T.text_of) v.items)) result ≡ as_items (tree T.text_of self) }
+        ensures { option_map (λ v. items_from (map (document_tree T.text_of) v.items)) result ≡ as_items (document_tree T.text_of self) }
     {
         match self {
             Document::Array(items) => Some(Box::into_inner(items)),
@@ -202,7 +202,7 @@ impl<T: KeyText + Drop> Document<T> {
 
     /// The members, where it is an object; anything else is given up.
     pub fn into_object(self) -> Option<Object<T>>
-        ensures { option_map (λ m. entry_members (tree T.text_of) m.entries) result ≡ as_members (tree T.text_of self) }
+        ensures { option_map (λ m. entry_members (document_tree T.text_of) m.entries) result ≡ as_members (document_tree T.text_of self) }
     {
         match self {
             Document::Object(members) => Some(Box::into_inner(members)),
@@ -212,7 +212,7 @@ impl<T: KeyText + Drop> Document<T> {
 
     /// The text, where it is one; anything else is given up.
     pub fn into_string(self) -> Option<T>
-        ensures { option_map T.text_of result ≡ as_text (tree T.text_of self) }
+        ensures { option_map T.text_of result ≡ as_text (document_tree T.text_of self) }
     {
         match self {
             Document::String(text) => Some(text),

@@ -2,7 +2,7 @@
 
 ghost use Rattle.std.specs.Prelude.{◌≡◌, IfOk, map};
 ghost use Rattle.sj_object.specs.Members.{entry_members};
-ghost use Rattle.sj_document.specs.Document.{tree};
+ghost use Rattle.sj_document.specs.Document.{document_tree};
 
 use crate::value::piled::{Begun, LEVELS, Source, make_piled};
 use crate::value::taken::Taken;
@@ -48,7 +48,7 @@ pub(crate) fn convert<T: KeyText + Drop, U: TextFrom<T> + Drop>(
     alloc: Global,
     value: Document<T>,
 ) -> Result<Document<U>, AllocError>
-    ensures { IfOk result (λ v. tree U.text_of v ≡ tree T.text_of value) }
+    ensures { IfOk result (λ v. document_tree U.text_of v ≡ document_tree T.text_of value) }
 {
     convert_within(alloc, value, LEVELS)
 }
@@ -60,7 +60,7 @@ fn convert_within<T: KeyText + Drop, U: TextFrom<T> + Drop>(
     value: Document<T>,
     levels: usize,
 ) -> Result<Document<U>, AllocError>
-    ensures { IfOk result (λ v. tree U.text_of v ≡ tree T.text_of value) }
+    ensures { IfOk result (λ v. document_tree U.text_of v ≡ document_tree T.text_of value) }
 {
     if levels == 0 {
         return convert_piled(alloc, value);
@@ -85,7 +85,7 @@ fn convert_items<T: KeyText + Drop, U: TextFrom<T> + Drop>(
     items: Vec<Document<T>>,
     levels: usize,
 ) -> Result<Vec<Document<U>>, AllocError>
-    ensures { IfOk result (λ v. map (tree U.text_of) v.items ≡ map (tree T.text_of) items.items) }
+    ensures { IfOk result (λ v. map (document_tree U.text_of) v.items ≡ map (document_tree T.text_of) items.items) }
 {
     let mut made = Vec::with_capacity(alloc, items.len())?;
     for item in items {
@@ -100,7 +100,7 @@ fn convert_members<T: KeyText + Drop, U: TextFrom<T> + Drop>(
     members: Object<T>,
     levels: usize,
 ) -> Result<Object<U>, AllocError>
-    ensures { IfOk result (λ m. entry_members (tree U.text_of) m.entries ≡ entry_members (tree T.text_of) members.entries) }
+    ensures { IfOk result (λ m. entry_members (document_tree U.text_of) m.entries ≡ entry_members (document_tree T.text_of) members.entries) }
 {
     let mut made = HashMap::with_capacity_and_hasher(
         alloc,
@@ -122,7 +122,7 @@ fn convert_piled<T: KeyText + Drop, U: TextFrom<T> + Drop>(
     alloc: Global,
     value: Document<T>,
 ) -> Result<Document<U>, AllocError>
-    ensures { IfOk result (λ v. tree U.text_of v ≡ tree T.text_of value) }
+    ensures { IfOk result (λ v. document_tree U.text_of v ≡ document_tree T.text_of value) }
 {
     make_piled::<Document<T>, U>(value, alloc)
 }
@@ -134,11 +134,11 @@ impl<T: KeyText + Drop, U: TextFrom<T> + Drop> Source<U> for Document<T> {
 
     ghost use Rattle.std.specs.Vec.Iter.{into_iter_items};
 
-    ghost tree_of = { tree T.text_of };
+    ghost tree_of = { document_tree T.text_of };
 
-    ghost items_left = { λ it. map (tree T.text_of) (into_iter_items it) };
+    ghost items_left = { λ it. map (document_tree T.text_of) (into_iter_items it) };
 
-    ghost members_left = { λ it. map (λ p. (T.text_of p.0, tree T.text_of p.1)) it };
+    ghost members_left = { λ it. map (λ p. (T.text_of p.0, document_tree T.text_of p.1)) it };
 
     fn begin(
         self,

@@ -2,7 +2,7 @@
 
 ghost use Rattle.std.specs.Prelude.{◌≡◌, IfOk, map};
 ghost use Rattle.sj_object.specs.Members.{entry_members};
-ghost use Rattle.sj_document.specs.Document.{tree};
+ghost use Rattle.sj_document.specs.Document.{document_tree};
 
 use crate::value::piled::{Begun, LEVELS, Source, make_piled};
 use crate::value::{Document, Object};
@@ -33,7 +33,7 @@ impl<'v> CopyText for CowStr<'v> {
 }
 
 impl<T: CopyText + Drop> Clone for Document<T> {
-    ghost is_clone = { λ v w. tree T.text_of w ≡ tree T.text_of v };
+    ghost is_clone = { λ v w. document_tree T.text_of w ≡ document_tree T.text_of v };
 
     fn clone(&self) -> Result<Document<T>, AllocError> {
         copy(self, LEVELS)
@@ -45,7 +45,7 @@ impl<T: CopyText + Drop> Clone for Document<T> {
 #[inline(always)]
 #[cycle(copy)]
 fn copy<T: CopyText + Drop>(value: &Document<T>, levels: usize) -> Result<Document<T>, AllocError>
-    ensures { IfOk result (λ v. tree T.text_of v ≡ tree T.text_of value.now) }
+    ensures { IfOk result (λ v. document_tree T.text_of v ≡ document_tree T.text_of value.now) }
 {
     match value {
         Document::Static(scalar) => Ok(Document::Static(*scalar)),
@@ -73,7 +73,7 @@ fn copy_items<T: CopyText + Drop>(
     items: &Vec<Document<T>>,
     levels: usize,
 ) -> Result<Vec<Document<T>>, AllocError>
-    ensures { IfOk result (λ v. map (tree T.text_of) v.items ≡ map (tree T.text_of) items.now.items) }
+    ensures { IfOk result (λ v. map (document_tree T.text_of) v.items ≡ map (document_tree T.text_of) items.now.items) }
 {
     let mut copies = Vec::with_capacity(*items.allocator(), items.len())?;
     for item in items {
@@ -88,7 +88,7 @@ fn copy_members<T: CopyText + Drop>(
     members: &Object<T>,
     levels: usize,
 ) -> Result<Object<T>, AllocError>
-    ensures { IfOk result (λ m. entry_members (tree T.text_of) m.entries ≡ entry_members (tree T.text_of) members.now.entries) }
+    ensures { IfOk result (λ m. entry_members (document_tree T.text_of) m.entries ≡ entry_members (document_tree T.text_of) members.now.entries) }
 {
     let mut copies = HashMap::with_capacity_and_hasher(
         members.allocator(),
@@ -110,7 +110,7 @@ fn copy_piled<T: CopyText + Drop>(
     value: &Document<T>,
     alloc: Global,
 ) -> Result<Document<T>, AllocError>
-    ensures { IfOk result (λ v. tree T.text_of v ≡ tree T.text_of value.now) }
+    ensures { IfOk result (λ v. document_tree T.text_of v ≡ document_tree T.text_of value.now) }
 {
     make_piled::<&Document<T>, T>(value, alloc)
 }
@@ -122,11 +122,11 @@ impl<'a, T: CopyText + Drop> Source<T> for &'a Document<T> {
 
     ghost use Rattle.std.specs.Slice.Iter.{iter_rest};
 
-    ghost tree_of = { λ v. tree T.text_of v.now };
+    ghost tree_of = { λ v. document_tree T.text_of v.now };
 
-    ghost items_left = { λ it. map (tree T.text_of) (iter_rest it) };
+    ghost items_left = { λ it. map (document_tree T.text_of) (iter_rest it) };
 
-    ghost members_left = { λ it. map (λ p. (T.text_of p.0, tree T.text_of p.1)) it };
+    ghost members_left = { λ it. map (λ p. (T.text_of p.0, document_tree T.text_of p.1)) it };
 
     fn begin(
         self,

@@ -5,7 +5,7 @@
 //! first part, until it comes out again as the last that is left there.
 
 ghost use Rattle.std.specs.Prelude.{◌≡◌, ◌↔◌, ◌+◌, ◌<◌, Some, IfNone, IsTrue};
-ghost use Rattle.sj_document.specs.inner.Nodes.{nodes, nodes_of, nodes_in, work};
+ghost use Rattle.sj_document.specs.inner.Nodes.{nodes, nodes_of, entry_nodes, work};
 
 use crate::value::{Document, Object};
 use sj_object::KeyText;
@@ -63,8 +63,8 @@ impl<T: KeyText + Drop> Document<T> {
 /// Takes the last member out, and gives its value. It stands apart, so that items do not pay for it.
 #[inline(never)]
 fn pop_value<T: KeyText + Drop>(members: &mut Object<T>) -> Option<Document<T>>
-    ensures fewer { nodes_in members.old.entries ≡ nodes_in members.new.entries + nodes_of result }
-    ensures none { IfNone result (nodes_in members.new.entries ≡ 0) }
+    ensures fewer { entry_nodes members.old.entries ≡ entry_nodes members.new.entries + nodes_of result }
+    ensures none { IfNone result (entry_nodes members.new.entries ≡ 0) }
 {
     match members.pop() {
         Some((_, value)) => Some(value),

@@ -5,7 +5,7 @@ ghost use Rattle.std.specs.Option.{ForSome};
 ghost use Rattle.sj_text_core.specs.Tree.{items_from, items_len};
 ghost use Rattle.sj_text_core.specs.Find.{nth, nth_item};
 ghost use Rattle.sj_text_core.specs.Reads.{as_items};
-ghost use Rattle.sj_document.specs.Document.{tree};
+ghost use Rattle.sj_document.specs.Document.{document_tree};
 ghost use Rattle.sj_document.specs.Items.{remove_at};
 
 use crate::value::Document;
@@ -13,11 +13,11 @@ use sj_object::KeyText;
 use sj_text_core::{AccessError, Refused};
 
 impl<T: KeyText> Document<T> {
-    ghost use Rattle.sj_document.specs.Document.{tree};
+    ghost use Rattle.sj_document.specs.Document.{document_tree};
 
     /// How many items an array has; None on a non-array.
     pub fn array_len(&self) -> Option<usize>
-        ensures { result ≡ option_map items_len (as_items (tree T.text_of self.now)) }
+        ensures { result ≡ option_map items_len (as_items (document_tree T.text_of self.now)) }
     {
         match self {
             Document::Array(items) => Some(items.len()),
@@ -27,7 +27,7 @@ impl<T: KeyText> Document<T> {
 }
 
 impl<T: KeyText + Drop> Document<T> {
-    ghost use Rattle.sj_document.specs.Document.{tree, why_of};
+    ghost use Rattle.sj_document.specs.Document.{document_tree, edit_fault};
     ghost use Rattle.sj_document.specs.Items.{with_item_at, without_item_at};
 
     /// Inserts an item at that position, counted from 0: in front of the item that stands there, or
@@ -38,12 +38,12 @@ impl<T: KeyText + Drop> Document<T> {
         index: usize,
         value: Document<T>,
     ) -> Result<(), Refused<AccessError, Document<T>>>
-        requires { ForSome (option_map items_len (as_items (tree T.text_of self.old))) (λ len. index ≤ len) }
-        ensures after { OnOk result (tree T.text_of self.new ≡ with_item_at index (tree T.text_of value) (tree T.text_of self.old)) }
-        ensures refused { OnErr result (tree T.text_of self.new ≡ tree T.text_of self.old) }
+        requires { ForSome (option_map items_len (as_items (document_tree T.text_of self.old))) (λ len. index ≤ len) }
+        ensures after { OnOk result (document_tree T.text_of self.new ≡ with_item_at index (document_tree T.text_of value) (document_tree T.text_of self.old)) }
+        ensures refused { OnErr result (document_tree T.text_of self.new ≡ document_tree T.text_of self.old) }
         ensures returned { IfErr result (λ r. r.value ≡ value) }
-        ensures kind { IfErr result (λ r. r.why ≡ why_of AccessError.NotAnArray (as_items (tree T.text_of self.old))) }
-        ensures array { OnOk result (IsSome (as_items (tree T.text_of self.old))) }
+        ensures kind { IfErr result (λ r. r.why ≡ edit_fault AccessError.NotAnArray (as_items (document_tree T.text_of self.old))) }
+        ensures array { OnOk result (IsSome (as_items (document_tree T.text_of self.old))) }
     {
         match self {
             Document::Array(items) => match items.insert(index, value) {
@@ -64,11 +64,11 @@ impl<T: KeyText + Drop> Document<T> {
     /// up. Past the last it answers None, and the document is as it was. It is refused on a non-array
     /// alone.
     pub fn remove_idx(&mut self, index: usize) -> Result<Option<Document<T>>, AccessError>
-        ensures answer { IfOk result (λ before. option_map (tree T.text_of) before ≡ nth index (tree T.text_of self.old)) }
-        ensures after { tree T.text_of self.new ≡ without_item_at index (tree T.text_of self.old) }
-        ensures refused { OnErr result (tree T.text_of self.new ≡ tree T.text_of self.old) }
-        ensures kind { IfErr result (λ e. (e ≡ AccessError.NotAnArray) × (as_items (tree T.text_of self.old) ≡ None)) }
-        ensures array { OnOk result (IsSome (as_items (tree T.text_of self.old))) }
+        ensures answer { IfOk result (λ before. option_map (document_tree T.text_of) before ≡ nth index (document_tree T.text_of self.old)) }
+        ensures after { document_tree T.text_of self.new ≡ without_item_at index (document_tree T.text_of self.old) }
+        ensures refused { OnErr result (document_tree T.text_of self.new ≡ document_tree T.text_of self.old) }
+        ensures kind { IfErr result (λ e. (e ≡ AccessError.NotAnArray) × (as_items (document_tree T.text_of self.old) ≡ None)) }
+        ensures array { OnOk result (IsSome (as_items (document_tree T.text_of self.old))) }
     {
         match self {
             Document::Array(items) => Ok(take_out(items, index)),
@@ -79,8 +79,8 @@ impl<T: KeyText + Drop> Document<T> {
 
 /// Takes the item at that position out; None past the last.
 fn take_out<T: KeyText>(items: &mut Vec<Document<T>>, index: usize) -> Option<Document<T>>
-    ensures answer { option_map (tree T.text_of) result ≡ nth_item index (items_from (map (tree T.text_of) items.old.items)) }
-    ensures after { items_from (map (tree T.text_of) items.new.items) ≡ remove_at index (items_from (map (tree T.text_of) items.old.items)) }
+    ensures answer { option_map (document_tree T.text_of) result ≡ nth_item index (items_from (map (document_tree T.text_of) items.old.items)) }
+    ensures after { items_from (map (document_tree T.text_of) items.new.items) ≡ remove_at index (items_from (map (document_tree T.text_of) items.old.items)) }
 {
     if index < items.len() {
         Some(items.remove(index))

@@ -86,13 +86,13 @@ impl<V> LendItem for Vec<V> {
 impl<T: KeyText> LendMember for Document<T> {
     type Output = Document<T>;
 
-    ghost use Rattle.sj_document.specs.Document.{tree};
+    ghost use Rattle.sj_document.specs.Document.{document_tree};
 
-    ghost finds_member = { λ d k v. option_map (tree T.text_of) v ≡ find k (tree T.text_of d) };
+    ghost finds_member = { λ d k v. option_map (document_tree T.text_of) v ≡ find k (document_tree T.text_of d) };
 
-    ghost writes_member = { λ d k w n. tree T.text_of n ≡ set_found (by_key k) (tree T.text_of w) (tree T.text_of d) };
+    ghost writes_member = { λ d k w n. document_tree T.text_of n ≡ set_found (by_key k) (document_tree T.text_of w) (document_tree T.text_of d) };
 
-    ghost keeps_members = { λ d n. tree T.text_of n ≡ tree T.text_of d };
+    ghost keeps_members = { λ d n. document_tree T.text_of n ≡ document_tree T.text_of d };
 
     fn member_mut(&mut self, key: &str) -> Option<&mut Document<T>> {
         self.get_mut(key)
@@ -102,13 +102,13 @@ impl<T: KeyText> LendMember for Document<T> {
 impl<T: KeyText> LendItem for Document<T> {
     type Output = Document<T>;
 
-    ghost use Rattle.sj_document.specs.Document.{tree};
+    ghost use Rattle.sj_document.specs.Document.{document_tree};
 
-    ghost finds_item = { λ d i v. option_map (tree T.text_of) v ≡ nth i (tree T.text_of d) };
+    ghost finds_item = { λ d i v. option_map (document_tree T.text_of) v ≡ nth i (document_tree T.text_of d) };
 
-    ghost writes_item = { λ d i w n. tree T.text_of n ≡ set_found (by_place i) (tree T.text_of w) (tree T.text_of d) };
+    ghost writes_item = { λ d i w n. document_tree T.text_of n ≡ set_found (by_place i) (document_tree T.text_of w) (document_tree T.text_of d) };
 
-    ghost keeps_items = { λ d n. tree T.text_of n ≡ tree T.text_of d };
+    ghost keeps_items = { λ d n. document_tree T.text_of n ≡ document_tree T.text_of d };
 
     fn item_mut(&mut self, index: usize) -> Option<&mut Document<T>> {
         self.get_idx_mut(index)

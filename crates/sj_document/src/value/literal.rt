@@ -8,14 +8,14 @@ use sj_object::{KeyOf, KeyText, MapOf, ObjectHasher};
 use std::alloc::{AllocError, Global};
 
 impl<T: KeyText + Drop> Document<T> {
-    ghost use Rattle.sj_document.specs.Document.{tree, put_pairs};
+    ghost use Rattle.sj_document.specs.Document.{document_tree, put_pairs};
 
     /// A text: a copy where the document owns its texts, and the text itself where it lends them. It
     /// is refused only for want of memory, which a lent one does not ask for.
     pub fn text<'t>(alloc: Global, string: &'t str) -> Result<Self, AllocError>
     where
         T: KeyOf<'t>,
-        ensures { IfOk result (λ d. tree T.text_of d ≡ text_tree string.now) }
+        ensures { IfOk result (λ d. document_tree T.text_of d ≡ text_tree string.now) }
     {
         Ok(Document::String(T::of(alloc, string)?))
     }
@@ -26,7 +26,7 @@ impl<T: KeyText + Drop> Document<T> {
         alloc: Global,
         values: [Document<T>; N],
     ) -> Result<Self, AllocError>
-        ensures { IfOk result (λ d. tree T.text_of d ≡ list (items_from (map (tree T.text_of) values))) }
+        ensures { IfOk result (λ d. document_tree T.text_of d ≡ list (items_from (map (document_tree T.text_of) values))) }
     {
         let items = Vec::from_array(alloc, values)?;
         Ok(Document::Array(Box::new(alloc, items)?))
@@ -40,7 +40,7 @@ impl<T: KeyText + Drop> Document<T> {
     ) -> Result<Self, AllocError>
     where
         T: KeyOf<'t>,
-        ensures { IfOk result (λ d. tree T.text_of d ≡ obj (put_pairs (λ k. k.now) (tree T.text_of) no_members pairs.entry.items)) }
+        ensures { IfOk result (λ d. document_tree T.text_of d ≡ obj (put_pairs (λ k. k.now) (document_tree T.text_of) no_members pairs.entry.items)) }
     {
         let mut members = Object::with_capacity_and_hasher(
             alloc,

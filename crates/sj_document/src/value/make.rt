@@ -6,9 +6,9 @@ ghost use Rattle.std.specs.List.Sorted.{IsPermutation};
 ghost use Rattle.std.specs.String.{string_cmp};
 ghost use Rattle.sj_text_core.specs.Tree.{text, obj, no_members};
 ghost use Rattle.sj_object.specs.Members.{entry_members};
-ghost use Rattle.sj_document.specs.Document.{tree, put_pairs};
+ghost use Rattle.sj_document.specs.Document.{document_tree, put_pairs};
 ghost use Rattle.sj_document.specs.SameWith.{SameEach};
-ghost use Rattle.sj_document.specs.Makes.{IsArrayOf, IsInByteOrder, IsOrdered};
+ghost use Rattle.sj_document.specs.Makes.{IsArrayOf, IsInByteOrder, IsObjectInByteOrder};
 
 use crate::value::convert::{TextFrom, convert};
 use crate::value::{BorrowedValue, Document, Object, OwnedValue};
@@ -22,7 +22,7 @@ use std::hash::BuildHasher;
 
 /// An object of the members.
 impl<T: KeyText + Drop> TryMake<Object<T>> for Document<T> {
-    ghost makes = { λ m v. tree T.text_of v ≡ obj (entry_members (tree T.text_of) m.entries) };
+    ghost makes = { λ m v. document_tree T.text_of v ≡ obj (entry_members (document_tree T.text_of) m.entries) };
 
     fn try_make(alloc: Global, members: Object<T>) -> Result<Self, AllocError> {
         Ok(Document::Object(Box::new(alloc, members)?))
@@ -31,7 +31,7 @@ impl<T: KeyText + Drop> TryMake<Object<T>> for Document<T> {
 
 /// An array of what each value becomes, in order.
 impl<T: KeyText + Drop, X: Into<Document<T>> + Drop> TryMake<Vec<X>> for Document<T> {
-    ghost makes = { λ xs v. IsArrayOf T.text_of X.converts xs.items (tree T.text_of v) };
+    ghost makes = { λ xs v. IsArrayOf T.text_of X.converts xs.items (document_tree T.text_of v) };
 
     fn try_make(alloc: Global, values: Vec<X>) -> Result<Self, AllocError> {
         let items = all_into(alloc, values)?;
@@ -55,7 +55,7 @@ fn all_into<T: KeyText + Drop, X: Into<Document<T>> + Drop>(
 
 /// An object of the map's pairs, in the byte order of their keys.
 impl<S: BuildHasher + Drop> TryMake<collections::HashMap<String, OwnedValue, S>> for OwnedValue {
-    ghost makes = { λ m v. IsOrdered m.entries (tree string_bytes v) };
+    ghost makes = { λ m v. IsObjectInByteOrder m.entries (document_tree string_bytes v) };
 
     fn try_make(
         alloc: Global,
@@ -93,7 +93,7 @@ fn put_all<T: KeyText + Drop>(
     alloc: Global,
     pairs: Vec<(T, Document<T>)>,
 ) -> Result<Object<T>, AllocError>
-    ensures { IfOk result (λ m. entry_members (tree T.text_of) m.entries ≡ put_pairs T.text_of (tree T.text_of) no_members pairs.items) }
+    ensures { IfOk result (λ m. entry_members (document_tree T.text_of) m.entries ≡ put_pairs T.text_of (document_tree T.text_of) no_members pairs.items) }
 {
     let mut members = Object::with_capacity_and_hasher(
         alloc,
@@ -108,7 +108,7 @@ fn put_all<T: KeyText + Drop>(
 
 /// A copy of the text.
 impl<'s> TryMake<&'s str> for OwnedValue {
-    ghost makes = { λ s v. tree string_bytes v ≡ text s.now };
+    ghost makes = { λ s v. document_tree string_bytes v ≡ text s.now };
 
     fn try_make(alloc: Global, string: &'s str) -> Result<Self, AllocError> {
         Ok(Document::String(String::from_str(alloc, string)?))
@@ -117,7 +117,7 @@ impl<'s> TryMake<&'s str> for OwnedValue {
 
 /// A copy of the text.
 impl<'s> TryMake<&'s String> for OwnedValue {
-    ghost makes = { λ s v. tree string_bytes v ≡ text (string_bytes s.now) };
+    ghost makes = { λ s v. document_tree string_bytes v ≡ text (string_bytes s.now) };
 
     fn try_make(alloc: Global, string: &'s String) -> Result<Self, AllocError> {
         Ok(Document::String(String::from_str(alloc, string.as_str())?))
@@ -126,7 +126,7 @@ impl<'s> TryMake<&'s String> for OwnedValue {
 
 /// The text, copied where it is lent.
 impl<'s> TryMake<CowStr<'s>> for OwnedValue {
-    ghost makes = { λ s v. tree string_bytes v ≡ text (cow_str_bytes s) };
+    ghost makes = { λ s v. document_tree string_bytes v ≡ text (cow_str_bytes s) };
 
     fn try_make(alloc: Global, string: CowStr<'s>) -> Result<Self, AllocError> {
         Ok(Document::String(String::text_from(alloc, string)?))
@@ -135,7 +135,7 @@ impl<'s> TryMake<CowStr<'s>> for OwnedValue {
 
 /// The same document with each text owned: a lent one is copied, an owned one is moved.
 impl<'v> TryMake<BorrowedValue<'v>> for OwnedValue {
-    ghost makes = { λ b v. tree string_bytes v ≡ tree cow_str_bytes b };
+    ghost makes = { λ b v. document_tree string_bytes v ≡ document_tree cow_str_bytes b };
 
     fn try_make(alloc: Global, value: BorrowedValue<'v>) -> Result<Self, AllocError> {
         convert(alloc, value)
@@ -144,7 +144,7 @@ impl<'v> TryMake<BorrowedValue<'v>> for OwnedValue {
 
 /// The same document, with its texts moved.
 impl<'v> TryMake<OwnedValue> for BorrowedValue<'v> {
-    ghost makes = { λ o v. tree cow_str_bytes v ≡ tree string_bytes o };
+    ghost makes = { λ o v. document_tree cow_str_bytes v ≡ document_tree string_bytes o };
 
     fn try_make(alloc: Global, value: OwnedValue) -> Result<Self, AllocError> {
         convert(alloc, value)
@@ -154,14 +154,14 @@ impl<'v> TryMake<OwnedValue> for BorrowedValue<'v> {
 impl<'v> BorrowedValue<'v> {
     /// The same document with each text owned: a lent one is copied, an owned one is moved.
     pub fn into_static(self, alloc: Global) -> Result<BorrowedValue<'static>, AllocError>
-        ensures { IfOk result (λ v. tree cow_str_bytes v ≡ tree cow_str_bytes self.entry) }
+        ensures { IfOk result (λ v. document_tree cow_str_bytes v ≡ document_tree cow_str_bytes self.entry) }
     {
         convert(alloc, self)
     }
 
     /// A copy of the document with each text owned.
     pub fn clone_static(&self, alloc: Global) -> Result<BorrowedValue<'static>, AllocError>
-        ensures { IfOk result (λ v. tree cow_str_bytes v ≡ tree cow_str_bytes self.now) }
+        ensures { IfOk result (λ v. document_tree cow_str_bytes v ≡ document_tree cow_str_bytes self.now) }
     {
         self.clone()?.into_static(alloc)
     }
@@ -179,7 +179,7 @@ impl<T: KeyText + Drop> Document<T> {
     ) -> Result<Document<T>, AllocError>
         requires can { I.can_next items }
         requires ends { IsFinite (I.remaining items) }
-        ensures { IfOk result (λ d. (xs : List (Document T)) × Drains I.next_gives items xs × (tree T.text_of d ≡ list (items_from (map (tree T.text_of) xs)))) }
+        ensures { IfOk result (λ d. (xs : List (Document T)) × Drains I.next_gives items xs × (document_tree T.text_of d ≡ list (items_from (map (document_tree T.text_of) xs)))) }
     {
         let mut all = Vec::new(alloc);
         for item in items {
@@ -196,7 +196,7 @@ impl<T: KeyText + Drop> Document<T> {
     ) -> Result<Document<T>, AllocError>
         requires can { I.can_next pairs }
         requires ends { IsFinite (I.remaining pairs) }
-        ensures { IfOk result (λ d. (xs : List (T × Document T)) × Drains I.next_gives pairs xs × (tree T.text_of d ≡ obj (put_pairs T.text_of (tree T.text_of) no_members xs))) }
+        ensures { IfOk result (λ d. (xs : List (T × Document T)) × Drains I.next_gives pairs xs × (document_tree T.text_of d ≡ obj (put_pairs T.text_of (document_tree T.text_of) no_members xs))) }
     {
         let mut members = Object::with_capacity_and_hasher(alloc, 0, ObjectHasher::default())?;
         for (key, value) in pairs {

@@ -6,7 +6,7 @@
 ghost use Rattle.std.specs.Prelude.{◌≡◌, ◌≤◌, Some, None, IfOk, IfErr, length, map, string_bytes};
 ghost use Rattle.sj_text_core.specs.Paths.{Step, by_key, tree_at, set_at};
 ghost use Rattle.sj_document.specs.declared.value.Document.{Document as DocumentOf};
-ghost use Rattle.sj_document.specs.Document.{tree};
+ghost use Rattle.sj_document.specs.Document.{document_tree};
 ghost use Rattle.sj_document.specs.Descents.{Exchanged};
 ghost use Rattle.sj_document.specs.inner.Descents.{plug, IsSpine, Descended};
 
@@ -28,7 +28,7 @@ pub trait Leads<S> {
         value: &mut Document<T>,
         other: Document<T>,
     ) -> Result<Document<T>, Document<T>>
-        ensures { Exchanged T.text_of (step_of step.now) other (tree T.text_of value.old) (tree T.text_of value.new) result };
+        ensures { Exchanged T.text_of (step_of step.now) other (document_tree T.text_of value.old) (document_tree T.text_of value.new) result };
 }
 
 /// Steps that are keys.
@@ -42,7 +42,7 @@ impl Leads<String> for ByKey {
         value: &mut Document<T>,
         other: Document<T>,
     ) -> Result<Document<T>, Document<T>>
-        ensures { Exchanged T.text_of (by_key (string_bytes step.now)) other (tree T.text_of value.old) (tree T.text_of value.new) result }
+        ensures { Exchanged T.text_of (by_key (string_bytes step.now)) other (document_tree T.text_of value.old) (document_tree T.text_of value.new) result }
     {
         swap_member(value, step.as_str(), other)
     }
@@ -54,7 +54,7 @@ fn descend<W: Leads<S>, S, T: KeyText + Drop>(
     value: &mut Document<T>,
     path: &[S],
 ) -> (Document<T>, usize)
-    ensures { Descended (map W.step_of path.now) (tree T.text_of value.old) (tree T.text_of value.new) (tree T.text_of result.0) result.1 }
+    ensures { Descended (map W.step_of path.now) (document_tree T.text_of value.old) (document_tree T.text_of value.new) (document_tree T.text_of result.0) result.1 }
 {
     let mut up = Document::null();
     let mut depth = 0;
@@ -79,8 +79,8 @@ fn climb<W: Leads<S>, S, T: KeyText + Drop>(
     up: Document<T>,
 )
     requires within { depth ≤ length path.now }
-    requires spine { IsSpine (map W.step_of path.now) depth (tree T.text_of up) }
-    ensures { tree T.text_of value.new ≡ plug (map W.step_of path.now) depth (tree T.text_of up) (tree T.text_of value.old) }
+    requires spine { IsSpine (map W.step_of path.now) depth (document_tree T.text_of up) }
+    ensures { document_tree T.text_of value.new ≡ plug (map W.step_of path.now) depth (document_tree T.text_of up) (document_tree T.text_of value.old) }
 {
     let mut up = up;
     let mut left = depth;
@@ -101,8 +101,8 @@ pub fn update_at<W: Leads<S>, S, T: KeyText + Drop, C: Change<Document<T>>>(
     path: &[S],
     change: C,
 ) -> Result<C::Answer, C>
-    ensures changed { IfOk result (λ answer. (v : DocumentOf T) × (w : DocumentOf T) × (tree_at (map W.step_of path.now) (tree T.text_of value.old) ≡ Some (tree T.text_of v)) × C.makes change v w answer × (tree T.text_of value.new ≡ set_at (map W.step_of path.now) (tree T.text_of w) (tree T.text_of value.old))) }
-    ensures absent { IfErr result (λ back. (back ≡ change) × (tree_at (map W.step_of path.now) (tree T.text_of value.old) ≡ None) × (tree T.text_of value.new ≡ tree T.text_of value.old)) }
+    ensures changed { IfOk result (λ answer. (v : DocumentOf T) × (w : DocumentOf T) × (tree_at (map W.step_of path.now) (document_tree T.text_of value.old) ≡ Some (document_tree T.text_of v)) × C.makes change v w answer × (document_tree T.text_of value.new ≡ set_at (map W.step_of path.now) (document_tree T.text_of w) (document_tree T.text_of value.old))) }
+    ensures absent { IfErr result (λ back. (back ≡ change) × (tree_at (map W.step_of path.now) (document_tree T.text_of value.old) ≡ None) × (document_tree T.text_of value.new ≡ document_tree T.text_of value.old)) }
 {
     let (up, depth) = descend::<W, S, T>(value, path);
     if depth < path.len() {
@@ -116,7 +116,7 @@ pub fn update_at<W: Leads<S>, S, T: KeyText + Drop, C: Change<Document<T>>>(
 
 /// Puts `new` in the place of what stands at the path of keys, if anything does.
 pub fn replace_at<T: KeyText + Drop>(value: &mut Document<T>, path: &[String], new: Document<T>)
-    ensures { tree T.text_of value.new ≡ set_at (map (λ s. by_key (string_bytes s)) path.now) (tree T.text_of new) (tree T.text_of value.old) }
+    ensures { document_tree T.text_of value.new ≡ set_at (map (λ s. by_key (string_bytes s)) path.now) (document_tree T.text_of new) (document_tree T.text_of value.old) }
 {
     let _ = update_at::<ByKey, String, T, Replace<Document<T>>>(
         value,

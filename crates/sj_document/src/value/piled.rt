@@ -5,8 +5,8 @@ ghost use Rattle.std.specs.Prelude.{◌≡◌, ◌+◌, ◌*◌, ◌<◌, ℕ, L
 ghost use Rattle.std.specs.Iterator.{YieldsFirstBy};
 ghost use Rattle.sj_text_core.specs.Tree.{Tree};
 ghost use Rattle.sj_print.specs.inner.Piles.{weight};
-ghost use Rattle.sj_document.specs.Document.{tree};
-ghost use Rattle.sj_document.specs.inner.Piled.{Begins, GoesOn, items_tree, members_tree, items_left_weight, members_left_weight, with_part, waiting_weight, whole_of, left};
+ghost use Rattle.sj_document.specs.Document.{document_tree};
+ghost use Rattle.sj_document.specs.inner.Piled.{Begins, StepsOn, items_tree, members_tree, items_left_weight, members_left_weight, with_part, waiting_weight, whole_of, waiting_left};
 
 use crate::value::{Document, Object};
 use sj_object::{HashMap, KeyText, MapOf, ObjectHasher};
@@ -78,7 +78,7 @@ pub(crate) fn make_piled<S: Source<T>, T: KeyText + Drop>(
     source: S,
     alloc: Global,
 ) -> Result<Document<T>, AllocError>
-    ensures { IfOk result (λ v. tree T.text_of v ≡ S.tree_of source) }
+    ensures { IfOk result (λ v. document_tree T.text_of v ≡ S.tree_of source) }
 {
     let mut pile = Vec::new(alloc);
     let mut made = down::<S, T>(source, &mut pile, alloc)?;
@@ -94,8 +94,8 @@ fn down<S: Source<T>, T: KeyText + Drop>(
     pile: &mut Vec<Waiting<S::Items, S::Members, T>>,
     alloc: Global,
 ) -> Result<Document<T>, AllocError>
-    ensures same { IfOk result (λ v. whole_of T.text_of S.items_left S.members_left pile.new.items (tree T.text_of v) ≡ whole_of T.text_of S.items_left S.members_left pile.old.items (S.tree_of source)) }
-    ensures less { IfOk result (λ v. 1 + 2 * left T.text_of S.items_left S.members_left pile.new.items < 2 * weight (S.tree_of source) + 2 * left T.text_of S.items_left S.members_left pile.old.items) }
+    ensures same { IfOk result (λ v. whole_of T.text_of S.items_left S.members_left pile.new.items (document_tree T.text_of v) ≡ whole_of T.text_of S.items_left S.members_left pile.old.items (S.tree_of source)) }
+    ensures less { IfOk result (λ v. 1 + 2 * waiting_left T.text_of S.items_left S.members_left pile.new.items < 2 * weight (S.tree_of source) + 2 * waiting_left T.text_of S.items_left S.members_left pile.old.items) }
 {
     let mut at = source;
     loop {
@@ -112,7 +112,7 @@ fn into_part<S: Source<T>, T: KeyText + Drop>(
     pile: &mut Vec<Waiting<S::Items, S::Members, T>>,
     alloc: Global,
 ) -> Result<Next<S, T>, AllocError>
-    ensures { IfOk result (λ n. GoesOn T.text_of S.items_left S.members_left S.tree_of pile.old.items (S.tree_of source) (2 * weight (S.tree_of source)) n pile.new.items) }
+    ensures { IfOk result (λ n. StepsOn T.text_of S.items_left S.members_left S.tree_of pile.old.items (S.tree_of source) (2 * weight (S.tree_of source)) n pile.new.items) }
 {
     match source.begin(alloc)? {
         Begun::Leaf(made) => Ok(Next::Made(made)),
@@ -134,8 +134,8 @@ fn further<S: Source<T>, T: KeyText + Drop>(
     pile: &mut Vec<Waiting<S::Items, S::Members, T>>,
     alloc: Global,
 ) -> Result<Document<T>, AllocError>
-    ensures same { IfOk result (λ v. whole_of T.text_of S.items_left S.members_left pile.new.items (tree T.text_of v) ≡ whole_of T.text_of S.items_left S.members_left pile.old.items (with_part T.text_of S.items_left S.members_left waiting (tree T.text_of part))) }
-    ensures less { IfOk result (λ v. left T.text_of S.items_left S.members_left pile.new.items < waiting_weight T.text_of S.items_left S.members_left waiting + left T.text_of S.items_left S.members_left pile.old.items) }
+    ensures same { IfOk result (λ v. whole_of T.text_of S.items_left S.members_left pile.new.items (document_tree T.text_of v) ≡ whole_of T.text_of S.items_left S.members_left pile.old.items (with_part T.text_of S.items_left S.members_left waiting (document_tree T.text_of part))) }
+    ensures less { IfOk result (λ v. waiting_left T.text_of S.items_left S.members_left pile.new.items < waiting_weight T.text_of S.items_left S.members_left waiting + waiting_left T.text_of S.items_left S.members_left pile.old.items) }
 {
     match after_part::<S, T>(waiting, part, pile, alloc)? {
         Next::Part(next) => down::<S, T>(next, pile, alloc),
@@ -150,7 +150,7 @@ fn after_part<S: Source<T>, T: KeyText + Drop>(
     pile: &mut Vec<Waiting<S::Items, S::Members, T>>,
     alloc: Global,
 ) -> Result<Next<S, T>, AllocError>
-    ensures { IfOk result (λ n. GoesOn T.text_of S.items_left S.members_left S.tree_of pile.old.items (with_part T.text_of S.items_left S.members_left waiting (tree T.text_of part)) (1 + 2 * waiting_weight T.text_of S.items_left S.members_left waiting) n pile.new.items) }
+    ensures { IfOk result (λ n. StepsOn T.text_of S.items_left S.members_left S.tree_of pile.old.items (with_part T.text_of S.items_left S.members_left waiting (document_tree T.text_of part)) (1 + 2 * waiting_weight T.text_of S.items_left S.members_left waiting) n pile.new.items) }
 {
     match waiting {
         Waiting::Items(mut made, ahead) => {
@@ -171,7 +171,7 @@ fn on_items<S: Source<T>, T: KeyText + Drop>(
     pile: &mut Vec<Waiting<S::Items, S::Members, T>>,
     alloc: Global,
 ) -> Result<Next<S, T>, AllocError>
-    ensures { IfOk result (λ n. GoesOn T.text_of S.items_left S.members_left S.tree_of pile.old.items (items_tree T.text_of S.items_left S.members_left made.items ahead) (3 + 2 * items_left_weight T.text_of S.items_left S.members_left ahead) n pile.new.items) }
+    ensures { IfOk result (λ n. StepsOn T.text_of S.items_left S.members_left S.tree_of pile.old.items (items_tree T.text_of S.items_left S.members_left made.items ahead) (3 + 2 * items_left_weight T.text_of S.items_left S.members_left ahead) n pile.new.items) }
 {
     match S::next_item(&mut ahead) {
         Some(part) => {
@@ -190,7 +190,7 @@ fn on_members<S: Source<T>, T: KeyText + Drop>(
     pile: &mut Vec<Waiting<S::Items, S::Members, T>>,
     alloc: Global,
 ) -> Result<Next<S, T>, AllocError>
-    ensures { IfOk result (λ n. GoesOn T.text_of S.items_left S.members_left S.tree_of pile.old.items (members_tree T.text_of S.items_left S.members_left made.entries ahead) (3 + 2 * members_left_weight T.text_of S.items_left S.members_left ahead) n pile.new.items) }
+    ensures { IfOk result (λ n. StepsOn T.text_of S.items_left S.members_left S.tree_of pile.old.items (members_tree T.text_of S.items_left S.members_left made.entries ahead) (3 + 2 * members_left_weight T.text_of S.items_left S.members_left ahead) n pile.new.items) }
 {
     match S::next_member(&mut ahead, alloc)? {
         Some((key, part)) => {

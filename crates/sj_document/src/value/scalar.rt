@@ -5,9 +5,9 @@ use sj_object::KeyText;
 use sj_text_core::{Meaning, TypedValue, ValueAsScalar, ValueType};
 
 impl<T: KeyText> Meaning for Document<T> {
-    ghost use Rattle.sj_document.specs.Document.{tree as tree_of_document};
+    ghost use Rattle.sj_document.specs.Document.{document_tree};
 
-    ghost tree = { tree_of_document T.text_of };
+    ghost tree = { document_tree T.text_of };
 }
 
 impl<T: KeyText> TypedValue for Document<T> {

@@ -2,7 +2,7 @@
 
 ghost use Rattle.std.specs.Prelude.{Some};
 ghost use Rattle.sj_tape.specs.Value.{displayed};
-ghost use Rattle.sj_document.specs.Document.{tree};
+ghost use Rattle.sj_document.specs.Document.{document_tree};
 
 use crate::value::Document;
 use sj_object::KeyText;
@@ -21,11 +21,11 @@ impl<'a, T: KeyText> Parts for &'a Document<T> {
     ghost use Rattle.std.specs.Prelude.{map};
     ghost use Rattle.std.specs.Slice.Iter.{iter_rest};
 
-    ghost tree_of = { λ v. tree T.text_of v.now };
+    ghost tree_of = { λ v. document_tree T.text_of v.now };
 
-    ghost items_left = { λ it. map (tree T.text_of) (iter_rest it) };
+    ghost items_left = { λ it. map (document_tree T.text_of) (iter_rest it) };
 
-    ghost members_left = { λ it. map (λ p. (T.text_of p.0, tree T.text_of p.1)) it };
+    ghost members_left = { λ it. map (λ p. (T.text_of p.0, document_tree T.text_of p.1)) it };
 
     ghost key_of = { λ k. T.text_of k.now };
 
@@ -78,7 +78,7 @@ impl<T: KeyText> Writable for Document<T> {
 /// where the formatter refuses. Memory is asked for past 128 levels alone, and a refusal of it shows
 /// in no answer.
 impl<T: KeyText> fmt::Display for Document<T> {
-    ghost output = { λ v. Some (displayed (tree T.text_of v)) };
+    ghost output = { λ v. Some (displayed (document_tree T.text_of v)) };
 
     fn fmt<W: fmt::Write>(&self, f: &mut fmt::Formatter<W>) -> fmt::Result {
         match self {

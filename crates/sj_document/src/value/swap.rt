@@ -3,7 +3,7 @@
 ghost use Rattle.std.specs.Prelude.{◌≡◌};
 ghost use Rattle.sj_text_core.specs.Places.{place_of};
 ghost use Rattle.sj_text_core.specs.Paths.{by_key, by_place, by_token};
-ghost use Rattle.sj_document.specs.Document.{tree};
+ghost use Rattle.sj_document.specs.Document.{document_tree};
 ghost use Rattle.sj_document.specs.Descents.{Exchanged};
 
 use crate::value::Document;
@@ -17,7 +17,7 @@ pub fn swap_member<T: KeyText>(
     key: &str,
     other: Document<T>,
 ) -> Result<Document<T>, Document<T>>
-    ensures { Exchanged T.text_of (by_key key.now) other (tree T.text_of value.old) (tree T.text_of value.new) result }
+    ensures { Exchanged T.text_of (by_key key.now) other (document_tree T.text_of value.old) (document_tree T.text_of value.new) result }
 {
     match value {
         Document::Object(members) => match members.get_mut(key) {
@@ -35,7 +35,7 @@ pub fn swap_item<T: KeyText>(
     place: usize,
     other: Document<T>,
 ) -> Result<Document<T>, Document<T>>
-    ensures { Exchanged T.text_of (by_place place) other (tree T.text_of value.old) (tree T.text_of value.new) result }
+    ensures { Exchanged T.text_of (by_place place) other (document_tree T.text_of value.old) (document_tree T.text_of value.new) result }
 {
     match value {
         Document::Array(items) => {
@@ -58,7 +58,7 @@ pub fn swap_token<T: KeyText>(
     other: Document<T>,
 ) -> Result<Document<T>, Document<T>>
     requires { place ≡ place_of token.now }
-    ensures { Exchanged T.text_of (by_token token.now) other (tree T.text_of value.old) (tree T.text_of value.new) result }
+    ensures { Exchanged T.text_of (by_token token.now) other (document_tree T.text_of value.old) (document_tree T.text_of value.new) result }
 {
     if !matches!(value, Document::Array(_)) {
         return swap_member(value, token, other);

@@ -98,12 +98,12 @@ fn further<P: Parts>(
 }
 
 impl<T: KeyText> Document<T> {
-    ghost use Rattle.sj_document.specs.Document.{tree};
+    ghost use Rattle.sj_document.specs.Document.{document_tree};
 
     /// Whether at most so many arrays and objects stand inside one another. It takes a stack of one
     /// size, and memory for as many levels as are open at once. It is refused only for want of that.
     pub fn is_within_depth(&self, levels: usize, alloc: Global) -> Result<bool, AllocError>
-        ensures { IfOk result (λ is. IsTrue is ↔ (depth (tree T.text_of self.now) ≤ levels)) }
+        ensures { IfOk result (λ is. IsTrue is ↔ (depth (document_tree T.text_of self.now) ≤ levels)) }
     {
         is_within_depth(&self, levels, alloc)
     }

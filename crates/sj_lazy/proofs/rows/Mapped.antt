@@ -3,7 +3,7 @@ use Rattle.std.proofs.Common.{◌≡◌, ℕ, List, [], ◌∷◌, pos, refl, co
 use Rattle.sj_text_core.specs.Tree.{u64, Tree, Members, int, no_members, member}
 use Rattle.sj_text_core.specs.declared.repeats.Repeats.{Repeats}
 use Rattle.sj_text_core.specs.declared.repeats.Repeats.TheVariants.{First, Last}
-use Rattle.sj_lazy.specs.SameMap.{SameMap, counted}
+use Rattle.sj_lazy.specs.SameMap.{SameAsMap, counted}
 use Rattle.sj_lazy.specs.inner.SameMap.{EachFound}
 use Rattle.sj_lazy.specs.inner.SameMap.{HasKeys}
 
@@ -44,5 +44,5 @@ one_more : HasKeys text (codes "a" ∷ codes "b" ∷ []) a1 → ⊥
 one_more h = true≢false (sym (h (codes "b") refl))
 
 -- anything but an object is no map
-no_object : SameMap Is text First None a1 → ⊥
+no_object : SameAsMap Is text First None a1 → ⊥
 no_object h = h

@@ -6,7 +6,7 @@ ghost use Rattle.std.specs.Cow.{cow_str_bytes};
 ghost use Rattle.std.specs.Result.{result_map_both};
 ghost use Rattle.sj_text_core.specs.Find.{nth, nth_item};
 ghost use Rattle.sj_text_core.specs.Reads.{kind_of, as_items, as_members, read_as, found_in};
-ghost use Rattle.sj_document.specs.Document.{tree as document_tree};
+ghost use Rattle.sj_document.specs.Document.{document_tree};
 
 use super::{Lazy, Shared, Value, ValueCow};
 use crate::array::Array;
@@ -29,14 +29,14 @@ impl<'b, 'i> ValueCow<'b, 'i> {
 }
 
 impl<'b, 't, 'i> Value<'b, 't, 'i> {
-    ghost use Rattle.sj_lazy.specs.Value.{tree, choice, form, part_form, found};
-    ghost use Rattle.sj_lazy.specs.Array.{items, array_choice, item_form};
-    ghost use Rattle.sj_lazy.specs.Object.{members, object_choice, value_form};
+    ghost use Rattle.sj_lazy.specs.Value.{value_tree, value_choice, form, part_form, value_found};
+    ghost use Rattle.sj_lazy.specs.Array.{lazy_items, lazy_array_choice, item_form};
+    ghost use Rattle.sj_lazy.specs.Object.{lazy_members, lazy_object_choice, value_form};
 
     /// The value of the key; None where there is none, and on a non-object.
     pub fn get(&self, key: &str) -> Option<Value<'_, 't, 'i>>
-        ensures value { option_map tree result ≡ found self.now key.now }
-        ensures choice { IfSome result (λ v. choice v ≡ choice self.now) }
+        ensures value { option_map value_tree result ≡ value_found self.now key.now }
+        ensures choice { IfSome result (λ v. value_choice v ≡ value_choice self.now) }
         ensures form { IfSome result (λ v. form v ≡ part_form self.now) }
     {
         match self {
@@ -47,8 +47,8 @@ impl<'b, 't, 'i> Value<'b, 't, 'i> {
 
     /// The item at that position, counted from 0; None past the last, and on a non-array.
     pub fn get_idx(&self, index: usize) -> Option<Value<'_, 't, 'i>>
-        ensures value { option_map tree result ≡ nth index (tree self.now) }
-        ensures choice { IfSome result (λ v. choice v ≡ choice self.now) }
+        ensures value { option_map value_tree result ≡ nth index (value_tree self.now) }
+        ensures choice { IfSome result (λ v. value_choice v ≡ value_choice self.now) }
         ensures form { IfSome result (λ v. form v ≡ part_form self.now) }
     {
         match self {
@@ -61,7 +61,7 @@ impl<'b, 't, 'i> Value<'b, 't, 'i> {
 
     /// Whether a member has that key; false on a non-object.
     pub fn contains_key(&self, key: &str) -> bool
-        ensures { result ≡ is_some (found self.now key.now) }
+        ensures { result ≡ is_some (value_found self.now key.now) }
     {
         match self {
             Lazy::Tape(part) => part.contains_key(key),
@@ -71,8 +71,8 @@ impl<'b, 't, 'i> Value<'b, 't, 'i> {
 
     /// The items, where it is an array; else None.
     pub fn as_array(&self) -> Option<Array<'_, 't, 'i>>
-        ensures items { option_map items result ≡ as_items (tree self.now) }
-        ensures choice { IfSome result (λ a. array_choice a ≡ choice self.now) }
+        ensures items { option_map lazy_items result ≡ as_items (value_tree self.now) }
+        ensures choice { IfSome result (λ a. lazy_array_choice a ≡ value_choice self.now) }
         ensures form { IfSome result (λ a. item_form a ≡ part_form self.now) }
     {
         match self {
@@ -83,8 +83,8 @@ impl<'b, 't, 'i> Value<'b, 't, 'i> {
 
     /// The members, where it is an object; else None.
     pub fn as_object(&self) -> Option<Object<'_, 't, 'i>>
-        ensures members { option_map members result ≡ as_members (tree self.now) }
-        ensures choice { IfSome result (λ o. object_choice o ≡ choice self.now) }
+        ensures members { option_map lazy_members result ≡ as_members (value_tree self.now) }
+        ensures choice { IfSome result (λ o. lazy_object_choice o ≡ value_choice self.now) }
         ensures form { IfSome result (λ o. value_form o ≡ part_form self.now) }
     {
         match self {
@@ -95,8 +95,8 @@ impl<'b, 't, 'i> Value<'b, 't, 'i> {
 
     /// As `get`; of a non-object, that an object was expected and which kind it is.
     pub fn try_get(&self, key: &str) -> Result<Option<Value<'_, 't, 'i>>, TryTypeError>
-        ensures value { result_map_both (option_map tree) (λ e. e) result ≡ found_in (as_members (tree self.now)) (kind_of (tree self.now)) (found self.now key.now) }
-        ensures choice { IfOk result (λ value. IfSome value (λ v. choice v ≡ choice self.now)) }
+        ensures value { result_map_both (option_map value_tree) (λ e. e) result ≡ found_in (as_members (value_tree self.now)) (kind_of (value_tree self.now)) (value_found self.now key.now) }
+        ensures choice { IfOk result (λ value. IfSome value (λ v. value_choice v ≡ value_choice self.now)) }
         ensures form { IfOk result (λ value. IfSome value (λ v. form v ≡ part_form self.now)) }
     {
         Ok(self.try_as_object()?.get(key))
@@ -104,8 +104,8 @@ impl<'b, 't, 'i> Value<'b, 't, 'i> {
 
     /// As `get_idx`; of a non-array, that an array was expected and which kind it is.
     pub fn try_get_idx(&self, index: usize) -> Result<Option<Value<'_, 't, 'i>>, TryTypeError>
-        ensures value { result_map_both (option_map tree) (λ e. e) result ≡ result_map_both (λ is. nth_item index is) (λ e. e) (read_as (as_items (tree self.now)) ValueType.Array (kind_of (tree self.now))) }
-        ensures choice { IfOk result (λ value. IfSome value (λ v. choice v ≡ choice self.now)) }
+        ensures value { result_map_both (option_map value_tree) (λ e. e) result ≡ result_map_both (λ is. nth_item index is) (λ e. e) (read_as (as_items (value_tree self.now)) ValueType.Array (kind_of (value_tree self.now))) }
+        ensures choice { IfOk result (λ value. IfSome value (λ v. value_choice v ≡ value_choice self.now)) }
         ensures form { IfOk result (λ value. IfSome value (λ v. form v ≡ part_form self.now)) }
     {
         Ok(self.try_as_array()?.get(index))
@@ -113,8 +113,8 @@ impl<'b, 't, 'i> Value<'b, 't, 'i> {
 
     /// As `as_array`; of another value, that an array was expected and which kind it is.
     pub fn try_as_array(&self) -> Result<Array<'_, 't, 'i>, TryTypeError>
-        ensures items { result_map_both items (λ e. e) result ≡ read_as (as_items (tree self.now)) ValueType.Array (kind_of (tree self.now)) }
-        ensures choice { IfOk result (λ a. array_choice a ≡ choice self.now) }
+        ensures items { result_map_both lazy_items (λ e. e) result ≡ read_as (as_items (value_tree self.now)) ValueType.Array (kind_of (value_tree self.now)) }
+        ensures choice { IfOk result (λ a. lazy_array_choice a ≡ value_choice self.now) }
         ensures form { IfOk result (λ a. item_form a ≡ part_form self.now) }
     {
         match self.as_array() {
@@ -125,8 +125,8 @@ impl<'b, 't, 'i> Value<'b, 't, 'i> {
 
     /// As `as_object`; of another value, that an object was expected and which kind it is.
     pub fn try_as_object(&self) -> Result<Object<'_, 't, 'i>, TryTypeError>
-        ensures members { result_map_both members (λ e. e) result ≡ read_as (as_members (tree self.now)) ValueType.Object (kind_of (tree self.now)) }
-        ensures choice { IfOk result (λ o. object_choice o ≡ choice self.now) }
+        ensures members { result_map_both lazy_members (λ e. e) result ≡ read_as (as_members (value_tree self.now)) ValueType.Object (kind_of (value_tree self.now)) }
+        ensures choice { IfOk result (λ o. lazy_object_choice o ≡ value_choice self.now) }
         ensures form { IfOk result (λ o. value_form o ≡ part_form self.now) }
     {
         match self.as_object() {
@@ -138,7 +138,7 @@ impl<'b, 't, 'i> Value<'b, 't, 'i> {
     /// That another kind was expected.
     pub(super) fn fault(&self, expected: ValueType) -> TryTypeError
         ensures expected { result.expected ≡ expected }
-        ensures got { result.got ≡ kind_of (tree self.now) }
+        ensures got { result.got ≡ kind_of (value_tree self.now) }
     {
         TryTypeError {
             expected,

@@ -3,7 +3,7 @@
 ghost use Rattle.std.specs.Prelude.{◌≡◌, Some, None, IfOk, IfErr, IsSome, IsOk};
 ghost use Rattle.sj_text_core.specs.Find.{find, nth};
 ghost use Rattle.sj_text_core.specs.Paths.{by_key, by_place, set_found};
-ghost use Rattle.sj_document.specs.Document.{tree};
+ghost use Rattle.sj_document.specs.Document.{document_tree};
 ghost use Rattle.sj_document.specs.declared.value.Document.{Document};
 
 use super::Lazy;
@@ -26,7 +26,7 @@ impl<P: Upgrade<T> + Drop, B: Lent<T> + Drop, T: KeyText + Drop> Lazy<P, B, T> {
         key: &str,
         change: C,
     ) -> Result<Result<C::Answer, C>, Refused<AllocError, C>>
-        ensures changed { IfOk result (λ done. IfOk done (λ answer. (v : Document T) × (w : Document T) × (Some (tree T.text_of v) ≡ find key.now (lazy_kept P.part_kept B.lent_tree T.text_of self.old)) × C.makes change v w answer × (owned T.text_of self.new ≡ Some (set_found (by_key key.now) (tree T.text_of w) (lazy_kept P.part_kept B.lent_tree T.text_of self.old))))) }
+        ensures changed { IfOk result (λ done. IfOk done (λ answer. (v : Document T) × (w : Document T) × (Some (document_tree T.text_of v) ≡ find key.now (lazy_kept P.part_kept B.lent_tree T.text_of self.old)) × C.makes change v w answer × (owned T.text_of self.new ≡ Some (set_found (by_key key.now) (document_tree T.text_of w) (lazy_kept P.part_kept B.lent_tree T.text_of self.old))))) }
         ensures absent { IfOk result (λ done. IfErr done (λ back. (back ≡ change) × (None ≡ find key.now (lazy_kept P.part_kept B.lent_tree T.text_of self.old)) × (owned T.text_of self.new ≡ Some (lazy_kept P.part_kept B.lent_tree T.text_of self.old)))) }
         ensures refused { IfErr result (λ r. (r.value ≡ change) × (self.new ≡ self.old)) }
         ensures succeeds { IsSome (owned T.text_of self.old) → IsOk result }
@@ -47,7 +47,7 @@ impl<P: Upgrade<T> + Drop, B: Lent<T> + Drop, T: KeyText + Drop> Lazy<P, B, T> {
         index: usize,
         change: C,
     ) -> Result<Result<C::Answer, C>, Refused<AllocError, C>>
-        ensures changed { IfOk result (λ done. IfOk done (λ answer. (v : Document T) × (w : Document T) × (Some (tree T.text_of v) ≡ nth index (lazy_kept P.part_kept B.lent_tree T.text_of self.old)) × C.makes change v w answer × (owned T.text_of self.new ≡ Some (set_found (by_place index) (tree T.text_of w) (lazy_kept P.part_kept B.lent_tree T.text_of self.old))))) }
+        ensures changed { IfOk result (λ done. IfOk done (λ answer. (v : Document T) × (w : Document T) × (Some (document_tree T.text_of v) ≡ nth index (lazy_kept P.part_kept B.lent_tree T.text_of self.old)) × C.makes change v w answer × (owned T.text_of self.new ≡ Some (set_found (by_place index) (document_tree T.text_of w) (lazy_kept P.part_kept B.lent_tree T.text_of self.old))))) }
         ensures absent { IfOk result (λ done. IfErr done (λ back. (back ≡ change) × (None ≡ nth index (lazy_kept P.part_kept B.lent_tree T.text_of self.old)) × (owned T.text_of self.new ≡ Some (lazy_kept P.part_kept B.lent_tree T.text_of self.old)))) }
         ensures refused { IfErr result (λ r. (r.value ≡ change) × (self.new ≡ self.old)) }
         ensures succeeds { IsSome (owned T.text_of self.old) → IsOk result }

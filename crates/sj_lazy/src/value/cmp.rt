@@ -2,8 +2,8 @@
 //! taken.
 
 ghost use Rattle.std.specs.Prelude.{◌≡◌, ◌↔◌, IsTrue};
-ghost use Rattle.sj_document.specs.Document.{tree as document_tree};
-ghost use Rattle.sj_lazy.specs.Value.{tree, choice, seen};
+ghost use Rattle.sj_document.specs.Document.{document_tree};
+ghost use Rattle.sj_lazy.specs.Value.{value_tree, value_choice, seen};
 ghost use Rattle.sj_text_core.specs.Equal.{tree_eq};
 ghost use Rattle.sj_text_core.specs.Repeats.{SameBy};
 ghost use Rattle.sj_text_core.specs.declared.repeats.Repeats.TheVariants.{First};
@@ -17,7 +17,7 @@ use sj_text_core::SameAs;
 
 /// Whether the two mean one document, each part of a tape by its own choice.
 fn same_lazy(left: &Value, right: &Value) -> bool
-    ensures { IsTrue result ↔ SameBy (choice left.now) (choice right.now) (tree left.now) (tree right.now) }
+    ensures { IsTrue result ↔ SameBy (value_choice left.now) (value_choice right.now) (value_tree left.now) (value_tree right.now) }
 {
     match left {
         Lazy::Tape(part) => match right {
@@ -45,7 +45,7 @@ impl<'b, 't, 'i> PartialEq for Value<'b, 't, 'i> {
 
     fn eq(&self, other: &Value<'b, 't, 'i>) -> bool
         ensures answer { result ≡ tree_eq (seen self.now) (seen other.now) }
-        ensures same { IsTrue result ↔ SameBy (choice self.now) (choice other.now) (tree self.now) (tree other.now) }
+        ensures same { IsTrue result ↔ SameBy (value_choice self.now) (value_choice other.now) (value_tree self.now) (value_tree other.now) }
     {
         same_lazy(self, other)
     }
@@ -60,7 +60,7 @@ impl<'b, 't, 'i> Eq for Value<'b, 't, 'i> {
 
 /// Same exactly where the two mean one document, each part of a tape by its own choice.
 impl<'b, 't, 'i, 'c, 'u, 'j> SameAs<Value<'c, 'u, 'j>> for Value<'b, 't, 'i> {
-    ghost same = { λ v w. SameBy (choice v) (choice w) (tree v) (tree w) };
+    ghost same = { λ v w. SameBy (value_choice v) (value_choice w) (value_tree v) (value_tree w) };
 
     fn same_as(&self, other: &Value<'c, 'u, 'j>) -> bool {
         same_lazy(self, other)
@@ -69,7 +69,7 @@ impl<'b, 't, 'i, 'c, 'u, 'j> SameAs<Value<'c, 'u, 'j>> for Value<'b, 't, 'i> {
 
 /// Same exactly where the two mean one document, a part of a tape by its own choice.
 impl<'b, 't, 'i, T: KeyText> SameAs<Document<T>> for Value<'b, 't, 'i> {
-    ghost same = { λ v w. SameBy (choice v) First (tree v) (document_tree T.text_of w) };
+    ghost same = { λ v w. SameBy (value_choice v) First (value_tree v) (document_tree T.text_of w) };
 
     fn same_as(&self, other: &Document<T>) -> bool {
         match self {

@@ -2,8 +2,8 @@
 
 ghost use Rattle.std.specs.Prelude.{◌≡◌, ◌≢◌, Ok, IfOk, IsOk, IsSome, OnErr, true, not, option_map, is_some};
 ghost use Rattle.std.specs.Cow.{cow_str_bytes};
-ghost use Rattle.sj_document.specs.Document.{tree as document_tree};
-ghost use Rattle.sj_lazy.specs.Value.{tree, choice, form, of_lent, of_owned, lends_owned};
+ghost use Rattle.sj_document.specs.Document.{document_tree};
+ghost use Rattle.sj_lazy.specs.Value.{value_tree, value_choice, form, of_lent, of_owned, lends_owned};
 ghost use Rattle.sj_text_core.specs.Reads.{as_text};
 
 use super::{Lazy, Shared, Value};
@@ -49,7 +49,7 @@ impl<P: Upgrade<T> + Drop, B: Lent<T> + Drop, T: KeyText + Drop> Lazy<P, B, T> {
 
 /// A copy keeps the form and the choice. Only an owned document asks for memory.
 impl<'b, 't, 'i> Clone for Value<'b, 't, 'i> {
-    ghost is_clone = { λ v w. (tree w ≡ tree v) × (form w ≡ form v) × (choice w ≡ choice v) };
+    ghost is_clone = { λ v w. (value_tree w ≡ value_tree v) × (form w ≡ form v) × (value_choice w ≡ value_choice v) };
 
     ghost is_infallible = { λ v. form v ≢ of_owned };
 
@@ -66,8 +66,8 @@ impl<'b, 't, 'i> Value<'b, 't, 'i> {
     /// The text, where it is one. It is refused only for want of memory, and asks for some only
     /// where a text behind a lent document owns its bytes.
     pub fn into_string(self) -> Result<Option<CowStr<'i>>, AllocError>
-        ensures text { IfOk result (λ s. option_map cow_str_bytes s ≡ as_text (tree self.entry)) }
-        ensures refused { OnErr result ((lends_owned self.entry ≡ true) × IsSome (as_text (tree self.entry))) }
+        ensures text { IfOk result (λ s. option_map cow_str_bytes s ≡ as_text (value_tree self.entry)) }
+        ensures refused { OnErr result ((lends_owned self.entry ≡ true) × IsSome (as_text (value_tree self.entry))) }
     {
         match self {
             Lazy::Tape(part) => match part.into_string() {

@@ -16,12 +16,12 @@ use sj_text_core::{AccessError, Refused};
 use std::alloc::Global;
 
 impl<'b, 't, 'i> Value<'b, 't, 'i> {
-    ghost use Rattle.sj_lazy.specs.Value.{tree, kept};
+    ghost use Rattle.sj_lazy.specs.Value.{value_tree, value_kept};
 
     /// How many items an array has; None on a non-array.
     pub fn array_len(&self) -> Option<usize>
-        ensures shown { result ≡ option_map items_len (as_items (tree self.now)) }
-        ensures kept { result ≡ option_map items_len (as_items (kept self.now)) }
+        ensures shown { result ≡ option_map items_len (as_items (value_tree self.now)) }
+        ensures kept { result ≡ option_map items_len (as_items (value_kept self.now)) }
     {
         match self {
             Lazy::Tape(part) => Some(part.as_array()?.len()),
@@ -31,7 +31,7 @@ impl<'b, 't, 'i> Value<'b, 't, 'i> {
 }
 
 impl<P: Upgrade<T> + Drop, B: Lent<T> + Drop, T: KeyText + Drop> Lazy<P, B, T> {
-    ghost use Rattle.sj_document.specs.Document.{tree, why_of};
+    ghost use Rattle.sj_document.specs.Document.{document_tree, edit_fault};
     ghost use Rattle.sj_document.specs.Items.{with_item_at, without_item_at};
     ghost use Rattle.sj_lazy.specs.Value.{lazy_kept, owned};
     ghost use Rattle.sj_lazy.specs.Edits.{IsLeft};
@@ -46,9 +46,9 @@ impl<P: Upgrade<T> + Drop, B: Lent<T> + Drop, T: KeyText + Drop> Lazy<P, B, T> {
         value: Document<T>,
     ) -> Result<(), Refused<AccessError, Document<T>>>
         requires { ForSome (option_map items_len (as_items (lazy_kept P.part_kept B.lent_tree T.text_of self.old))) (λ len. index ≤ len) }
-        ensures after { OnOk result (owned T.text_of self.new ≡ Some (with_item_at index (tree T.text_of value) (lazy_kept P.part_kept B.lent_tree T.text_of self.old))) }
+        ensures after { OnOk result (owned T.text_of self.new ≡ Some (with_item_at index (document_tree T.text_of value) (lazy_kept P.part_kept B.lent_tree T.text_of self.old))) }
         ensures array { OnOk result (IsSome (as_items (lazy_kept P.part_kept B.lent_tree T.text_of self.old))) }
-        ensures refused { IfErr result (λ r. IsLeft T.text_of (lazy_kept P.part_kept B.lent_tree T.text_of self.old) self.old self.new (r.why ≡ AccessError.OutOfMemory) (r.why ≡ why_of AccessError.NotAnArray (as_items (lazy_kept P.part_kept B.lent_tree T.text_of self.old)))) }
+        ensures refused { IfErr result (λ r. IsLeft T.text_of (lazy_kept P.part_kept B.lent_tree T.text_of self.old) self.old self.new (r.why ≡ AccessError.OutOfMemory) (r.why ≡ edit_fault AccessError.NotAnArray (as_items (lazy_kept P.part_kept B.lent_tree T.text_of self.old)))) }
         ensures returned { IfErr result (λ r. r.value ≡ value) }
     {
         match self.as_mut(alloc) {
@@ -68,7 +68,7 @@ impl<P: Upgrade<T> + Drop, B: Lent<T> + Drop, T: KeyText + Drop> Lazy<P, B, T> {
         alloc: Global,
         index: usize,
     ) -> Result<Option<Document<T>>, AccessError>
-        ensures answer { IfOk result (λ before. option_map (tree T.text_of) before ≡ nth index (lazy_kept P.part_kept B.lent_tree T.text_of self.old)) }
+        ensures answer { IfOk result (λ before. option_map (document_tree T.text_of) before ≡ nth index (lazy_kept P.part_kept B.lent_tree T.text_of self.old)) }
         ensures after { OnOk result (owned T.text_of self.new ≡ Some (without_item_at index (lazy_kept P.part_kept B.lent_tree T.text_of self.old))) }
         ensures array { OnOk result (IsSome (as_items (lazy_kept P.part_kept B.lent_tree T.text_of self.old))) }
         ensures refused { IfErr result (λ e. IsLeft T.text_of (lazy_kept P.part_kept B.lent_tree T.text_of self.old) self.old self.new (e ≡ AccessError.OutOfMemory) ((e ≡ AccessError.NotAnArray) × (as_items (lazy_kept P.part_kept B.lent_tree T.text_of self.old) ≡ None))) }

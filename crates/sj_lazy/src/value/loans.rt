@@ -1,7 +1,7 @@
 //! Parts of a lazy value, lent for writing. Each call makes the value an owned document first.
 
 ghost use Rattle.std.specs.Prelude.{◌≡◌, Some, None, IfOk, IfErr, IsSome, IsOk, option_map, map};
-ghost use Rattle.sj_document.specs.Document.{tree};
+ghost use Rattle.sj_document.specs.Document.{document_tree};
 ghost use Rattle.sj_document.specs.Rows.{document_row, object_row, array_row};
 ghost use Rattle.sj_object.specs.Members.{entry_members};
 ghost use Rattle.sj_text_core.specs.Find.{find, nth};
@@ -27,9 +27,9 @@ impl<P: Upgrade<T> + Drop, B: Lent<T> + Drop, T: KeyText + Drop> Lazy<P, B, T> {
     /// they last were. Refused for its kind, it is owned; for want of memory, it is as it was.
     pub fn object_mut(&mut self, alloc: Global) -> Result<&mut Object<T>, AccessError>
         ensures* writes_back { sem 𝓛 (LendsSoOk (lazy_row P.row B.row T.row T.KeyText) (object_row T.row T.KeyText) self.entry result
-            (λ n w. owned T.text_of n ≡ Some (obj (entry_members (tree T.text_of) w.entries)))
+            (λ n w. owned T.text_of n ≡ Some (obj (entry_members (document_tree T.text_of) w.entries)))
             (λ n. IfErr result (λ e. IsLeft T.text_of (lazy_kept P.part_kept B.lent_tree T.text_of self.old) self.old n (e ≡ AccessError.OutOfMemory) (e ≡ AccessError.NotAnObject)))) }
-        ensures value { IfOk result (λ m. Some (entry_members (tree T.text_of) m.now.entries) ≡ as_members (lazy_kept P.part_kept B.lent_tree T.text_of self.old)) }
+        ensures value { IfOk result (λ m. Some (entry_members (document_tree T.text_of) m.now.entries) ≡ as_members (lazy_kept P.part_kept B.lent_tree T.text_of self.old)) }
         ensures kind { IfErr result (λ e. e ≡ AccessError.NotAnObject → as_members (lazy_kept P.part_kept B.lent_tree T.text_of self.old) ≡ None) }
         ensures succeeds { IsSome (owned T.text_of self.old) → IsSome (as_members (lazy_kept P.part_kept B.lent_tree T.text_of self.old)) → IsOk result }
     {
@@ -46,9 +46,9 @@ impl<P: Upgrade<T> + Drop, B: Lent<T> + Drop, T: KeyText + Drop> Lazy<P, B, T> {
     /// last were. Refused for its kind, it is owned; for want of memory, it is as it was.
     pub fn array_mut(&mut self, alloc: Global) -> Result<&mut Vec<Document<T>>, AccessError>
         ensures* writes_back { sem 𝓛 (LendsSoOk (lazy_row P.row B.row T.row T.KeyText) (array_row T.row T.KeyText) self.entry result
-            (λ n w. owned T.text_of n ≡ Some (list (items_from (map (tree T.text_of) w.items))))
+            (λ n w. owned T.text_of n ≡ Some (list (items_from (map (document_tree T.text_of) w.items))))
             (λ n. IfErr result (λ e. IsLeft T.text_of (lazy_kept P.part_kept B.lent_tree T.text_of self.old) self.old n (e ≡ AccessError.OutOfMemory) (e ≡ AccessError.NotAnArray)))) }
-        ensures value { IfOk result (λ v. Some (items_from (map (tree T.text_of) v.now.items)) ≡ as_items (lazy_kept P.part_kept B.lent_tree T.text_of self.old)) }
+        ensures value { IfOk result (λ v. Some (items_from (map (document_tree T.text_of) v.now.items)) ≡ as_items (lazy_kept P.part_kept B.lent_tree T.text_of self.old)) }
         ensures kind { IfErr result (λ e. e ≡ AccessError.NotAnArray → as_items (lazy_kept P.part_kept B.lent_tree T.text_of self.old) ≡ None) }
         ensures succeeds { IsSome (owned T.text_of self.old) → IsSome (as_items (lazy_kept P.part_kept B.lent_tree T.text_of self.old)) → IsOk result }
     {
@@ -65,8 +65,8 @@ impl<P: Upgrade<T> + Drop, B: Lent<T> + Drop, T: KeyText + Drop> Lazy<P, B, T> {
     /// object of what they last were. Refused for want of memory, it is as it was.
     pub fn as_object_mut(&mut self, alloc: Global) -> Result<Option<&mut Object<T>>, AllocError>
         ensures* writes_back { sem 𝓛 (LendsPart P.row B.row T.row T.KeyText (object_row T.row T.KeyText) self.entry result
-            (λ w. obj (entry_members (tree T.text_of) w.entries)) (lazy_kept P.part_kept B.lent_tree T.text_of self.old)) }
-        ensures value { IfOk result (λ found. option_map (λ m. entry_members (tree T.text_of) m.now.entries) found ≡ as_members (lazy_kept P.part_kept B.lent_tree T.text_of self.old)) }
+            (λ w. obj (entry_members (document_tree T.text_of) w.entries)) (lazy_kept P.part_kept B.lent_tree T.text_of self.old)) }
+        ensures value { IfOk result (λ found. option_map (λ m. entry_members (document_tree T.text_of) m.now.entries) found ≡ as_members (lazy_kept P.part_kept B.lent_tree T.text_of self.old)) }
         ensures succeeds { IsSome (owned T.text_of self.old) → IsOk result }
     {
         match self.as_mut(alloc) {
@@ -82,8 +82,8 @@ impl<P: Upgrade<T> + Drop, B: Lent<T> + Drop, T: KeyText + Drop> Lazy<P, B, T> {
         alloc: Global,
     ) -> Result<Option<&mut Vec<Document<T>>>, AllocError>
         ensures* writes_back { sem 𝓛 (LendsPart P.row B.row T.row T.KeyText (array_row T.row T.KeyText) self.entry result
-            (λ w. list (items_from (map (tree T.text_of) w.items))) (lazy_kept P.part_kept B.lent_tree T.text_of self.old)) }
-        ensures value { IfOk result (λ found. option_map (λ v. items_from (map (tree T.text_of) v.now.items)) found ≡ as_items (lazy_kept P.part_kept B.lent_tree T.text_of self.old)) }
+            (λ w. list (items_from (map (document_tree T.text_of) w.items))) (lazy_kept P.part_kept B.lent_tree T.text_of self.old)) }
+        ensures value { IfOk result (λ found. option_map (λ v. items_from (map (document_tree T.text_of) v.now.items)) found ≡ as_items (lazy_kept P.part_kept B.lent_tree T.text_of self.old)) }
         ensures succeeds { IsSome (owned T.text_of self.old) → IsOk result }
     {
         match self.as_mut(alloc) {
@@ -101,8 +101,8 @@ impl<P: Upgrade<T> + Drop, B: Lent<T> + Drop, T: KeyText + Drop> Lazy<P, B, T> {
         key: &str,
     ) -> Result<Option<&mut Document<T>>, AllocError>
         ensures* writes_back { sem 𝓛 (LendsPart P.row B.row T.row T.KeyText (document_row T.row T.KeyText) self.entry result
-            (λ w. set_found (by_key key.now) (tree T.text_of w) (lazy_kept P.part_kept B.lent_tree T.text_of self.old)) (lazy_kept P.part_kept B.lent_tree T.text_of self.old)) }
-        ensures value { IfOk result (λ found. option_map (λ v. tree T.text_of v.now) found ≡ find key.now (lazy_kept P.part_kept B.lent_tree T.text_of self.old)) }
+            (λ w. set_found (by_key key.now) (document_tree T.text_of w) (lazy_kept P.part_kept B.lent_tree T.text_of self.old)) (lazy_kept P.part_kept B.lent_tree T.text_of self.old)) }
+        ensures value { IfOk result (λ found. option_map (λ v. document_tree T.text_of v.now) found ≡ find key.now (lazy_kept P.part_kept B.lent_tree T.text_of self.old)) }
         ensures succeeds { IsSome (owned T.text_of self.old) → IsOk result }
     {
         match self.as_mut(alloc) {
@@ -120,8 +120,8 @@ impl<P: Upgrade<T> + Drop, B: Lent<T> + Drop, T: KeyText + Drop> Lazy<P, B, T> {
         index: usize,
     ) -> Result<Option<&mut Document<T>>, AllocError>
         ensures* writes_back { sem 𝓛 (LendsPart P.row B.row T.row T.KeyText (document_row T.row T.KeyText) self.entry result
-            (λ w. set_found (by_place index) (tree T.text_of w) (lazy_kept P.part_kept B.lent_tree T.text_of self.old)) (lazy_kept P.part_kept B.lent_tree T.text_of self.old)) }
-        ensures value { IfOk result (λ found. option_map (λ v. tree T.text_of v.now) found ≡ nth index (lazy_kept P.part_kept B.lent_tree T.text_of self.old)) }
+            (λ w. set_found (by_place index) (document_tree T.text_of w) (lazy_kept P.part_kept B.lent_tree T.text_of self.old)) (lazy_kept P.part_kept B.lent_tree T.text_of self.old)) }
+        ensures value { IfOk result (λ found. option_map (λ v. document_tree T.text_of v.now) found ≡ nth index (lazy_kept P.part_kept B.lent_tree T.text_of self.old)) }
         ensures succeeds { IsSome (owned T.text_of self.old) → IsOk result }
     {
         match self.as_mut(alloc) {

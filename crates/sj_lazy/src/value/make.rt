@@ -3,7 +3,7 @@
 ghost use Rattle.std.specs.Prelude.{◌≡◌, Some, IfOk, IsSomeAnd};
 ghost use Rattle.std.specs.Cow.{cow_str_bytes};
 ghost use Rattle.sj_object.specs.Members.{entry_members};
-ghost use Rattle.sj_document.specs.Document.{tree, put_pairs};
+ghost use Rattle.sj_document.specs.Document.{document_tree, put_pairs};
 ghost use Rattle.sj_document.specs.Makes.{IsArrayOf};
 ghost use Rattle.sj_lazy.specs.Value.{owned};
 ghost use Rattle.sj_text_core.specs.Tree.{list, obj, items_from, no_members};
@@ -17,7 +17,7 @@ use std::borrow::CowStr;
 
 /// An object of the members.
 impl<'b, 't, 'i> TryMake<Object<CowStr<'i>>> for Value<'b, 't, 'i> {
-    ghost makes = { λ m v. owned cow_str_bytes v ≡ Some (obj (entry_members (tree cow_str_bytes) m.entries)) };
+    ghost makes = { λ m v. owned cow_str_bytes v ≡ Some (obj (entry_members (document_tree cow_str_bytes) m.entries)) };
 
     fn try_make(alloc: Global, members: Object<CowStr<'i>>) -> Result<Self, AllocError> {
         Ok(Lazy::Value(Shared::Owned(Document::try_make(alloc, members)?)))
@@ -45,7 +45,7 @@ impl<P, B, T: KeyText + Drop> Lazy<P, B, T> {
     ) -> Result<Self, AllocError>
         requires can { I.can_next items }
         requires ends { IsFinite (I.remaining items) }
-        ensures { IfOk result (λ v. (xs : List (Document T)) × Drains I.next_gives items xs × (owned T.text_of v ≡ Some (list (items_from (map (tree T.text_of) xs))))) }
+        ensures { IfOk result (λ v. (xs : List (Document T)) × Drains I.next_gives items xs × (owned T.text_of v ≡ Some (list (items_from (map (document_tree T.text_of) xs))))) }
     {
         let document = Document::try_from_items(alloc, items)?;
         Ok(Lazy::Value(Shared::Owned(document)))
@@ -60,7 +60,7 @@ impl<P, B, T: KeyText + Drop> Lazy<P, B, T> {
     ) -> Result<Self, AllocError>
         requires can { I.can_next pairs }
         requires ends { IsFinite (I.remaining pairs) }
-        ensures { IfOk result (λ v. (xs : List (T × Document T)) × Drains I.next_gives pairs xs × (owned T.text_of v ≡ Some (obj (put_pairs T.text_of (tree T.text_of) no_members xs)))) }
+        ensures { IfOk result (λ v. (xs : List (T × Document T)) × Drains I.next_gives pairs xs × (owned T.text_of v ≡ Some (obj (put_pairs T.text_of (document_tree T.text_of) no_members xs)))) }
     {
         let document = Document::try_from_pairs(alloc, pairs)?;
         Ok(Lazy::Value(Shared::Owned(document)))

@@ -4,9 +4,9 @@ use super::{Lazy, Value};
 use sj_text_core::{Meaning, TypedValue, ValueAsScalar, ValueType};
 
 impl<'b, 't, 'i> Meaning for Value<'b, 't, 'i> {
-    ghost use Rattle.sj_lazy.specs.Value.{tree as tree_of_value};
+    ghost use Rattle.sj_lazy.specs.Value.{value_tree};
 
-    ghost tree = { tree_of_value };
+    ghost tree = { value_tree };
 }
 
 impl<'b, 't, 'i> TypedValue for Value<'b, 't, 'i> {

@@ -38,10 +38,10 @@ impl<'b, 't, 'i> Writable for Value<'b, 't, 'i> {
 /// A scalar as it is printed, a text as it is, an array or an object as its compact print.
 impl<'b, 't, 'i> fmt::Display for Value<'b, 't, 'i> {
     ghost use Rattle.std.specs.Prelude.{Some};
-    ghost use Rattle.sj_lazy.specs.Value.{tree};
+    ghost use Rattle.sj_lazy.specs.Value.{value_tree};
     ghost use Rattle.sj_tape.specs.Value.{displayed};
 
-    ghost output = { λ v. Some (displayed (tree v)) };
+    ghost output = { λ v. Some (displayed (value_tree v)) };
 
     fn fmt<W: fmt::Write>(&self, f: &mut fmt::Formatter<W>) -> fmt::Result {
         match self {

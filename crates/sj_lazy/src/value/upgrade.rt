@@ -1,7 +1,7 @@
 //! The upgrade: what makes a lazy value an owned document, and lends it for writing.
 
 ghost use Rattle.std.specs.Prelude.{◌≡◌, Some, IfOk, OnOk, OnErr, OnSome, IsSome, IsOk, option_map};
-ghost use Rattle.sj_document.specs.Document.{tree};
+ghost use Rattle.sj_document.specs.Document.{document_tree};
 ghost use Rattle.sj_document.specs.Rows.{document_row};
 
 use super::{Lazy, Shared};
@@ -18,8 +18,8 @@ impl<B, T: KeyText> Shared<B, T> {
     /// The document, where it is owned.
     fn owned_mut(&mut self) -> Option<&mut Document<T>>
         ensures* writes_back { sem 𝓛 (LendsSo (shared_row B.row T.row T.KeyText) (document_row T.row T.KeyText) self.entry result
-            (λ n w. OnSome result (owned_of T.text_of n ≡ Some (tree T.text_of w))) (λ n. n ≡ self.old)) }
-        ensures value { option_map (λ v. tree T.text_of v.now) result ≡ owned_of T.text_of self.old }
+            (λ n w. OnSome result (owned_of T.text_of n ≡ Some (document_tree T.text_of w))) (λ n. n ≡ self.old)) }
+        ensures value { option_map (λ v. document_tree T.text_of v.now) result ≡ owned_of T.text_of self.old }
     {
         match self {
             Shared::Owned(value) => Some(value),
@@ -36,8 +36,8 @@ impl<P, B, T: KeyText> Lazy<P, B, T> {
     /// The document, where it is owned.
     fn owned_mut(&mut self) -> Option<&mut Document<T>>
         ensures* writes_back { sem 𝓛 (LendsSo (lazy_row P.row B.row T.row T.KeyText) (document_row T.row T.KeyText) self.entry result
-            (λ n w. OnSome result (owned T.text_of n ≡ Some (tree T.text_of w))) (λ n. n ≡ self.old)) }
-        ensures value { option_map (λ v. tree T.text_of v.now) result ≡ owned T.text_of self.old }
+            (λ n w. OnSome result (owned T.text_of n ≡ Some (document_tree T.text_of w))) (λ n. n ≡ self.old)) }
+        ensures value { option_map (λ v. document_tree T.text_of v.now) result ≡ owned T.text_of self.old }
     {
         match self {
             Lazy::Value(value) => value.owned_mut(),
@@ -70,8 +70,8 @@ impl<P: Upgrade<T> + Drop, B: Lent<T> + Drop, T: KeyText + Drop> Lazy<P, B, T> {
     /// The document, to write, once it is owned. Refused, it is as it was.
     pub fn as_mut(&mut self, alloc: Global) -> Result<&mut Document<T>, AllocError>
         ensures* writes_back { sem 𝓛 (LendsSoOk (lazy_row P.row B.row T.row T.KeyText) (document_row T.row T.KeyText) self.entry result
-            (λ n w. owned T.text_of n ≡ Some (tree T.text_of w)) (λ n. n ≡ self.old)) }
-        ensures value { IfOk result (λ v. tree T.text_of v.now ≡ lazy_kept P.part_kept B.lent_tree T.text_of self.old) }
+            (λ n w. owned T.text_of n ≡ Some (document_tree T.text_of w)) (λ n. n ≡ self.old)) }
+        ensures value { IfOk result (λ v. document_tree T.text_of v.now ≡ lazy_kept P.part_kept B.lent_tree T.text_of self.old) }
         ensures succeeds { IsSome (owned T.text_of self.old) → IsOk result }
     {
         self.own(alloc)?;

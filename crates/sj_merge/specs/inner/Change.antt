@@ -2,7 +2,7 @@
 use Rattle.std.specs.Prelude.{◌≡◌, ℕ, true, false, List, Option, Some, None, if◌then◌else◌}
 use Rattle.sj_text_core.specs.Tree.{Tree}
 use Rattle.sj_text_core.specs.Equal.{passes, tree_eq}
-use Rattle.sj_document.specs.Document.{tree}
+use Rattle.sj_document.specs.Document.{document_tree}
 use Rattle.sj_merge.specs.Merge.{is_null}
 use Rattle.sj_merge.specs.MergeDiff.{merge_patch}
 use Rattle.sj_merge.specs.declared.difference.Change.{Change}
@@ -16,4 +16,4 @@ module _ {T : Type 0} (t : T → List ℕ) where
   abbrev pub IsChange : Option Tree → Tree → Change T → Type 0
   IsChange old w Stays = passes old (λ u. tree_eq u w) ≡ true
   IsChange old w Impossible = (passes old (λ u. tree_eq u w) ≡ false) × (patch_value old w ≡ None)
-  IsChange old w (Becomes d) = (passes old (λ u. tree_eq u w) ≡ false) × (patch_value old w ≡ Some (tree t d))
+  IsChange old w (Becomes d) = (passes old (λ u. tree_eq u w) ≡ false) × (patch_value old w ≡ Some (document_tree t d))

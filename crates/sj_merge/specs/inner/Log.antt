@@ -6,22 +6,22 @@ use Rattle.std.specs.Global.{Global}
 use Rattle.sj_text_core.specs.Tree.{Tree, obj, Members, no_members, member}
 use Rattle.sj_text_core.specs.Find.{find_member}
 use Rattle.sj_text_core.specs.Edits.{put, cut}
-use Rattle.sj_document.specs.Document.{tree}
+use Rattle.sj_document.specs.Document.{document_tree}
 use Rattle.sj_merge.specs.Merge.{merged, merged_members}
 use Rattle.sj_merge.specs.inner.Merge.{merged_pair}
 use Rattle.sj_merge.specs.declared.in_place.Logged.{Logged, fold-Logged}
 use Rattle.sj_merge.specs.declared.in_place.Logged.TheOpen.{Logged-F}
 
 -- the first member with the text has what f makes of its value
-abbrev pub changed : List ℕ → (Tree → Tree) → Members → Members
-changed k f no_members = no_members
-changed k f (member l t ms) = if bytes_eq k l then member l (f t) ms else member l t (changed k f ms)
+abbrev pub with_changed : List ℕ → (Tree → Tree) → Members → Members
+with_changed k f no_members = no_members
+with_changed k f (member l t ms) = if bytes_eq k l then member l (f t) ms else member l t (with_changed k f ms)
 
 -- without the last
-abbrev pub without_last : Members → Members
-without_last no_members = no_members
-without_last (member k t no_members) = no_members
-without_last (member k t (member l u ms)) = member k t (without_last (member l u ms))
+abbrev pub without_last_member : Members → Members
+without_last_member no_members = no_members
+without_last_member (member k t no_members) = no_members
+without_last_member (member k t (member l u ms)) = member k t (without_last_member (member l u ms))
 
 -- an object with what f makes of its members; anything else stays
 abbrev pub in_object : (Members → Members) → Tree → Tree
@@ -48,13 +48,13 @@ module _ {T : Type 0} (t : T → List ℕ) where
   level_finished (Logged-F.Goes k) ms = cut (t k) ms
   level_finished Logged-F.Added ms = ms
   level_finished (Logged-F.Swapped k v) ms = ms
-  level_finished (Logged-F.Within k log) ms = changed (t k) (in_object (in_turn log.items)) ms
+  level_finished (Logged-F.Within k log) ms = with_changed (t k) (in_object (in_turn log.items)) ms
 
   abbrev pub level_undone : Logged-F T (Members → Members) → Members → Members
   level_undone (Logged-F.Goes k) ms = ms
-  level_undone Logged-F.Added ms = without_last ms
-  level_undone (Logged-F.Swapped k v) ms = changed (t k) (λ _. tree t v) ms
-  level_undone (Logged-F.Within k log) ms = changed (t k) (in_object (back log.items)) ms
+  level_undone Logged-F.Added ms = without_last_member ms
+  level_undone (Logged-F.Swapped k v) ms = with_changed (t k) (λ _. document_tree t v) ms
+  level_undone (Logged-F.Within k log) ms = with_changed (t k) (in_object (back log.items)) ms
 
   -- the members, once what was logged at one is finished
   abbrev pub finished_one : Logged T → Members → Members
@@ -67,13 +67,13 @@ module _ {T : Type 0} (t : T → List ℕ) where
   abbrev pub finished : List (Logged T) → Members → Members
   finished log ms = in_turn (map finished_one log) ms
 
-  abbrev pub undone : List (Logged T) → Members → Members
-  undone log ms = back (map undone_one log) ms
+  abbrev pub log_undone : List (Logged T) → Members → Members
+  log_undone log ms = back (map undone_one log) ms
 
   -- the patch's members were merged into those before, but for those that go
   abbrev pub Merges : Members → Members → Members → Result (Vec (Logged T) Global) AllocError → Type 0
   Merges ps before after r =
-      MatchResult r (λ log. (finished log.items after ≡ merged_members before ps) × (undone log.items after ≡ before)) (λ e. after ≡ before)
+      MatchResult r (λ log. (finished log.items after ≡ merged_members before ps) × (log_undone log.items after ≡ before)) (λ e. after ≡ before)
 
   -- the pair was merged into the members before, where more is to be finished first
   pub record MergesPair (k : List ℕ) (v : Tree) (before after : Members) (x : Logged T) : Type 0 where
@@ -81,8 +81,8 @@ module _ {T : Type 0} (t : T → List ℕ) where
     pub undo : undone_one x after ≡ before
     pub apart : (l : List ℕ) → l ≢ k → Passes l (finished_one x)
 
-  abbrev pub Changes : List ℕ → Tree → Members → Members → Result (Logged T) AllocError → Type 0
-  Changes k v before after r = MatchResult r (MergesPair k v before after) (λ e. after ≡ before)
+  abbrev pub MergesAt : List ℕ → Tree → Members → Members → Result (Logged T) AllocError → Type 0
+  MergesAt k v before after r = MatchResult r (MergesPair k v before after) (λ e. after ≡ before)
 
   -- the value was merged into that of the text before
   pub record MergesValue (k : List ℕ) (v before after : Tree) (x : Logged T) : Type 0 where

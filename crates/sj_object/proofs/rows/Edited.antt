@@ -2,9 +2,9 @@
 use Rattle.std.proofs.Common.{◌≡◌, ℕ, pos, true, false, List, [], ◌∷◌, refl, codes, Some, None}
 use Rattle.sj_text_core.specs.Tree.{u64, Tree, int, no_members, member}
 use Rattle.sj_object.specs.Texts.{no_repeats}
-use Rattle.sj_object.specs.Entries.{Entry, texts, keys, values, entries_of}
+use Rattle.sj_object.specs.Entries.{Entry, entry_texts, keys, values, entries_of}
 use Rattle.sj_object.specs.Members.{entry_members}
-use Rattle.sj_object.specs.Edits.{lookup, position, put, cut, set_value, value_at, set_value_at}
+use Rattle.sj_object.specs.Edits.{lookup, position, put_entry, cut_entry, set_value, nth_value, set_value_at}
 
 -- a key is a number of its own, beside its text
 abbrev entry : ℕ → List ℕ → ℕ → Entry ℕ ℕ
@@ -18,10 +18,10 @@ ab = entry 10 (codes "a") 1 ∷ entry 20 (codes "b") 2 ∷ []
 abbrev aba : List (Entry ℕ ℕ)
 aba = entry 10 (codes "a") 1 ∷ entry 20 (codes "b") 2 ∷ entry 30 (codes "a") 3 ∷ []
 
-distinct : no_repeats (texts ab) ≡ true
+distinct : no_repeats (entry_texts ab) ≡ true
 distinct = refl
 
-repeated : no_repeats (texts aba) ≡ false
+repeated : no_repeats (entry_texts aba) ≡ false
 repeated = refl
 
 found : lookup (codes "b") ab ≡ Some 2
@@ -54,17 +54,17 @@ place-absent : position (codes "c") ab ≡ None
 place-absent = refl
 
 -- the stored key 10 stays, in its place
-put-present : put (40, codes "a") 4 ab ≡ entry 10 (codes "a") 4 ∷ entry 20 (codes "b") 2 ∷ []
+put-present : put_entry (40, codes "a") 4 ab ≡ entry 10 (codes "a") 4 ∷ entry 20 (codes "b") 2 ∷ []
 put-present = refl
 
-put-absent : put (40, codes "c") 4 ab ≡ entry 10 (codes "a") 1 ∷ entry 20 (codes "b") 2 ∷ entry 40 (codes "c") 4 ∷ []
+put-absent : put_entry (40, codes "c") 4 ab ≡ entry 10 (codes "a") 1 ∷ entry 20 (codes "b") 2 ∷ entry 40 (codes "c") 4 ∷ []
 put-absent = refl
 
-put-none : put (40, codes "c") 4 [] ≡ entry 40 (codes "c") 4 ∷ []
+put-none : put_entry (40, codes "c") 4 [] ≡ entry 40 (codes "c") 4 ∷ []
 put-none = refl
 
 -- the first of a text alone
-put-repeated : put (40, codes "a") 4 aba ≡ entry 10 (codes "a") 4 ∷ entry 20 (codes "b") 2 ∷ entry 30 (codes "a") 3 ∷ []
+put-repeated : put_entry (40, codes "a") 4 aba ≡ entry 10 (codes "a") 4 ∷ entry 20 (codes "b") 2 ∷ entry 30 (codes "a") 3 ∷ []
 put-repeated = refl
 
 set-absent : set_value (codes "c") 4 ab ≡ ab
@@ -73,26 +73,26 @@ set-absent = refl
 set-repeated : set_value (codes "a") 4 aba ≡ entry 10 (codes "a") 4 ∷ entry 20 (codes "b") 2 ∷ entry 30 (codes "a") 3 ∷ []
 set-repeated = refl
 
-cut-front : cut (codes "a") ab ≡ entry 20 (codes "b") 2 ∷ []
+cut-front : cut_entry (codes "a") ab ≡ entry 20 (codes "b") 2 ∷ []
 cut-front = refl
 
-cut-absent : cut (codes "c") ab ≡ ab
+cut-absent : cut_entry (codes "c") ab ≡ ab
 cut-absent = refl
 
 -- the first of a text alone
-cut-repeated : cut (codes "a") aba ≡ entry 20 (codes "b") 2 ∷ entry 30 (codes "a") 3 ∷ []
+cut-repeated : cut_entry (codes "a") aba ≡ entry 20 (codes "b") 2 ∷ entry 30 (codes "a") 3 ∷ []
 cut-repeated = refl
 
-second : value_at 1 ab ≡ Some 2
+second : nth_value 1 ab ≡ Some 2
 second = refl
 
-past : value_at 2 ab ≡ None
+past : nth_value 2 ab ≡ None
 past = refl
 
 second-set : set_value_at 1 9 ab ≡ entry 10 (codes "a") 1 ∷ entry 20 (codes "b") 9 ∷ []
 second-set = refl
 
-texts-row : texts ab ≡ codes "a" ∷ codes "b" ∷ []
+texts-row : entry_texts ab ≡ codes "a" ∷ codes "b" ∷ []
 texts-row = refl
 
 keys-row : keys ab ≡ 10 ∷ 20 ∷ []

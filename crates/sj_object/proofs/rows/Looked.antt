@@ -2,8 +2,8 @@
 use Rattle.std.proofs.Common.{◌≡◌, ℕ, List, [], ◌∷◌, length, refl, codes, Some, None}
 use Rattle.sj_text_core.specs.Hash.{hash}
 use Rattle.sj_object.specs.Entries.{Entry}
-use Rattle.sj_object.specs.Steps.{visited, found_on, chain, walk}
-use Rattle.sj_object.specs.inner.Steps.{compared}
+use Rattle.sj_object.specs.Steps.{entries_visited, found_on, chain, walk}
+use Rattle.sj_object.specs.inner.Steps.{entries_compared}
 
 abbrev entry : List ℕ → ℕ → Entry ℕ ℕ
 entry k v = ((v, k), v)
@@ -20,16 +20,16 @@ hash-last = refl
 
 -- ---- a plain list: up to the one found, and all of them where none is
 
-visited-first : visited (codes "Aa") three ≡ 1
+visited-first : entries_visited (codes "Aa") three ≡ 1
 visited-first = refl
 
-visited-last : visited (codes "BB") three ≡ 3
+visited-last : entries_visited (codes "BB") three ≡ 3
 visited-last = refl
 
-visited-absent : visited (codes "x") three ≡ 3
+visited-absent : entries_visited (codes "x") three ≡ 3
 visited-absent = refl
 
-visited-none : visited {K = ℕ} {V = ℕ} (codes "x") [] ≡ 0
+visited-none : entries_visited {K = ℕ} {V = ℕ} (codes "x") [] ≡ 0
 visited-none = refl
 
 -- ---- 64 buckets: 2112 is in bucket 0, 99 in bucket 35
@@ -74,8 +74,8 @@ walk-length = refl
 onward : found_on (codes "c") three ≡ entry (codes "c") 1 ∷ entry (codes "BB") 2 ∷ []
 onward = refl
 
-compared-plain : compared hash None (codes "BB") three ≡ 3
+compared-plain : entries_compared hash None (codes "BB") three ≡ 3
 compared-plain = refl
 
-compared-hashed : compared hash (Some 64) (codes "BB") three ≡ 1
+compared-hashed : entries_compared hash (Some 64) (codes "BB") three ≡ 1
 compared-hashed = refl

@@ -56,9 +56,9 @@ abbrev pub taken : ℕ → List Mark → List Tree → List Tree
 taken zero ns ps = []
 taken (suc n) ns ps = made_of (first_mark ns) ps ∷ taken n (behind ns) (left_of (first_mark ns) ps)
 
-abbrev pub left : ℕ → List Mark → List Tree → List Tree
-left zero ns ps = ps
-left (suc n) ns ps = left n (behind ns) (left_of (first_mark ns) ps)
+abbrev pub trees_left : ℕ → List Mark → List Tree → List Tree
+trees_left zero ns ps = ps
+trees_left (suc n) ns ps = trees_left n (behind ns) (left_of (first_mark ns) ps)
 
 abbrev pub CanTakeItems : ℕ → List Mark → List Tree → Type 0
 CanTakeItems zero ns ps = ⊤
@@ -89,9 +89,9 @@ abbrev pub pair_texts : List (List ℕ × Tree) → List (List ℕ)
 pair_texts ps = map (λ p. p.0) ps
 
 -- the pairs put behind those that are done, unless their text is there
-abbrev pub kept : List (List ℕ × Tree) → List (List ℕ × Tree) → List (List ℕ × Tree)
-kept done [] = done
-kept done (p ∷ ps) = kept (if is_seen p.0 (pair_texts done) then done else done ++ p ∷ []) ps
+abbrev pub kept_pairs : List (List ℕ × Tree) → List (List ℕ × Tree) → List (List ℕ × Tree)
+kept_pairs done [] = done
+kept_pairs done (p ∷ ps) = kept_pairs (if is_seen p.0 (pair_texts done) then done else done ++ p ∷ []) ps
 
 -- the first pair with the text has the value t, in its place; where there is none, the pair goes last
 abbrev pub put_pair : List ℕ → Tree → List (List ℕ × Tree) → List (List ℕ × Tree)
@@ -99,18 +99,18 @@ put_pair k t [] = (k, t) ∷ []
 put_pair k t (p ∷ ps) = if bytes_eq k p.0 then (p.0, t) ∷ ps else p ∷ put_pair k t ps
 
 -- the pairs put in turn
-abbrev pub in_turn : List (List ℕ × Tree) → List (List ℕ × Tree) → List (List ℕ × Tree)
-in_turn done [] = done
-in_turn done (p ∷ ps) = in_turn (put_pair p.0 p.1 done) ps
+abbrev pub put_in_turn : List (List ℕ × Tree) → List (List ℕ × Tree) → List (List ℕ × Tree)
+put_in_turn done [] = done
+put_in_turn done (p ∷ ps) = put_in_turn (put_pair p.0 p.1 done) ps
 
 -- the pairs behind those that are done, of each text the one that counts
 abbrev pub kept_by : Repeats → List (List ℕ × Tree) → List (List ℕ × Tree) → List (List ℕ × Tree)
-kept_by First done ps = kept done ps
-kept_by Last done ps = in_turn done ps
+kept_by First done ps = kept_pairs done ps
+kept_by Last done ps = put_in_turn done ps
 
 -- the entries of a map, each key as its text and each value as its tree
-abbrev pub shown : {K V : Type 0} → (V → Tree) → List (Entry K V) → List (List ℕ × Tree)
-shown {K} {V} tree es = map (λ (e : Entry K V). (e.0.1, tree e.1)) es
+abbrev pub entry_pairs : {K V : Type 0} → (V → Tree) → List (Entry K V) → List (List ℕ × Tree)
+entry_pairs {K} {V} tree es = map (λ (e : Entry K V). (e.0.1, tree e.1)) es
 
 -- ---- one node
 
@@ -123,6 +123,6 @@ Needs (_ ∷ ns) ps = ⊤
 
 -- the pile after a node
 abbrev pub grown : Repeats → List Mark → List Tree → List Tree
-grown c (array len count ∷ ns) ps = list (items_from (taken len ns ps)) ∷ left len ns ps
+grown c (array len count ∷ ns) ps = list (items_from (taken len ns ps)) ∷ trees_left len ns ps
 grown c (object len count ∷ ns) ps = obj (members_from (kept_by c [] (taken_pairs len ns ps))) ∷ left_pairs len ns ps
 grown c _ ps = ps

@@ -14,7 +14,7 @@ use std::sync::ledger::Ledger;
 
 impl<K: KeyText, V, S: KeyHasher> HashMap<K, V, S> {
     ghost use Rattle.sj_object.specs.Edits.{lookup, position};
-    ghost use Rattle.sj_object.specs.Steps.{visited, walk};
+    ghost use Rattle.sj_object.specs.Steps.{entries_visited, walk};
     ghost use Rattle.sj_object.specs.Lends.{LendsValue};
 
     /// The hash of a text, where there are buckets.
@@ -62,7 +62,7 @@ impl<K: KeyText, V, S: KeyHasher> HashMap<K, V, S> {
     /// for every member of the bucket where none is found.
     pub fn get_steps<L: Ledger>(&self, key: &str, steps: &mut Steps<L>) -> Option<&V>
         ensures value { option_copied result ≡ lookup key.now self.now.entries }
-        ensures exact { self.now.buckets ≡ None → steps.new ≡ steps.old + visited key.now self.now.entries }
+        ensures exact { self.now.buckets ≡ None → steps.new ≡ steps.old + entries_visited key.now self.now.entries }
         ensures chained { (n : ℕ) → self.now.buckets ≡ Some n → steps.new ≡ steps.old + walk (S.hash_of self.now.hasher) n key.now self.now.entries }
     {
         let hash = self.hash_in(key);

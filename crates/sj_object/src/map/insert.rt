@@ -11,7 +11,7 @@ use sj_text_core::Refused;
 use std::alloc::AllocError;
 
 impl<K: KeyText, V, S: KeyHasher> HashMap<K, V, S> {
-    ghost use Rattle.sj_object.specs.Edits.{lookup, put};
+    ghost use Rattle.sj_object.specs.Edits.{lookup, put_entry};
     ghost use Rattle.sj_object.specs.Index.{buckets_for, NeedsHash};
 
     /// Sets the value of the key, and answers the one before. A key that is there keeps its place
@@ -21,7 +21,7 @@ impl<K: KeyText, V, S: KeyHasher> HashMap<K, V, S> {
     where
         K: Drop,
         ensures answer { IfOk result (λ before. before ≡ lookup (K.text_of key) self.old.entries) }
-        ensures entries { OnOk result (self.new.entries ≡ put (key, K.text_of key) value self.old.entries) }
+        ensures entries { OnOk result (self.new.entries ≡ put_entry (key, K.text_of key) value self.old.entries) }
         ensures hasher { self.new.hasher ≡ self.old.hasher }
         ensures buckets { OnOk result (self.new.buckets ≡ buckets_for (length self.new.entries) self.old.buckets) }
         ensures refused { OnErr result (self.new ≡ self.old) }
@@ -43,7 +43,7 @@ impl<K: KeyText, V, S: KeyHasher> HashMap<K, V, S> {
         K: Drop,
         requires { hash ≡ S.hash_of self.old.hasher (K.text_of key) }
         ensures answer { IfOk result (λ before. before ≡ lookup (K.text_of key) self.old.entries) }
-        ensures entries { OnOk result (self.new.entries ≡ put (key, K.text_of key) value self.old.entries) }
+        ensures entries { OnOk result (self.new.entries ≡ put_entry (key, K.text_of key) value self.old.entries) }
         ensures hasher { self.new.hasher ≡ self.old.hasher }
         ensures buckets { OnOk result (self.new.buckets ≡ buckets_for (length self.new.entries) self.old.buckets) }
         ensures refused { OnErr result (self.new ≡ self.old) }
@@ -59,7 +59,7 @@ impl<K: KeyText, V, S: KeyHasher> HashMap<K, V, S> {
         K: Drop,
         requires { NeedsHash (length self.old.entries) self.old.buckets → hash ≡ S.hash_of self.old.hasher (K.text_of key) }
         ensures answer { IfOk result (λ before. before ≡ lookup (K.text_of key) self.old.entries) }
-        ensures entries { OnOk result (self.new.entries ≡ put (key, K.text_of key) value self.old.entries) }
+        ensures entries { OnOk result (self.new.entries ≡ put_entry (key, K.text_of key) value self.old.entries) }
         ensures hasher { self.new.hasher ≡ self.old.hasher }
         ensures buckets { OnOk result (self.new.buckets ≡ buckets_for (length self.new.entries) self.old.buckets) }
         ensures refused { OnErr result (self.new ≡ self.old) }

@@ -4,8 +4,8 @@ ghost use Rattle.std.specs.Prelude.{◌≡◌, ◌-◌, ◌<◌, ◌≤◌, ◌�
 ghost use Rattle.std.specs.List.{insert, remove};
 ghost use Rattle.std.specs.Option.{option_to_list};
 ghost use Rattle.std.specs.Vec.{vec_len, vec_capacity};
-ghost use Rattle.sj_object.specs.Stored.{members_of};
-ghost use Rattle.sj_object.specs.inner.Stored.{HasPlaceIn};
+ghost use Rattle.sj_object.specs.Stored.{stored_members};
+ghost use Rattle.sj_object.specs.inner.Stored.{HasSpareIn};
 
 use std::alloc::{AllocError, Global};
 use std::collections::VecDeque;
@@ -24,7 +24,7 @@ impl<K, V> Members<K, V> {
     /// How many there are.
     #[inline(always)]
     pub fn len(&self) -> usize
-        ensures { result ≡ length (members_of self.now) }
+        ensures { result ≡ length (stored_members self.now) }
     {
         match self {
             Members::Listed(pairs) => pairs.len(),
@@ -43,7 +43,7 @@ impl<K, V> Members<K, V> {
     /// All in order, in two parts.
     #[inline(always)]
     pub fn as_slices(&self) -> (&[(K, V)], &[(K, V)])
-        ensures { result.0.now ++ result.1.now ≡ members_of self.now }
+        ensures { result.0.now ++ result.1.now ≡ stored_members self.now }
     {
         match self {
             Members::Listed(pairs) => (pairs.as_slice(), &[]),
@@ -54,8 +54,8 @@ impl<K, V> Members<K, V> {
     /// The member at a position.
     #[inline(always)]
     pub fn pair(&self, position: usize) -> &(K, V)
-        requires { position < length (members_of self.now) }
-        ensures { result.now ≡ slice_index_or (members_of self.now) position result.now }
+        requires { position < length (stored_members self.now) }
+        ensures { result.now ≡ slice_index_or (stored_members self.now) position result.now }
     {
         match self {
             Members::Listed(pairs) => &pairs[position],
@@ -66,9 +66,9 @@ impl<K, V> Members<K, V> {
     /// Sets the value of the member at a position, and answers the one before.
     #[inline(always)]
     pub fn replace(&mut self, position: usize, value: V) -> V
-        requires { position < length (members_of self.old) }
-        ensures before { (pair : K × V) → pair ≡ slice_index_or (members_of self.old) position pair → result ≡ pair.1 }
-        ensures pairs { (pair : K × V) → pair ≡ slice_index_or (members_of self.old) position pair → members_of self.new ≡ slice_set (members_of self.old) position (pair.0, value) }
+        requires { position < length (stored_members self.old) }
+        ensures before { (pair : K × V) → pair ≡ slice_index_or (stored_members self.old) position pair → result ≡ pair.1 }
+        ensures pairs { (pair : K × V) → pair ≡ slice_index_or (stored_members self.old) position pair → stored_members self.new ≡ slice_set (stored_members self.old) position (pair.0, value) }
     {
         match self {
             Members::Listed(pairs) => mem::replace(&mut pairs[position].1, value),
@@ -79,8 +79,8 @@ impl<K, V> Members<K, V> {
     /// Makes a place for one more.
     #[inline(always)]
     pub fn reserve(&mut self) -> Result<(), AllocError>
-        ensures pairs { members_of self.new ≡ members_of self.old }
-        ensures place { OnOk result (HasPlaceIn self.new) }
+        ensures pairs { stored_members self.new ≡ stored_members self.old }
+        ensures place { OnOk result (HasSpareIn self.new) }
     {
         match self {
             Members::Listed(pairs) => pairs.reserve(1),
@@ -91,8 +91,8 @@ impl<K, V> Members<K, V> {
     /// Puts a member last, for which there is a place.
     #[inline(always)]
     pub fn push_reserved(&mut self, pair: (K, V))
-        requires { HasPlaceIn self.old }
-        ensures { members_of self.new ≡ members_of self.old ++ pair ∷ [] }
+        requires { HasSpareIn self.old }
+        ensures { stored_members self.new ≡ stored_members self.old ++ pair ∷ [] }
     {
         match self {
             Members::Listed(pairs) => pairs.push_reserved(pair),
@@ -103,9 +103,9 @@ impl<K, V> Members<K, V> {
     /// Puts a member at a position, for which there is a place. Each from there on goes to the position
     /// behind its own.
     pub fn insert_reserved(&mut self, position: usize, pair: (K, V))
-        requires place { HasPlaceIn self.old }
-        requires within { position ≤ length (members_of self.old) }
-        ensures { members_of self.new ≡ insert (members_of self.old) position pair }
+        requires place { HasSpareIn self.old }
+        requires within { position ≤ length (stored_members self.old) }
+        ensures { stored_members self.new ≡ insert (stored_members self.old) position pair }
     {
         match self {
             Members::Listed(pairs) => pairs.insert(position, pair).unwrap(),
@@ -118,7 +118,7 @@ impl<K, V> Members<K, V> {
     where
         K: Drop,
         V: Drop,
-        ensures { members_of self.new ≡ [] }
+        ensures { stored_members self.new ≡ [] }
     {
         match self {
             Members::Listed(pairs) => pairs.clear(),
@@ -128,10 +128,10 @@ impl<K, V> Members<K, V> {
 
     /// Takes the one at a position out. Those after it close up.
     pub fn remove(&mut self, position: usize) -> Option<(K, V)>
-        requires { position < length (members_of self.old) }
-        ensures pair { IfSome result (λ p. p ≡ slice_index_or (members_of self.old) position p) }
+        requires { position < length (stored_members self.old) }
+        ensures pair { IfSome result (λ p. p ≡ slice_index_or (stored_members self.old) position p) }
         ensures some { IsSome result }
-        ensures pairs { members_of self.new ≡ remove (members_of self.old) position }
+        ensures pairs { stored_members self.new ≡ remove (stored_members self.old) position }
     {
         if position + 1 < self.len() {
             self.turn();
@@ -145,9 +145,9 @@ impl<K, V> Members<K, V> {
     /// Takes the last one out.
     #[inline(always)]
     pub fn pop(&mut self) -> Option<(K, V)>
-        ensures pairs { members_of self.old ≡ members_of self.new ++ option_to_list result }
-        ensures rest { members_of self.new ≡ take (length (members_of self.old) - 1) (members_of self.old) }
-        ensures none { IfNone result (members_of self.new ≡ []) }
+        ensures pairs { stored_members self.old ≡ stored_members self.new ++ option_to_list result }
+        ensures rest { stored_members self.new ≡ take (length (stored_members self.old) - 1) (stored_members self.old) }
+        ensures none { IfNone result (stored_members self.new ≡ []) }
     {
         match self {
             Members::Listed(pairs) => pairs.pop(),
@@ -157,7 +157,7 @@ impl<K, V> Members<K, V> {
 
     /// Makes a ring of a list, in its memory.
     fn turn(&mut self)
-        ensures { members_of self.new ≡ members_of self.old }
+        ensures { stored_members self.new ≡ stored_members self.old }
     {
         let alloc = self.allocator();
         let ring = mem::replace(self, Members::Listed(Vec::new(alloc))).into_ring();
@@ -167,7 +167,7 @@ impl<K, V> Members<K, V> {
     }
 
     fn into_ring(self) -> VecDeque<(K, V)>
-        ensures { result.items ≡ members_of self }
+        ensures { result.items ≡ stored_members self }
     {
         match self {
             Members::Listed(pairs) => VecDeque::from_vec(pairs),
@@ -177,8 +177,8 @@ impl<K, V> Members<K, V> {
 
     /// All in order, as a list.
     pub fn into_vec(self) -> Vec<(K, V)>
-        ensures pairs { result.items ≡ members_of self }
-        ensures place { HasPlaceIn self → vec_len result < vec_capacity result }
+        ensures pairs { result.items ≡ stored_members self }
+        ensures place { HasSpareIn self → vec_len result < vec_capacity result }
     {
         match self {
             Members::Listed(pairs) => pairs,

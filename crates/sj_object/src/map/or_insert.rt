@@ -13,7 +13,7 @@ use crate::key::KeyText;
 use std::alloc::AllocError;
 
 impl<K: KeyText, V, S: KeyHasher> HashMap<K, V, S> {
-    ghost use Rattle.sj_object.specs.Edits.{lookup, value_at};
+    ghost use Rattle.sj_object.specs.Edits.{lookup, nth_value};
     ghost use Rattle.sj_object.specs.Index.{NeedsHash};
     ghost use Rattle.sj_object.specs.Lends.{LendsAt, LendsEntry};
 
@@ -22,7 +22,7 @@ impl<K: KeyText, V, S: KeyHasher> HashMap<K, V, S> {
     pub fn value_at_mut(&mut self, position: usize) -> &mut V
         requires { position < length self.old.entries }
         ensures* writes_back { sem 𝓛 (LendsAt K.row V.row S.row K.KeyText S.KeyHasher self.entry position result) }
-        ensures value { value_at position self.old.entries ≡ Some result.now }
+        ensures value { nth_value position self.old.entries ≡ Some result.now }
     {
         match &mut self.store {
             Store::Plain(pairs) => {

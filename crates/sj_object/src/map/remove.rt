@@ -7,7 +7,7 @@ use crate::hasher::KeyHasher;
 use crate::key::KeyText;
 
 impl<K: KeyText, V, S: KeyHasher> HashMap<K, V, S> {
-    ghost use Rattle.sj_object.specs.Edits.{lookup, cut};
+    ghost use Rattle.sj_object.specs.Edits.{lookup, cut_entry};
     ghost use Rattle.sj_object.specs.Entries.{entries_of};
 
     /// Takes the key's member out, and answers its value. The members after it close up.
@@ -15,7 +15,7 @@ impl<K: KeyText, V, S: KeyHasher> HashMap<K, V, S> {
     where
         K: Drop,
         ensures answer { result ≡ lookup key.now self.old.entries }
-        ensures entries { self.new.entries ≡ cut key.now self.old.entries }
+        ensures entries { self.new.entries ≡ cut_entry key.now self.old.entries }
         ensures hasher { self.new.hasher ≡ self.old.hasher }
         ensures buckets { self.new.buckets ≡ self.old.buckets }
     {

@@ -6,7 +6,7 @@ ghost use Rattle.std.specs.Vec.{vec_capacity};
 ghost use Rattle.sj_object.specs.Entries.{entries_of};
 ghost use Rattle.sj_object.specs.Index.{IsTable, IsTableOf};
 ghost use Rattle.sj_object.specs.Rooms.{indexed, places, takes, restored_all};
-ghost use Rattle.sj_object.specs.Stored.{members_of, pairs_of, IsIndexOf};
+ghost use Rattle.sj_object.specs.Stored.{stored_members, pairs_of, IsIndexOf};
 ghost use Rattle.sj_object.specs.inner.Stored.{IsEmptied};
 
 use super::HashMap;
@@ -77,10 +77,10 @@ impl<K: KeyText, V> Store<K, V> {
 impl<K: KeyText, V> Hashed<K, V> {
     /// Takes the pairs for its members, of which there are none, and makes the index theirs.
     fn take<S: KeyHasher>(&mut self, pairs: Vec<(K, V)>, hasher: &S)
-        requires none { length (members_of self.old.members) ≡ 0 }
+        requires none { length (stored_members self.old.members) ≡ 0 }
         requires table { IsTable self.old.table }
         requires buckets { length pairs.items ≤ length self.old.table.heads.items }
-        ensures members { members_of self.new.members ≡ pairs.items }
+        ensures members { stored_members self.new.members ≡ pairs.items }
         ensures table { IsTableOf (map (λ p. S.hash_of hasher.now (K.text_of p.0)) pairs.items) self.new.table }
     {
         mem::replace(&mut self.members, Members::Listed(pairs))
@@ -174,7 +174,7 @@ impl<K, V> Hashed<K, V> {
     /// No members, beside as many buckets.
     fn emptied(&self, alloc: Global) -> Result<Box<Self>, AllocError>
         requires { IsTable self.now.table }
-        ensures members { IfOk result (λ b. length (members_of b.value.members) ≡ 0) }
+        ensures members { IfOk result (λ b. length (stored_members b.value.members) ≡ 0) }
         ensures table { IfOk result (λ b. IsTable b.value.table) }
         ensures buckets { IfOk result (λ b. length b.value.table.heads.items ≡ length self.now.table.heads.items) }
     {

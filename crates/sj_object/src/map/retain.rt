@@ -3,7 +3,7 @@
 ghost use Rattle.std.specs.Prelude.{◌≡◌, ◌+◌, ◌≤◌, ◌++◌, length, map};
 ghost use Rattle.std.specs.Map.Calls.{CalledAtPair, RetainsPairs};
 ghost use Rattle.sj_object.specs.Index.{hashes_in, IsTable, IsTableOf};
-ghost use Rattle.sj_object.specs.Stored.{members_of, pairs_of, buckets_of, IsIndexOf};
+ghost use Rattle.sj_object.specs.Stored.{stored_members, pairs_of, buckets_of, IsIndexOf};
 
 use super::HashMap;
 use super::index::Table;
@@ -56,9 +56,9 @@ impl<K: KeyText + Drop, V: Drop> Hashed<K, V> {
     /// Keeps the members for which `keep` answers true, and their hashes.
     fn retain<S: KeyHasher, F: FnMut(&K, &mut V) -> bool + Drop>(&mut self, hasher: &S, keep: F)
         requires callable { F.IsAlwaysCallable keep }
-        requires table { IsTableOf (map (λ p. S.hash_of hasher.now (K.text_of p.0)) (members_of self.old.members)) self.old.table }
-        ensures retained { RetainsPairs (CalledAtPair F.FnMut) keep (members_of self.old.members) (members_of self.new.members) }
-        ensures table { IsTableOf (map (λ p. S.hash_of hasher.now (K.text_of p.0)) (members_of self.new.members)) self.new.table }
+        requires table { IsTableOf (map (λ p. S.hash_of hasher.now (K.text_of p.0)) (stored_members self.old.members)) self.old.table }
+        ensures retained { RetainsPairs (CalledAtPair F.FnMut) keep (stored_members self.old.members) (stored_members self.new.members) }
+        ensures table { IsTableOf (map (λ p. S.hash_of hasher.now (K.text_of p.0)) (stored_members self.new.members)) self.new.table }
         ensures buckets { length self.new.table.heads.items ≡ length self.old.table.heads.items }
     {
         let before = self.members.len();
@@ -74,7 +74,7 @@ impl<K: Drop, V: Drop> Members<K, V> {
     /// Keeps those for which `keep` answers true, as a list.
     fn retain<F: FnMut(&K, &mut V) -> bool + Drop>(&mut self, keep: F)
         requires { F.IsAlwaysCallable keep }
-        ensures { RetainsPairs (CalledAtPair F.FnMut) keep (members_of self.old) (members_of self.new) }
+        ensures { RetainsPairs (CalledAtPair F.FnMut) keep (stored_members self.old) (stored_members self.new) }
     {
         let alloc = self.allocator();
         let pairs = mem::replace(self, Members::Listed(Vec::new(alloc))).into_vec();
@@ -122,8 +122,8 @@ pub(super) fn index_anew<K: KeyText, V, S: KeyHasher>(
     table: &mut Table,
 )
     requires table { IsTable table.old }
-    requires room { length (members_of members.now) ≤ length table.old.heads.items }
-    ensures table { IsTableOf (map (λ p. S.hash_of hasher.now (K.text_of p.0)) (members_of members.now)) table.new }
+    requires room { length (stored_members members.now) ≤ length table.old.heads.items }
+    ensures table { IsTableOf (map (λ p. S.hash_of hasher.now (K.text_of p.0)) (stored_members members.now)) table.new }
     ensures buckets { length table.new.heads.items ≡ length table.old.heads.items }
 {
     let (front, back) = members.as_slices();

@@ -4,7 +4,7 @@ ghost use Rattle.std.specs.Prelude.{◌≡◌, ◌+◌, ◌<◌, ◌≤◌, ◌�
 ghost use Rattle.std.specs.Vec.{vec_len, vec_capacity};
 ghost use Rattle.sj_object.specs.Index.{buckets_for, IsTableOf, NeedsHash};
 ghost use Rattle.sj_object.specs.Stored.{pairs_of, buckets_of, IsIndexOf};
-ghost use Rattle.sj_object.specs.inner.Stored.{HasPlace};
+ghost use Rattle.sj_object.specs.inner.Stored.{HasSpare};
 
 use super::index::Table;
 use super::members::Members;
@@ -52,7 +52,7 @@ impl<K, V> Store<K, V> {
     #[inline(always)]
     fn reserve(&mut self) -> Result<(), AllocError>
         ensures pairs { pairs_of self.new ≡ pairs_of self.old }
-        ensures place { OnOk result (HasPlace self.new) }
+        ensures place { OnOk result (HasSpare self.new) }
         ensures index { (hashes : List ℕ) → IsIndexOf hashes self.old → IsIndexOf hashes self.new }
         ensures buckets { buckets_of self.new ≡ buckets_of self.old }
     {
@@ -65,7 +65,7 @@ impl<K, V> Store<K, V> {
     /// The members beside their index. Where there is no memory they are a plain list.
     fn indexed(alloc: Global, pairs: Vec<(K, V)>, table: Table) -> (Self, Result<(), AllocError>)
         ensures pairs { pairs_of result.0 ≡ pairs.items }
-        ensures place { vec_len pairs < vec_capacity pairs → HasPlace result.0 }
+        ensures place { vec_len pairs < vec_capacity pairs → HasSpare result.0 }
         ensures index { (hashes : List ℕ) → IsTableOf hashes table → OnOk result.1 (IsIndexOf hashes result.0) }
         ensures buckets { OnOk result.1 (buckets_of result.0 ≡ Some (length table.heads.items)) }
         ensures refused { OnErr result.1 (buckets_of result.0 ≡ None) }
@@ -83,7 +83,7 @@ impl<K, V> Store<K, V> {
     /// Puts the members beside their index. Where there is no memory they are a plain list then.
     fn put_beside(&mut self, table: Table) -> Result<(), AllocError>
         ensures pairs { pairs_of self.new ≡ pairs_of self.old }
-        ensures place { HasPlace self.old → HasPlace self.new }
+        ensures place { HasSpare self.old → HasSpare self.new }
         ensures index { (hashes : List ℕ) → IsTableOf hashes table → OnOk result (IsIndexOf hashes self.new) }
         ensures buckets { OnOk result (buckets_of self.new ≡ Some (length table.heads.items)) }
         ensures refused { OnErr result (buckets_of self.new ≡ None) }
@@ -106,7 +106,7 @@ fn add_hash<K: KeyText, V, S: KeyHasher>(
     requires index { IsIndexOf (map (λ p. S.hash_of hasher.now (K.text_of p.0)) (pairs_of store.old)) store.old }
     requires many { NeedsHash (length (pairs_of store.old)) (buckets_of store.old) }
     ensures pairs { pairs_of store.new ≡ pairs_of store.old }
-    ensures place { HasPlace store.old → HasPlace store.new }
+    ensures place { HasSpare store.old → HasSpare store.new }
     ensures ok { OnOk result (IsIndexOf (map (λ p. S.hash_of hasher.now (K.text_of p.0)) (pairs_of store.old) ++ hash ∷ []) store.new) }
     ensures buckets { OnOk result (buckets_of store.new ≡ buckets_for (length (pairs_of store.old) + 1) (buckets_of store.old)) }
     ensures refused { OnErr result (IsIndexOf (map (λ p. S.hash_of hasher.now (K.text_of p.0)) (pairs_of store.old)) store.new) }
@@ -129,7 +129,7 @@ pub fn make_room<K: KeyText, V, S: KeyHasher>(
 ) -> Result<(), AllocError>
     requires { IsIndexOf (map (λ p. S.hash_of hasher.now (K.text_of p.0)) (pairs_of store.old)) store.old }
     ensures pairs { pairs_of store.new ≡ pairs_of store.old }
-    ensures place { OnOk result (HasPlace store.new) }
+    ensures place { OnOk result (HasSpare store.new) }
     ensures ok { OnOk result (IsIndexOf (map (λ p. S.hash_of hasher.now (K.text_of p.0)) (pairs_of store.old) ++ hash ∷ []) store.new) }
     ensures buckets { OnOk result (buckets_of store.new ≡ buckets_for (length (pairs_of store.old) + 1) (buckets_of store.old)) }
     ensures refused { OnErr result (IsIndexOf (map (λ p. S.hash_of hasher.now (K.text_of p.0)) (pairs_of store.old)) store.new) }

@@ -4,12 +4,12 @@ ghost use Rattle.std.specs.Prelude.{◌≡◌, ◌+◌, ◌<◌, ◌%◌, ◌^�
 ghost use Rattle.std.specs.List.{position_from};
 ghost use Rattle.std.specs.Option.{is_some};
 ghost use Rattle.sj_object.specs.Edits.{lookup};
-ghost use Rattle.sj_object.specs.Entries.{entries_of, texts};
+ghost use Rattle.sj_object.specs.Entries.{entries_of, entry_texts};
 ghost use Rattle.sj_object.specs.Texts.{no_repeats};
-ghost use Rattle.sj_object.specs.Steps.{visited, walk};
-ghost use Rattle.sj_object.specs.inner.Steps.{compared};
+ghost use Rattle.sj_object.specs.Steps.{entries_visited, walk};
+ghost use Rattle.sj_object.specs.inner.Steps.{entries_compared};
 ghost use Rattle.sj_object.specs.Index.{IsTableOf};
-ghost use Rattle.sj_object.specs.Stored.{members_of, pairs_of, buckets_of, IsIndexOf};
+ghost use Rattle.sj_object.specs.Stored.{stored_members, pairs_of, buckets_of, IsIndexOf};
 
 use super::chain::bucket_of;
 use super::holes::pass;
@@ -41,7 +41,7 @@ fn position_in_list<K: KeyText, V, L: Ledger>(
     steps: &mut Steps<L>,
 ) -> Option<usize>
     ensures found { result ≡ position_from (λ p. bytes_eq text.now (K.text_of p.0)) 0 pairs.now }
-    ensures exact { steps.new ≡ steps.old + visited text.now (entries_of K.text_of pairs.now) }
+    ensures exact { steps.new ≡ steps.old + entries_visited text.now (entries_of K.text_of pairs.now) }
 {
     // How many are left. The list is counted down with it, so that a step counts no position.
     let mut left = pairs.len();
@@ -97,7 +97,7 @@ fn position_in_parts<K: KeyText, V, S: KeyHasher, L: Ledger>(
     text: &[u8],
     steps: &mut Steps<L>,
 ) -> Option<usize>
-    requires distinct { no_repeats (texts (entries_of K.text_of (front.now ++ back.now))) ≡ true }
+    requires distinct { no_repeats (entry_texts (entries_of K.text_of (front.now ++ back.now))) ≡ true }
     requires table { IsTableOf (map (λ p. S.hash_of _hasher.now (K.text_of p.0)) (front.now ++ back.now)) table.now }
     requires hash { hash ≡ S.hash_of _hasher.now text.now }
     ensures found { result ≡ position_from (λ p. bytes_eq text.now (K.text_of p.0)) 0 (front.now ++ back.now) }
@@ -132,7 +132,7 @@ fn position_in_ring<K: KeyText, V, S: KeyHasher, L: Ledger>(
     text: &[u8],
     steps: &mut Steps<L>,
 ) -> Option<usize>
-    requires distinct { no_repeats (texts (entries_of K.text_of ring.now.items)) ≡ true }
+    requires distinct { no_repeats (entry_texts (entries_of K.text_of ring.now.items)) ≡ true }
     requires table { IsTableOf (map (λ p. S.hash_of hasher.now (K.text_of p.0)) ring.now.items) table.now }
     requires hash { hash ≡ S.hash_of hasher.now text.now }
     ensures found { result ≡ position_from (λ p. bytes_eq text.now (K.text_of p.0)) 0 ring.now.items }
@@ -156,11 +156,11 @@ fn position_in_chain<K: KeyText, V, S: KeyHasher, L: Ledger>(
     text: &[u8],
     steps: &mut Steps<L>,
 ) -> Option<usize>
-    requires distinct { no_repeats (texts (entries_of K.text_of (members_of hashed.now.members))) ≡ true }
-    requires table { IsTableOf (map (λ p. S.hash_of hasher.now (K.text_of p.0)) (members_of hashed.now.members)) hashed.now.table }
+    requires distinct { no_repeats (entry_texts (entries_of K.text_of (stored_members hashed.now.members))) ≡ true }
+    requires table { IsTableOf (map (λ p. S.hash_of hasher.now (K.text_of p.0)) (stored_members hashed.now.members)) hashed.now.table }
     requires hash { hash ≡ S.hash_of hasher.now text.now }
-    ensures found { result ≡ position_from (λ p. bytes_eq text.now (K.text_of p.0)) 0 (members_of hashed.now.members) }
-    ensures exact { steps.new ≡ steps.old + walk (S.hash_of hasher.now) (length hashed.now.table.heads.items) text.now (entries_of K.text_of (members_of hashed.now.members)) }
+    ensures found { result ≡ position_from (λ p. bytes_eq text.now (K.text_of p.0)) 0 (stored_members hashed.now.members) }
+    ensures exact { steps.new ≡ steps.old + walk (S.hash_of hasher.now) (length hashed.now.table.heads.items) text.now (entries_of K.text_of (stored_members hashed.now.members)) }
 {
     let table = &hashed.table;
     match &hashed.members {
@@ -180,11 +180,11 @@ pub fn position_counted<K: KeyText, V, S: KeyHasher, L: Ledger>(
     text: &[u8],
     steps: &mut Steps<L>,
 ) -> Option<usize>
-    requires distinct { no_repeats (texts (entries_of K.text_of (pairs_of store.now))) ≡ true }
+    requires distinct { no_repeats (entry_texts (entries_of K.text_of (pairs_of store.now))) ≡ true }
     requires index { IsIndexOf (map (λ p. S.hash_of hasher.now (K.text_of p.0)) (pairs_of store.now)) store.now }
     requires hash { IsSome (buckets_of store.now) → hash ≡ S.hash_of hasher.now text.now }
     ensures found { result ≡ position_from (λ p. bytes_eq text.now (K.text_of p.0)) 0 (pairs_of store.now) }
-    ensures exact { steps.new ≡ steps.old + compared (S.hash_of hasher.now) (buckets_of store.now) text.now (entries_of K.text_of (pairs_of store.now)) }
+    ensures exact { steps.new ≡ steps.old + entries_compared (S.hash_of hasher.now) (buckets_of store.now) text.now (entries_of K.text_of (pairs_of store.now)) }
 {
     match store {
         Store::Plain(pairs) => position_in_list(pairs, text, steps),
@@ -204,7 +204,7 @@ fn position_blank<K: KeyText, V, S: KeyHasher, L: Ledger>(
     requires name { blank.name ≡ L.name }
     requires parts { blank.parts ≡ L.parts }
     requires some { 0 < L.parts }
-    requires distinct { no_repeats (texts (entries_of K.text_of (pairs_of store.now))) ≡ true }
+    requires distinct { no_repeats (entry_texts (entries_of K.text_of (pairs_of store.now))) ≡ true }
     requires index { IsIndexOf (map (λ p. S.hash_of hasher.now (K.text_of p.0)) (pairs_of store.now)) store.now }
     requires hash { IsSome (buckets_of store.now) → hash ≡ S.hash_of hasher.now text.now }
     ensures { result ≡ position_from (λ p. bytes_eq text.now (K.text_of p.0)) 0 (pairs_of store.now) }
@@ -222,7 +222,7 @@ pub fn position_here<K: KeyText, V, S: KeyHasher>(
     hash: u64,
     text: &str,
 ) -> Option<usize>
-    requires distinct { no_repeats (texts (entries_of K.text_of (pairs_of store.now))) ≡ true }
+    requires distinct { no_repeats (entry_texts (entries_of K.text_of (pairs_of store.now))) ≡ true }
     requires index { IsIndexOf (map (λ p. S.hash_of hasher.now (K.text_of p.0)) (pairs_of store.now)) store.now }
     requires hash { IsSome (buckets_of store.now) → hash ≡ S.hash_of hasher.now text.now }
     ensures { result ≡ position_from (λ p. bytes_eq text.now (K.text_of p.0)) 0 (pairs_of store.now) }
@@ -238,7 +238,7 @@ pub fn position_of<K: KeyText, V, S: KeyHasher>(
     hash: u64,
     text: &str,
 ) -> Option<usize>
-    requires distinct { no_repeats (texts (entries_of K.text_of (pairs_of store.now))) ≡ true }
+    requires distinct { no_repeats (entry_texts (entries_of K.text_of (pairs_of store.now))) ≡ true }
     requires index { IsIndexOf (map (λ p. S.hash_of hasher.now (K.text_of p.0)) (pairs_of store.now)) store.now }
     requires hash { IsSome (buckets_of store.now) → hash ≡ S.hash_of hasher.now text.now }
     ensures { result ≡ position_from (λ p. bytes_eq text.now (K.text_of p.0)) 0 (pairs_of store.now) }

@@ -12,7 +12,7 @@ use sj_text_core::Refused;
 use std::alloc::AllocError;
 
 impl<K: KeyText, V, S: KeyHasher> HashMap<K, V, S> {
-    ghost use Rattle.sj_object.specs.Edits.{lookup, position, cut};
+    ghost use Rattle.sj_object.specs.Edits.{lookup, position, cut_entry};
     ghost use Rattle.sj_object.specs.Index.{buckets_for};
 
     /// Takes the key's member out, and answers its position, counted from 0, its key and its value; None
@@ -22,7 +22,7 @@ impl<K: KeyText, V, S: KeyHasher> HashMap<K, V, S> {
     pub fn shift_remove_full(&mut self, key: &str) -> Option<(usize, K, V)>
         ensures index { option_map (λ t. t.0) result ≡ position key.now self.old.entries }
         ensures answer { option_map (λ t. t.2) result ≡ lookup key.now self.old.entries }
-        ensures entries { self.new.entries ≡ cut key.now self.old.entries }
+        ensures entries { self.new.entries ≡ cut_entry key.now self.old.entries }
         ensures back { IfSome result (λ t. insert self.new.entries t.0 ((t.1, K.text_of t.1), t.2) ≡ self.old.entries) }
         ensures within { IfSome result (λ t. t.0 ≤ length self.new.entries) }
         ensures missing { IfNone result (self.new ≡ self.old) }

@@ -5,8 +5,8 @@ ghost use Rattle.std.specs.List.{insert, remove};
 ghost use Rattle.std.specs.Option.{option_to_list};
 ghost use Rattle.std.specs.Vec.{vec_len, vec_capacity};
 ghost use Rattle.sj_object.specs.Index.{NeedsHash, IsTable, hashes_in};
-ghost use Rattle.sj_object.specs.Stored.{members_of, pairs_of, buckets_of, IsIndexOf};
-ghost use Rattle.sj_object.specs.inner.Stored.{HasPlace, HasPlaceIn, IsIndexed, IsIndexedAhead};
+ghost use Rattle.sj_object.specs.Stored.{stored_members, pairs_of, buckets_of, IsIndexOf};
+ghost use Rattle.sj_object.specs.inner.Stored.{HasSpare, HasSpareIn, IsIndexed, IsIndexedAhead};
 
 use super::index::Table;
 use super::members::Members;
@@ -110,7 +110,7 @@ impl<K, V> Store<K, V> {
     /// Puts a member last, for which there is a place.
     #[inline(always)]
     pub fn push_reserved(&mut self, pair: (K, V))
-        requires { HasPlace self.old }
+        requires { HasSpare self.old }
         ensures pairs { pairs_of self.new ≡ pairs_of self.old ++ pair ∷ [] }
         ensures index { (hashes : List ℕ) → IsIndexOf hashes self.old → IsIndexOf hashes self.new }
         ensures buckets { buckets_of self.new ≡ buckets_of self.old }
@@ -124,7 +124,7 @@ impl<K, V> Store<K, V> {
     /// Puts a member at a position, for which there is a place, and whose hash stands last. Each from
     /// there on goes to the position behind its own.
     pub fn insert_reserved(&mut self, position: usize, pair: (K, V))
-        requires place { HasPlace self.old }
+        requires place { HasSpare self.old }
         requires within { position ≤ length (pairs_of self.old) }
         requires indexed { IsIndexedAhead self.old }
         ensures pairs { pairs_of self.new ≡ insert (pairs_of self.old) position pair }
@@ -193,7 +193,7 @@ impl<K, V> Store<K, V> {
     #[inline(always)]
     pub fn into_vec(self) -> Vec<(K, V)>
         ensures pairs { result.items ≡ pairs_of self }
-        ensures place { HasPlace self → vec_len result < vec_capacity result }
+        ensures place { HasSpare self → vec_len result < vec_capacity result }
     {
         match self {
             Store::Plain(pairs) => pairs,
@@ -206,11 +206,11 @@ impl<K, V> Hashed<K, V> {
     /// Puts a member at a position, for which there is a place, and moves its hash there, which stands
     /// last.
     fn insert_reserved(&mut self, position: usize, pair: (K, V))
-        requires place { HasPlaceIn self.old.members }
-        requires within { position ≤ length (members_of self.old.members) }
+        requires place { HasSpareIn self.old.members }
+        requires within { position ≤ length (stored_members self.old.members) }
         requires table { IsTable self.old.table }
-        requires ahead { length (hashes_in self.old.table) ≡ length (members_of self.old.members) + 1 }
-        ensures pairs { members_of self.new.members ≡ insert (members_of self.old.members) position pair }
+        requires ahead { length (hashes_in self.old.table) ≡ length (stored_members self.old.members) + 1 }
+        ensures pairs { stored_members self.new.members ≡ insert (stored_members self.old.members) position pair }
         ensures hashes { (before : List ℕ) → (hash : ℕ) → hashes_in self.old.table ≡ before ++ hash ∷ [] → hashes_in self.new.table ≡ insert before position hash }
         ensures table { IsTable self.new.table }
         ensures buckets { length self.new.table.heads.items ≡ length self.old.table.heads.items }
@@ -225,12 +225,12 @@ impl<K, V> Hashed<K, V> {
     /// a caller.
     #[inline(never)]
     fn remove(&mut self, position: usize) -> Option<(K, V)>
-        requires within { position < length (members_of self.old.members) }
+        requires within { position < length (stored_members self.old.members) }
         requires table { IsTable self.old.table }
-        requires same { length (hashes_in self.old.table) ≡ length (members_of self.old.members) }
-        ensures pair { IfSome result (λ p. p ≡ slice_index_or (members_of self.old.members) position p) }
+        requires same { length (hashes_in self.old.table) ≡ length (stored_members self.old.members) }
+        ensures pair { IfSome result (λ p. p ≡ slice_index_or (stored_members self.old.members) position p) }
         ensures some { IsSome result }
-        ensures pairs { members_of self.new.members ≡ remove (members_of self.old.members) position }
+        ensures pairs { stored_members self.new.members ≡ remove (stored_members self.old.members) position }
         ensures hashes { hashes_in self.new.table ≡ remove (hashes_in self.old.table) position }
         ensures table { IsTable self.new.table }
         ensures buckets { length self.new.table.heads.items ≡ length self.old.table.heads.items }
@@ -243,10 +243,10 @@ impl<K, V> Hashed<K, V> {
     #[inline(always)]
     fn pop(&mut self) -> Option<(K, V)>
         requires table { IsTable self.old.table }
-        requires same { length (hashes_in self.old.table) ≡ length (members_of self.old.members) }
-        ensures pairs { members_of self.old.members ≡ members_of self.new.members ++ option_to_list result }
-        ensures rest { members_of self.new.members ≡ take (length (members_of self.old.members) - 1) (members_of self.old.members) }
-        ensures none { IfNone result (members_of self.new.members ≡ []) }
+        requires same { length (hashes_in self.old.table) ≡ length (stored_members self.old.members) }
+        ensures pairs { stored_members self.old.members ≡ stored_members self.new.members ++ option_to_list result }
+        ensures rest { stored_members self.new.members ≡ take (length (stored_members self.old.members) - 1) (stored_members self.old.members) }
+        ensures none { IfNone result (stored_members self.new.members ≡ []) }
         ensures hashes { hashes_in self.new.table ≡ take (length (hashes_in self.old.table) - 1) (hashes_in self.old.table) }
         ensures table { IsTable self.new.table }
         ensures buckets { length self.new.table.heads.items ≡ length self.old.table.heads.items }
@@ -262,8 +262,8 @@ impl<K, V> Hashed<K, V> {
 /// The members in order, without their index.
 #[inline(never)]
 fn list_of<K, V>(hashed: Box<Hashed<K, V>>) -> Vec<(K, V)>
-    ensures pairs { result.items ≡ members_of hashed.value.members }
-    ensures place { HasPlaceIn hashed.value.members → vec_len result < vec_capacity result }
+    ensures pairs { result.items ≡ stored_members hashed.value.members }
+    ensures place { HasSpareIn hashed.value.members → vec_len result < vec_capacity result }
 {
     let Hashed { members, table: _ } = Box::into_inner(hashed);
     members.into_vec()

@@ -10,7 +10,7 @@ use Rattle.sj_text_core.specs.declared.refused.Refused.{Refused}
 use Rattle.sj_text_core.specs.declared.repeats.Repeats.TheVariants.{First}
 use Rattle.sj_object.specs.Rooms.{places}
 use Rattle.sj_pointer.specs.Pointed.{token_into, pointed, set_pointed}
-use Rattle.sj_document.specs.Document.{tree}
+use Rattle.sj_document.specs.Document.{document_tree}
 use Rattle.sj_document.specs.declared.value.Document.{Document}
 use Rattle.sj_document.specs.Items.{insert_at, remove_at}
 use Rattle.sj_patch.specs.Patch.{within, onwards, added_in, added, removed_in, removed, or_missing}
@@ -101,13 +101,13 @@ abbrev pub filled_below : (Tree → Tree) → List (List ℕ) → Tree → Tree
 filled_below f ks u = unwrap_or (option_map (λ c. set_pointed ks (f c) u) (pointed ks u)) u
 
 -- a removal that was made, or none
-abbrev pub Removes : Bool → List (List ℕ) → Tree → Tree → Type 0
-Removes true ks before after = removed ks before ≡ Ok after
-Removes false ks before after = after ≡ before
+abbrev pub RemovesIf : Bool → List (List ℕ) → Tree → Tree → Type 0
+RemovesIf true ks before after = removed ks before ≡ Ok after
+RemovesIf false ks before after = after ≡ before
 
 -- so too, and none where memory is refused
 abbrev pub RemovesBeside : List (List ℕ) → Tree → Tree → Result Bool AllocError → Type 0
-RemovesBeside ks before after r = MatchResult r (λ b. Removes b ks before after) (λ _. after ≡ before)
+RemovesBeside ks before after r = MatchResult r (λ b. RemovesIf b ks before after) (λ _. after ≡ before)
 
 module _ {T : Type 0} (t : T → List ℕ) where
   -- what an undo makes of a container, at a token, given the value that the change took out
@@ -148,24 +148,24 @@ module _ {T : Type 0} (t : T → List ℕ) where
   -- an undo in a container answers what it takes out; refused, the tree is as it was
   abbrev pub Reverts : Reversal T → Tree → List ℕ → Tree → Tree → Result (Document T) OperationFault → Type 0
   Reverts r v k before after result =
-      MatchResult result (λ taken. (reversed_in r v k before ≡ Ok after) × (tree t taken ≡ taken_in r k before)) (λ w. (after ≡ before) × (reversed_in r v k before ≡ Err w))
+      MatchResult result (λ taken. (reversed_in r v k before ≡ Ok after) × (document_tree t taken ≡ taken_in r k before)) (λ w. (after ≡ before) × (reversed_in r v k before ≡ Err w))
 
   -- what a change makes of a container
   abbrev pub change_in : Change T → List ℕ → Tree → Result Tree OperationFault
-  change_in (change.Put v) = added_in (tree t v)
+  change_in (change.Put v) = added_in (document_tree t v)
   change_in change.Take = removed_in
-  change_in (change.Swap v) = swapped_in (tree t v)
-  change_in (change.Undo r v) = reversed_in r (tree t v)
+  change_in (change.Swap v) = swapped_in (document_tree t v)
+  change_in (change.Undo r v) = reversed_in r (document_tree t v)
 
   -- what it makes of the whole document
   abbrev pub changed_whole : Change T → Result Tree OperationFault
-  changed_whole (change.Put v) = Ok (tree t v)
+  changed_whole (change.Put v) = Ok (document_tree t v)
   changed_whole change.Take = Err Whole
-  changed_whole (change.Swap v) = Ok (tree t v)
-  changed_whole (change.Undo r v) = reversed_whole r (tree t v)
+  changed_whole (change.Swap v) = Ok (document_tree t v)
+  changed_whole (change.Undo r v) = reversed_whole r (document_tree t v)
 
-  abbrev pub changed_at : Change T → List (List ℕ) → Tree → Result Tree OperationFault
-  changed_at c ks u = at_tokens (changed_whole c) (change_in c) ks u
+  abbrev pub change_at : Change T → List (List ℕ) → Tree → Result Tree OperationFault
+  change_at c ks u = at_tokens (changed_whole c) (change_in c) ks u
 
   -- whether a change may want memory
   abbrev pub Wants : Change T → Type 0
@@ -188,22 +188,22 @@ module _ {T : Type 0} (t : T → List ℕ) where
   Undoes (change.Undo r v) Reverts = ⊤
 
   -- what undoes a put takes the value out; a removal and an undo answer what they took out
-  abbrev pub Answers : Change T → List (List ℕ) → Tree → Tree → Done T → Type 0
-  Answers (change.Put v) ks before after done = taken_at done.undo ks after ≡ tree t v
-  Answers change.Take ks before after done = pointed ks before ≡ Some (tree t done.taken)
-  Answers (change.Swap v) ks before after done = ⊤
-  Answers (change.Undo r v) ks before after done = tree t done.taken ≡ taken_at r ks before
+  abbrev pub AnswersChange : Change T → List (List ℕ) → Tree → Tree → Done T → Type 0
+  AnswersChange (change.Put v) ks before after done = taken_at done.undo ks after ≡ document_tree t v
+  AnswersChange change.Take ks before after done = pointed ks before ≡ Some (document_tree t done.taken)
+  AnswersChange (change.Swap v) ks before after done = ⊤
+  AnswersChange (change.Undo r v) ks before after done = document_tree t done.taken ≡ taken_at r ks before
 
   -- what a change at tokens made: the tree afterwards, and an undo that gives the tree back
   pub record Does (c : Change T) (ks : List (List ℕ)) (before after : Tree) (done : Done T) : Type 0 where
-    pub made : changed_at c ks before ≡ Ok after
-    pub undo : Undoes c (reversed_at done.undo (tree t done.taken) ks after ≡ Ok before)
-    pub answer : Answers c ks before after done
+    pub made : change_at c ks before ≡ Ok after
+    pub undo : Undoes c (reversed_at done.undo (document_tree t done.taken) ks after ≡ Ok before)
+    pub answer : AnswersChange c ks before after done
 
   -- refused, the tree is as it was
   abbrev pub Changes : Change T → List (List ℕ) → Tree → Tree → Result (Done T) Refusal → Type 0
   Changes c ks before after r =
-      MatchResult r (λ done. Does c ks before after done) (λ e. (after ≡ before) × Refuses (Wants c) e (changed_at c ks before))
+      MatchResult r (λ done. Does c ks before after done) (λ e. (after ≡ before) × Refuses (Wants c) e (change_at c ks before))
 
   -- a refusal hands back what was to be put
   abbrev pub Returns : Change T → Document T → Type 0
@@ -214,7 +214,7 @@ module _ {T : Type 0} (t : T → List ℕ) where
 
   abbrev pub ChangesOrReturns : Change T → List (List ℕ) → Tree → Tree → Result (Done T) (Refused Refusal (Document T)) → Type 0
   ChangesOrReturns c ks before after r =
-      MatchResult r (λ done. Does c ks before after done) (λ e. (after ≡ before) × (Refuses (Wants c) e.why (changed_at c ks before) × Returns c e.value))
+      MatchResult r (λ done. Does c ks before after done) (λ e. (after ≡ before) × (Refuses (Wants c) e.why (change_at c ks before) × Returns c e.value))
 
   -- a change of the whole document wants no memory
   abbrev pub ChangesWhole : Change T → Tree → Tree → Result (Done T) OperationFault → Type 0
@@ -231,11 +231,11 @@ module _ {T : Type 0} (t : T → List ℕ) where
 
   -- a member back at its place, where it has one
   abbrev pub member_step : ℕ → ℕ × T × Document T → Tree → Tree
-  member_step n g u = or_same u (member_back n g.0 (t g.1) (tree t g.2) [] u)
+  member_step n g u = or_same u (member_back n g.0 (t g.1) (document_tree t g.2) [] u)
 
   -- an item back at its place, where it has one
   abbrev pub item_step : ℕ → ℕ × Document T → Tree → Tree
-  item_step n g u = or_same u (item_back n g.0 (tree t g.1) [] u)
+  item_step n g u = or_same u (item_back n g.0 (document_tree t g.1) [] u)
 
   -- items that were taken out one after another, back at their places, the last one first
   abbrev pub items_filled : ℕ → List (ℕ × Document T) → Tree → Tree
@@ -260,7 +260,7 @@ module _ {T : Type 0} (t : T → List ℕ) where
 
   -- they do in a container what the reversal does alone
   abbrev pub IsFirstGap : Reversal T → Document T → Gaps T → Type 0
-  IsFirstGap r v gs = (k : List ℕ) (u : Tree) → gaps_filled gs u ≡ or_same u (reversed_in r (tree t v) k u)
+  IsFirstGap r v gs = (k : List ℕ) (u : Tree) → gaps_filled gs u ≡ or_same u (reversed_in r (document_tree t v) k u)
 
   -- one more has a place among them
   abbrev pub HasPlace : Gaps T → Type 0
@@ -277,9 +277,9 @@ module _ {T : Type 0} (t : T → List ℕ) where
   TakesBeside gs k before after o = MatchOption o (after ≡ before) (λ g. Takes gs k before after g)
 
   abbrev pub undo_one : Undo T → Tree → Tree
-  undo_one (undo.Change tokens r v) u = undone_at r (tree t v) (map string_bytes tokens.now) u
+  undo_one (undo.Change tokens r v) u = undone_at r (document_tree t v) (map string_bytes tokens.now) u
   undo_one (undo.Move from gap path r v) u =
-      refilled gap (map string_bytes from.now) (taken_at r (map string_bytes path.now) u) u (reversed_at r (tree t v) (map string_bytes path.now) u)
+      refilled gap (map string_bytes from.now) (taken_at r (map string_bytes path.now) u) u (reversed_at r (document_tree t v) (map string_bytes path.now) u)
   undo_one (undo.Gaps path gs) u = filled_below (gaps_filled gs) (map string_bytes path.now) u
 
   -- undone from the last to the first

@@ -16,13 +16,13 @@ use Rattle.sj_patch.specs.declared.token.Token.{Token}
 use Rattle.sj_patch.specs.declared.token.Token.TheVariants.{Key, Position}
 
 -- the text of a token: a key, or the decimal of a position
-abbrev pub token_text : Token → List ℕ
-token_text (Key k) = k.now
-token_text (Position n) = decimal n
+abbrev pub token_meant : Token → List ℕ
+token_meant (Key k) = k.now
+token_meant (Position n) = decimal n
 
 -- the tokens that lead to where a walk is
-abbrev pub place_of : {T : Type 0} → Differences T → List (List ℕ)
-place_of d = map token_text d.place.items
+abbrev pub noted_path : {T : Type 0} → Differences T → List (List ℕ)
+noted_path d = map token_meant d.place.items
 
 -- the operations that a walk has noted, where t gives the text of a key or a string
 abbrev pub noted_by : {T : Type 0} → (T → List ℕ) → Differences T → List PlainOperation
@@ -52,8 +52,8 @@ abbrev pub between : ℕ → ℕ → List Tree → List Tree → List Tree
 between first end ts us = take first ts ++ drop first (take end us) ++ drop end ts
 
 -- at a position, so many items go
-abbrev pub removals : ℕ → ℕ → List PlainOperation
-removals n count = replicate count (remove (decimal n ∷ []))
+abbrev pub removals_at : ℕ → ℕ → List PlainOperation
+removals_at n count = replicate count (remove (decimal n ∷ []))
 
 -- from a position on, items come
 abbrev pub additions : ℕ → List Tree → List PlainOperation

@@ -5,7 +5,7 @@ ghost use Rattle.std.specs.Prelude.{◌≡◌, Some, None, option_map, option_an
 ghost use Rattle.sj_text_core.specs.Tree.{null};
 ghost use Rattle.sj_text_core.specs.Find.{find};
 ghost use Rattle.sj_text_core.specs.Reads.{as_items, as_members};
-ghost use Rattle.sj_document.specs.Document.{tree as document_tree, why_of, with_member, without_member, with_item, without_last, last_item};
+ghost use Rattle.sj_document.specs.Document.{document_tree, edit_fault, with_member, without_member, with_item, without_last, last_item};
 ghost use Rattle.sj_document.specs.declared.value.Document.{Document as DocumentOf};
 ghost use Rattle.sj_lazy.specs.Value.{lazy_kept, owned};
 ghost use Rattle.sj_lazy.specs.Edits.{IsLeft};
@@ -55,7 +55,7 @@ pub fn insert<P: Upgrade<T> + Drop, B: Lent<T> + Drop, T: KeyText + Drop>(
     ensures answer { IfOk result (λ before. option_map (document_tree T.text_of) before ≡ option_and_then (find (T.text_of key)) (pointed pointer.now (lazy_kept P.part_kept B.lent_tree T.text_of value.old))) }
     ensures after { OnOk result (owned T.text_of value.new ≡ Some (changed_at pointer.now (with_member (T.text_of key) (document_tree T.text_of new)) (lazy_kept P.part_kept B.lent_tree T.text_of value.old))) }
     ensures object { OnOk result (IsSome (option_and_then as_members (pointed pointer.now (lazy_kept P.part_kept B.lent_tree T.text_of value.old)))) }
-    ensures refused { IfErr result (λ r. IsLeft T.text_of (lazy_kept P.part_kept B.lent_tree T.text_of value.old) value.old value.new (r.why ≡ AccessError.OutOfMemory) (r.why ≡ why_of AccessError.NotAnObject (option_and_then as_members (pointed pointer.now (lazy_kept P.part_kept B.lent_tree T.text_of value.old))))) }
+    ensures refused { IfErr result (λ r. IsLeft T.text_of (lazy_kept P.part_kept B.lent_tree T.text_of value.old) value.old value.new (r.why ≡ AccessError.OutOfMemory) (r.why ≡ edit_fault AccessError.NotAnObject (option_and_then as_members (pointed pointer.now (lazy_kept P.part_kept B.lent_tree T.text_of value.old))))) }
     ensures returned { IfErr result (λ r. r.value ≡ new) }
     ensures succeeds { IsSome (owned T.text_of value.old) → IsSome (option_and_then (find (T.text_of key)) (pointed pointer.now (lazy_kept P.part_kept B.lent_tree T.text_of value.old))) → IsOk result }
 {
@@ -98,7 +98,7 @@ pub fn push<P: Upgrade<T> + Drop, B: Lent<T> + Drop, T: KeyText + Drop>(
 ) -> Result<(), Refused<AccessError, Document<T>>>
     ensures after { OnOk result (owned T.text_of value.new ≡ Some (changed_at pointer.now (with_item (document_tree T.text_of new)) (lazy_kept P.part_kept B.lent_tree T.text_of value.old))) }
     ensures array { OnOk result (IsSome (option_and_then as_items (pointed pointer.now (lazy_kept P.part_kept B.lent_tree T.text_of value.old)))) }
-    ensures refused { IfErr result (λ r. IsLeft T.text_of (lazy_kept P.part_kept B.lent_tree T.text_of value.old) value.old value.new (r.why ≡ AccessError.OutOfMemory) (r.why ≡ why_of AccessError.NotAnArray (option_and_then as_items (pointed pointer.now (lazy_kept P.part_kept B.lent_tree T.text_of value.old))))) }
+    ensures refused { IfErr result (λ r. IsLeft T.text_of (lazy_kept P.part_kept B.lent_tree T.text_of value.old) value.old value.new (r.why ≡ AccessError.OutOfMemory) (r.why ≡ edit_fault AccessError.NotAnArray (option_and_then as_items (pointed pointer.now (lazy_kept P.part_kept B.lent_tree T.text_of value.old))))) }
     ensures returned { IfErr result (λ r. r.value ≡ new) }
 {
     match value.as_mut(alloc) {
@@ -155,7 +155,7 @@ pub fn set<P: Upgrade<T> + Drop, B: Lent<T> + Drop, T: OwnedText + Drop>(
     ensures answer { IfOk result (λ before. option_map (document_tree T.text_of) before ≡ pointed pointer.now (lazy_kept P.part_kept B.lent_tree T.text_of value.old)) }
     ensures after { OnOk result (owned T.text_of value.new ≡ set_made pointer.now (document_tree T.text_of new) (lazy_kept P.part_kept B.lent_tree T.text_of value.old)) }
     ensures made { OnOk result (IsSome (set_made pointer.now (document_tree T.text_of new) (lazy_kept P.part_kept B.lent_tree T.text_of value.old))) }
-    ensures refused { IfErr result (λ r. IsLeft T.text_of (lazy_kept P.part_kept B.lent_tree T.text_of value.old) value.old value.new (r.why ≡ AccessError.OutOfMemory) (r.why ≡ why_of AccessError.NotAnObject (set_made pointer.now (document_tree T.text_of new) (lazy_kept P.part_kept B.lent_tree T.text_of value.old)))) }
+    ensures refused { IfErr result (λ r. IsLeft T.text_of (lazy_kept P.part_kept B.lent_tree T.text_of value.old) value.old value.new (r.why ≡ AccessError.OutOfMemory) (r.why ≡ edit_fault AccessError.NotAnObject (set_made pointer.now (document_tree T.text_of new) (lazy_kept P.part_kept B.lent_tree T.text_of value.old)))) }
     ensures returned { IfErr result (λ r. r.value ≡ new) }
     ensures succeeds { IsSome (owned T.text_of value.old) → IsSome (pointed pointer.now (lazy_kept P.part_kept B.lent_tree T.text_of value.old)) → IsOk result }
 {

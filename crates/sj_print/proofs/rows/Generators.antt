@@ -1,11 +1,11 @@
 -- What generators lay out.
 use Rattle.std.proofs.Common.{◌≡◌, [], ◌∷◌, refl, codes, Some, None, arith}
-use Rattle.sj_print.specs.Generators.{chosen, line, CanIndent}
+use Rattle.sj_print.specs.Generators.{by_style, line, CanIndent}
 
-chosen-compact : chosen None (codes ": ") (codes ":") ≡ codes ":"
+chosen-compact : by_style None (codes ": ") (codes ":") ≡ codes ":"
 chosen-compact = refl
 
-chosen-pretty : chosen (Some 2) (codes ": ") (codes ":") ≡ codes ": "
+chosen-pretty : by_style (Some 2) (codes ": ") (codes ":") ≡ codes ": "
 chosen-pretty = refl
 
 line-compact : line None 3 ≡ []

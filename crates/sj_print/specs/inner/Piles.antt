@@ -81,14 +81,14 @@ module _ {I M : Type 0} (items : I → List Tree) (members : M → List (List �
   open_weight e = 1 + ahead_weight e.ahead
 
   -- what there is to do for the whole pile
-  abbrev pub left : List (Open I M) → ℕ
-  left pile = sum_by open_weight pile
+  abbrev pub pile_weight : List (Open I M) → ℕ
+  pile_weight pile = sum_by open_weight pile
 
   -- what is left of all prints, the innermost first
-  abbrev pub rest : Option ℕ → List (Open I M) → List ℕ
-  rest s [] = []
-  rest s (e ∷ pile) = rest (deeper s) pile ++ open_laid s e
+  abbrev pub laid_rest : Option ℕ → List (Open I M) → List ℕ
+  laid_rest s [] = []
+  laid_rest s (e ∷ pile) = laid_rest (deeper s) pile ++ open_laid s e
 
   -- with what is left on the new pile, that is the part and what was left on the old one
   abbrev pub PilesUp : {S O : Type 0} → (S → O → List ℕ → Type 0) → List (Open I M) → O → List (Open I M) → O → Layout → (Option ℕ → List ℕ) → Type 0
-  PilesUp holds old a new b layout part = (s : Option ℕ) → AreLaid s old → IsLayout layout (inner s old) → AreLaid s new × Towards (HoldsText holds) a b (rest s new) (part (inner s old) ++ rest s old)
+  PilesUp holds old a new b layout part = (s : Option ℕ) → AreLaid s old → IsLayout layout (inner s old) → AreLaid s new × Towards (HoldsText holds) a b (laid_rest s new) (part (inner s old) ++ laid_rest s old)

@@ -1,7 +1,7 @@
 //! Edits at pointers, all of them or none.
 
 ghost use Rattle.std.specs.Prelude.{◌≡◌, OnErr, string_bytes};
-ghost use Rattle.sj_document.specs.Document.{tree};
+ghost use Rattle.sj_document.specs.Document.{document_tree};
 
 use sj_owned::{Array, JsonError, Value};
 use sj_path::{PointerError, owned, pointer};
@@ -52,7 +52,7 @@ impl From<PointerError> for EditFault {
 
 /// Makes the edits, one after another. Where one is refused, the document is as it was.
 pub fn edit_all(alloc: Global, document: &mut Value, edits: Vec<Edit<'_>>) -> Result<(), EditFault>
-    ensures { OnErr result (tree string_bytes document.new ≡ tree string_bytes document.old) }
+    ensures { OnErr result (document_tree string_bytes document.new ≡ document_tree string_bytes document.old) }
 {
     let mut copy = document.clone()?;
     for edit in edits {

@@ -6,7 +6,7 @@ ghost use Rattle.sj_text_core.specs.Grammar.{Spells};
 ghost use Rattle.sj_text_core.specs.Keep.{keep};
 ghost use Rattle.sj_text_core.specs.Find.{find};
 ghost use Rattle.sj_text_core.specs.Reads.{member_as, as_unsigned};
-ghost use Rattle.sj_document.specs.Document.{tree};
+ghost use Rattle.sj_document.specs.Document.{document_tree};
 ghost use Rattle.sj_pointer.specs.Pointed.{set_pointed};
 
 use sj_owned::{ErrorKind, Value, to_value};
@@ -23,7 +23,7 @@ pub fn port_of(alloc: Global, text: &mut [u8]) -> Result<Option<u16>, ErrorKind>
 
 /// The document with a value at a pointer.
 pub fn patched(document: &mut Value, pointer: &Pointer, new: Value) -> bool
-    ensures { tree string_bytes document.new ≡ set_pointed pointer.now (tree string_bytes new) (tree string_bytes document.old) }
+    ensures { document_tree string_bytes document.new ≡ set_pointed pointer.now (document_tree string_bytes new) (document_tree string_bytes document.old) }
 {
     owned::replace(document, pointer, new).is_ok()
 }

@@ -25,7 +25,7 @@ pub record IsBegunBy (old new : List ℕ) : Type 0 where
   pub goes_on : new ≡ old ++ rest
 
 -- a command was answered: the choice and the tree d became u, and the output grew by the text of the reply
-pub record Answers (d : Repeats × Tree) (c : PlainCommand) (u : Repeats × Tree) (old new : List ℕ) : Type 0 where
+pub record AnswersCommand (d : Repeats × Tree) (c : PlainCommand) (u : Repeats × Tree) (old new : List ℕ) : Type 0 where
   pub after : u ≡ (answer_by d c).0
   pub shows : new ≡ old ++ reply_text (answer_by d c).1
 

@@ -1,6 +1,6 @@
 -- What a command that is taken apart means. Only private clauses cite it.
 use Rattle.std.specs.Prelude.{ℕ, List, string_bytes}
-use Rattle.sj_document.specs.Document.{tree}
+use Rattle.sj_document.specs.Document.{document_tree}
 use Rattle.sj_commands.specs.Commands as plain
 use Rattle.sj_commands.specs.Meant.{path_meant, width_meant}
 use Rattle.sj_run.specs.declared.change.Write.{Write}
@@ -22,11 +22,11 @@ read_meant read.EncodePp = plain.encode_pp
 
 module _ {T : Type 0} (t : T → List ℕ) where
   abbrev pub write_meant : Write T → plain.Write
-  write_meant (write.Insert k v) = plain.insert (t k) (tree t v)
+  write_meant (write.Insert k v) = plain.insert (t k) (document_tree t v)
   write_meant (write.Remove k) = plain.remove (string_bytes k)
-  write_meant (write.Push v) = plain.push (tree t v)
+  write_meant (write.Push v) = plain.push (document_tree t v)
   write_meant write.Pop = plain.pop
-  write_meant (write.Put v) = plain.put (tree t v)
+  write_meant (write.Put v) = plain.put (document_tree t v)
 
 abbrev pub asked_meant : Asked → plain.PlainCommand
 asked_meant (asked.Read p r) = plain.read (path_meant p.items) (read_meant r)

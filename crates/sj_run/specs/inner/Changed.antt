@@ -4,7 +4,7 @@ use Rattle.std.specs.Result.{MatchResult}
 use Rattle.std.specs.declared.alloc.AllocError.{AllocError}
 use Rattle.sj_text_core.specs.Tree.{Tree}
 use Rattle.sj_text_core.specs.Paths.{Step}
-use Rattle.sj_document.specs.Document.{tree}
+use Rattle.sj_document.specs.Document.{document_tree}
 use Rattle.sj_commands.specs.Commands.{Write}
 use Rattle.sj_run.specs.Replies.{PlainReply, old, nothing, done, missing, not_an_object, not_an_array}
 use Rattle.sj_run.specs.Answers.{edit}
@@ -13,7 +13,7 @@ use Rattle.sj_run.specs.declared.change.Changed.TheVariants as changed
 
 module _ {T : Type 0} (t : T → List ℕ) where
   abbrev pub changed_meant : Changed T → PlainReply
-  changed_meant (changed.Old v) = old (tree t v)
+  changed_meant (changed.Old v) = old (document_tree t v)
   changed_meant changed.Nothing = nothing
   changed_meant changed.Done = done
   changed_meant changed.Missing = missing

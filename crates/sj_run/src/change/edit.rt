@@ -4,7 +4,7 @@ ghost use Rattle.std.specs.Prelude.{[], map, ◌∷◌};
 ghost use Rattle.sj_text_core.specs.Paths.{by_key, by_place, by_token};
 ghost use Rattle.sj_text_core.specs.Tree.{list, obj, items_from};
 ghost use Rattle.sj_object.specs.Members.{entry_members};
-ghost use Rattle.sj_document.specs.Document.{tree};
+ghost use Rattle.sj_document.specs.Document.{document_tree};
 ghost use Rattle.sj_run.specs.inner.Asked.{write_meant};
 ghost use Rattle.sj_run.specs.inner.Changed.{Edits};
 ghost use Rattle.sj_commands.specs.Meant.{step_meant};
@@ -34,7 +34,7 @@ pub(crate) fn edit_at<T: KeyText + Drop>(
 ) -> Result<Changed<T>, AllocError>
 where
     Way: Inserts<T>,
-    ensures { Edits T.text_of (map step_meant path.now) (write_meant T.text_of write) (tree T.text_of value.old) (tree T.text_of value.new) result }
+    ensures { Edits T.text_of (map step_meant path.now) (write_meant T.text_of write) (document_tree T.text_of value.old) (document_tree T.text_of value.new) result }
 {
     if path.len() <= CALLS {
         edit_near(value, way, path, write)
@@ -56,7 +56,7 @@ where
 {
     type Answer = Result<Changed<T>, AllocError>;
 
-    ghost makes = { λ w before after r. Edits T.text_of [] (write_meant T.text_of w.write) (tree T.text_of before) (tree T.text_of after) r };
+    ghost makes = { λ w before after r. Edits T.text_of [] (write_meant T.text_of w.write) (document_tree T.text_of before) (document_tree T.text_of after) r };
 
     fn change(self, value: &mut Document<T>) -> Result<Changed<T>, AllocError> {
         let WriteBy { way, write } = self;
@@ -73,7 +73,7 @@ fn edit_far<T: KeyText + Drop>(
 ) -> Result<Changed<T>, AllocError>
 where
     Way: Inserts<T>,
-    ensures { Edits T.text_of (map step_meant path.now) (write_meant T.text_of write) (tree T.text_of value.old) (tree T.text_of value.new) result }
+    ensures { Edits T.text_of (map step_meant path.now) (write_meant T.text_of write) (document_tree T.text_of value.old) (document_tree T.text_of value.new) result }
 {
     match update_at::<BySteps, Step, T, WriteBy<T>>(value, path, WriteBy { way, write }) {
         Ok(changed) => changed,
@@ -91,7 +91,7 @@ fn edit_near<T: KeyText + Drop>(
 ) -> Result<Changed<T>, AllocError>
 where
     Way: Inserts<T>,
-    ensures { Edits T.text_of (map step_meant path.now) (write_meant T.text_of write) (tree T.text_of value.old) (tree T.text_of value.new) result }
+    ensures { Edits T.text_of (map step_meant path.now) (write_meant T.text_of write) (document_tree T.text_of value.old) (document_tree T.text_of value.new) result }
 {
     match path {
         [] => change(value, way, write),
@@ -109,7 +109,7 @@ fn edit_step<T: KeyText + Drop>(
 ) -> Result<Changed<T>, AllocError>
 where
     Way: Inserts<T>,
-    ensures { Edits T.text_of (step_meant step.now ∷ map step_meant rest.now) (write_meant T.text_of write) (tree T.text_of value.old) (tree T.text_of value.new) result }
+    ensures { Edits T.text_of (step_meant step.now ∷ map step_meant rest.now) (write_meant T.text_of write) (document_tree T.text_of value.old) (document_tree T.text_of value.new) result }
 {
     match step {
         Step::Key(key) => match value {
@@ -134,7 +134,7 @@ fn edit_token<T: KeyText + Drop>(
 ) -> Result<Changed<T>, AllocError>
 where
     Way: Inserts<T>,
-    ensures { Edits T.text_of (by_token token.now ∷ map step_meant rest.now) (write_meant T.text_of write) (tree T.text_of value.old) (tree T.text_of value.new) result }
+    ensures { Edits T.text_of (by_token token.now ∷ map step_meant rest.now) (write_meant T.text_of write) (document_tree T.text_of value.old) (document_tree T.text_of value.new) result }
 {
     match value {
         Document::Object(members) => edit_member(members, way, token, rest, write),
@@ -158,7 +158,7 @@ fn edit_member<T: KeyText + Drop>(
 ) -> Result<Changed<T>, AllocError>
 where
     Way: Inserts<T>,
-    ensures { Edits T.text_of (by_key key.now ∷ map step_meant rest.now) (write_meant T.text_of write) (obj (entry_members (tree T.text_of) members.old.entries)) (obj (entry_members (tree T.text_of) members.new.entries)) result }
+    ensures { Edits T.text_of (by_key key.now ∷ map step_meant rest.now) (write_meant T.text_of write) (obj (entry_members (document_tree T.text_of) members.old.entries)) (obj (entry_members (document_tree T.text_of) members.new.entries)) result }
 {
     match member_mut(members, way, key) {
         Some(child) => edit_near(child, way, rest, write),
@@ -176,7 +176,7 @@ fn edit_item<T: KeyText + Drop>(
 ) -> Result<Changed<T>, AllocError>
 where
     Way: Inserts<T>,
-    ensures { Edits T.text_of (by_place at ∷ map step_meant rest.now) (write_meant T.text_of write) (list (items_from (map (tree T.text_of) items.old.items))) (list (items_from (map (tree T.text_of) items.new.items))) result }
+    ensures { Edits T.text_of (by_place at ∷ map step_meant rest.now) (write_meant T.text_of write) (list (items_from (map (document_tree T.text_of) items.old.items))) (list (items_from (map (document_tree T.text_of) items.new.items))) result }
 {
     if at < items.len() {
         edit_near(&mut items[at], way, rest, write)

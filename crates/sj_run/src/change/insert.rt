@@ -2,7 +2,7 @@
 
 ghost use Rattle.std.specs.Prelude.{[], string_bytes};
 ghost use Rattle.std.specs.Cow.{cow_str_bytes};
-ghost use Rattle.sj_document.specs.Document.{tree};
+ghost use Rattle.sj_document.specs.Document.{document_tree};
 ghost use Rattle.sj_commands.specs.Commands as command;
 ghost use Rattle.sj_run.specs.inner.Changed.{Edits};
 
@@ -26,7 +26,7 @@ pub(crate) trait Inserts<T: KeyText> {
         key: T,
         new: &mut Document<T>,
     ) -> Result<Changed<T>, AllocError>
-        ensures { Edits T.text_of [] (command.insert (T.text_of key) (tree T.text_of new.old)) (tree T.text_of value.old) (tree T.text_of value.new) result };
+        ensures { Edits T.text_of [] (command.insert (T.text_of key) (document_tree T.text_of new.old)) (document_tree T.text_of value.old) (document_tree T.text_of value.new) result };
 }
 
 /// By the key's text, which moves into the document.
@@ -35,7 +35,7 @@ fn insert_text<T: KeyText + Drop>(
     key: T,
     new: Document<T>,
 ) -> Result<Changed<T>, AllocError>
-    ensures { Edits T.text_of [] (command.insert (T.text_of key) (tree T.text_of new)) (tree T.text_of value.old) (tree T.text_of value.new) result }
+    ensures { Edits T.text_of [] (command.insert (T.text_of key) (document_tree T.text_of new)) (document_tree T.text_of value.old) (document_tree T.text_of value.new) result }
 {
     match value.insert(key, new) {
         Ok(Some(before)) => Ok(Changed::Old(before)),
@@ -53,7 +53,7 @@ fn insert_known<'v>(
     key: CowStr<'v>,
     new: BorrowedValue<'v>,
 ) -> Result<Changed<CowStr<'v>>, AllocError>
-    ensures { Edits cow_str_bytes [] (command.insert (cow_str_bytes key.entry) (tree cow_str_bytes new.entry)) (tree cow_str_bytes value.old) (tree cow_str_bytes value.new) result }
+    ensures { Edits cow_str_bytes [] (command.insert (cow_str_bytes key.entry) (document_tree cow_str_bytes new.entry)) (document_tree cow_str_bytes value.old) (document_tree cow_str_bytes value.new) result }
 {
     match KnownKey::from(key).insert(value, new) {
         Ok(Some(before)) => Ok(Changed::Old(before)),
@@ -73,7 +73,7 @@ impl Inserts<String> for Way {
         key: String,
         new: &mut OwnedValue,
     ) -> Result<Changed<String>, AllocError>
-        ensures { Edits string_bytes [] (command.insert (string_bytes key) (tree string_bytes new.old)) (tree string_bytes value.old) (tree string_bytes value.new) result }
+        ensures { Edits string_bytes [] (command.insert (string_bytes key) (document_tree string_bytes new.old)) (document_tree string_bytes value.old) (document_tree string_bytes value.new) result }
     {
         insert_text(value, key, mem::take(new))
     }
@@ -86,7 +86,7 @@ impl<'v> Inserts<CowStr<'v>> for Way {
         key: CowStr<'v>,
         new: &mut BorrowedValue<'v>,
     ) -> Result<Changed<CowStr<'v>>, AllocError>
-        ensures { Edits cow_str_bytes [] (command.insert (cow_str_bytes key.entry) (tree cow_str_bytes new.old)) (tree cow_str_bytes value.old) (tree cow_str_bytes value.new) result }
+        ensures { Edits cow_str_bytes [] (command.insert (cow_str_bytes key.entry) (document_tree cow_str_bytes new.old)) (document_tree cow_str_bytes value.old) (document_tree cow_str_bytes value.new) result }
     {
         match self {
             Way::ByText => insert_text(value, key, mem::take(new)),

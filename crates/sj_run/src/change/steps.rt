@@ -1,6 +1,6 @@
 //! How the steps of a command lead into documents.
 
-ghost use Rattle.sj_document.specs.Document.{tree};
+ghost use Rattle.sj_document.specs.Document.{document_tree};
 ghost use Rattle.sj_document.specs.Descents.{Exchanged};
 ghost use Rattle.sj_commands.specs.Meant.{step_meant};
 
@@ -20,7 +20,7 @@ impl Leads<Step> for BySteps {
         value: &mut Document<T>,
         other: Document<T>,
     ) -> Result<Document<T>, Document<T>>
-        ensures { Exchanged T.text_of (step_meant step.now) other (tree T.text_of value.old) (tree T.text_of value.new) result }
+        ensures { Exchanged T.text_of (step_meant step.now) other (document_tree T.text_of value.old) (document_tree T.text_of value.new) result }
     {
         match step {
             Step::Key(key) => swap_member(value, key.as_str(), other),

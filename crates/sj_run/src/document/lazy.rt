@@ -2,9 +2,9 @@
 
 ghost use Rattle.std.specs.Prelude.{◌≡◌, ◌↔◌, ◌+◌, ◌^◌, ◌≤◌, map, length, IfOk, OnOk, OnErr, IsErrOf};
 ghost use Rattle.std.specs.Cow.{cow_str_bytes};
-ghost use Rattle.sj_lazy.specs.Value.{part as lazy_part};
+ghost use Rattle.sj_lazy.specs.Value.{value_part};
 ghost use Rattle.sj_run.specs.Answers.{IsLong};
-ghost use Rattle.sj_run.specs.inner.Answered.{Answers, IsBegunBy, PassesOne};
+ghost use Rattle.sj_run.specs.inner.Answered.{AnswersCommand, IsBegunBy, PassesOne};
 ghost use Rattle.sj_run.specs.inner.Asked.{read_meant, write_meant};
 ghost use Rattle.sj_run.specs.inner.Changed.{changed_meant};
 ghost use Rattle.sj_commands.specs.Commands as command;
@@ -37,8 +37,8 @@ pub struct LazyDoc<'b, 't, 'i> {
 impl<'b, 't, 'i> LazyDoc<'b, 't, 'i> {
     /// The reply to a read at a path, from the tape or the document that is there.
     fn reply(&self, alloc: Global, path: &[Step], read: &Read) -> Result<Reply, Why>
-        ensures ok { IfOk result (λ reply. reply_meant reply ≡ (answer_by (lazy_part self.now.value) (command.read (map step_meant path.now) (read_meant read.now))).1) }
-        ensures too_long { IsErrOf result Why.TooLong ↔ IsLong (answer_by (lazy_part self.now.value) (command.read (map step_meant path.now) (read_meant read.now))).1 }
+        ensures ok { IfOk result (λ reply. reply_meant reply ≡ (answer_by (value_part self.now.value) (command.read (map step_meant path.now) (read_meant read.now))).1) }
+        ensures too_long { IsErrOf result Why.TooLong ↔ IsLong (answer_by (value_part self.now.value) (command.read (map step_meant path.now) (read_meant read.now))).1 }
     {
         match &self.value {
             Lazy::Tape(part) => reply_at(alloc, *part, Way::ByText, path, read),
@@ -48,9 +48,9 @@ impl<'b, 't, 'i> LazyDoc<'b, 't, 'i> {
 
     /// Appends the text of that reply.
     pub(crate) fn write(&self, path: &[Step], read: &Read, out: &mut Vec<u8>) -> Result<(), Why>
-        ensures ok { OnOk result (Answers (lazy_part self.now.value) (command.read (map step_meant path.now) (read_meant read.now)) (lazy_part self.now.value) out.old.items out.new.items) }
+        ensures ok { OnOk result (AnswersCommand (value_part self.now.value) (command.read (map step_meant path.now) (read_meant read.now)) (value_part self.now.value) out.old.items out.new.items) }
         ensures err { OnErr result (IsBegunBy out.old.items out.new.items) }
-        ensures too_long { IsErrOf result Why.TooLong → PassesOne (lazy_part self.now.value) (command.read (map step_meant path.now) (read_meant read.now)) (length out.old.items) }
+        ensures too_long { IsErrOf result Why.TooLong → PassesOne (value_part self.now.value) (command.read (map step_meant path.now) (read_meant read.now)) (length out.old.items) }
     {
         match &self.value {
             Lazy::Tape(part) => write_at(*part, Way::ByText, path, read, out),
@@ -65,17 +65,17 @@ impl<'b, 't, 'i> LazyDoc<'b, 't, 'i> {
         path: &[Step],
         write: Write<CowStr<'i>>,
     ) -> Result<Changed<CowStr<'i>>, AllocError>
-        ensures reply { IfOk result (λ changed. changed_meant cow_str_bytes changed ≡ (answer_by (lazy_part self.old.value) (command.write (map step_meant path.now) (write_meant cow_str_bytes write.entry))).1) }
-        ensures after { OnOk result (lazy_part self.new.value ≡ (answer_by (lazy_part self.old.value) (command.write (map step_meant path.now) (write_meant cow_str_bytes write.entry))).0) }
-        ensures refused { OnErr result (Leaves (lazy_part self.old.value) (command.write (map step_meant path.now) (write_meant cow_str_bytes write.entry)) (lazy_part self.new.value)) }
-        ensures short { ¬ (IsLong (answer_by (lazy_part self.old.value) (command.write (map step_meant path.now) (write_meant cow_str_bytes write.entry))).1) }
+        ensures reply { IfOk result (λ changed. changed_meant cow_str_bytes changed ≡ (answer_by (value_part self.old.value) (command.write (map step_meant path.now) (write_meant cow_str_bytes write.entry))).1) }
+        ensures after { OnOk result (value_part self.new.value ≡ (answer_by (value_part self.old.value) (command.write (map step_meant path.now) (write_meant cow_str_bytes write.entry))).0) }
+        ensures refused { OnErr result (Leaves (value_part self.old.value) (command.write (map step_meant path.now) (write_meant cow_str_bytes write.entry)) (value_part self.new.value)) }
+        ensures short { ¬ (IsLong (answer_by (value_part self.old.value) (command.write (map step_meant path.now) (write_meant cow_str_bytes write.entry))).1) }
     {
         change_lazy(alloc, &mut self.value, path, write)
     }
 }
 
 impl<'b, 't, 'i> Document for LazyDoc<'b, 't, 'i> {
-    ghost part = { λ d. lazy_part d.value };
+    ghost part = { λ d. value_part d.value };
 
     fn apply(&mut self, alloc: Global, command: Command) -> Result<Reply, Why> {
         match taken_apart(command) {

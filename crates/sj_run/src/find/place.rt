@@ -76,9 +76,9 @@ impl<'v, T: KeyText> Place for &'v Document<T> {
 impl<'t, 'i> Place for TapeValue<'t, 'i> {
     type Value = TapeValue<'t, 'i>;
 
-    ghost use Rattle.sj_tape.specs.Value.{choice as choice_of};
+    ghost use Rattle.sj_tape.specs.Value.{tape_choice};
 
-    ghost choice = { choice_of };
+    ghost choice = { tape_choice };
 
     fn value(&self) -> &TapeValue<'t, 'i> {
         self

@@ -3,7 +3,7 @@
 
 ghost use Rattle.std.specs.Prelude.{◌≡◌, ◌+◌, ◌^◌, ◌≤◌, length, OnOk, OnErr, IsErrOf};
 ghost use Rattle.sj_run.specs.Answered.{AnswersLines, PassesLines};
-ghost use Rattle.sj_run.specs.inner.Answered.{Answers, AnswersLine, IsBegunBy, PassesOne, PassesLine};
+ghost use Rattle.sj_run.specs.inner.Answered.{AnswersCommand, AnswersLine, IsBegunBy, PassesOne, PassesLine};
 ghost use Rattle.sj_commands.specs.Lines.{full_lines, line_texts};
 ghost use Rattle.sj_commands.specs.Meant.{command_meant};
 
@@ -20,7 +20,7 @@ use std::alloc::Global;
 pub(super) trait Tells: Document {
     /// Answers a command, and appends the text of the reply.
     fn tell(&mut self, alloc: Global, command: Command, out: &mut Vec<u8>) -> Result<(), Why>
-        ensures ok { OnOk result (Answers (Self.part self.old) (command_meant command) (Self.part self.new) out.old.items out.new.items) }
+        ensures ok { OnOk result (AnswersCommand (Self.part self.old) (command_meant command) (Self.part self.new) out.old.items out.new.items) }
         ensures err { OnErr result (IsBegunBy out.old.items out.new.items) }
         ensures too_long { IsErrOf result Why.TooLong → PassesOne (Self.part self.old) (command_meant command) (length out.old.items) };
 }

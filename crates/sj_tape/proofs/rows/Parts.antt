@@ -3,13 +3,13 @@ use Rattle.std.proofs.Common.{◌≡◌, ℕ, pos, List, [], ◌∷◌, refl, ap
 use Rattle.sj_text_core.specs.Tree.{u64, i64, Tree, null, int, text, list, obj, no_items, item, no_members, member, listed, paired}
 use Rattle.sj_text_core.specs.Nodes.{number, string, array, object, nothing, tree_of, members_in}
 use Rattle.sj_text_core.specs.declared.repeats.Repeats.TheVariants.{First, Last}
-use Rattle.sj_tape.specs.Items.{items, items_ahead, parts_ahead}
-use Rattle.sj_tape.specs.Members.{members, members_ahead, keys_ahead, values_ahead, chosen, value_parts_ahead}
+use Rattle.sj_tape.specs.Items.{items, items_ahead, items_parts_ahead}
+use Rattle.sj_tape.specs.Members.{members, members_ahead, keys_ahead, values_ahead, chosen_pairs, value_parts_ahead}
 use Rattle.sj_tape.specs.Marks.{packed_marks}
 use Rattle.sj_tape.specs.inner.PackedTree.{packed_tree, packed_items, packed_members}
 use Rattle.sj_tape.specs.Parts.{items_in}
 use Rattle.sj_tape.specs.Stretches.{nodes_in}
-use Rattle.sj_tape.specs.Value.{tree, choice, part, found, as_scalar, displayed}
+use Rattle.sj_tape.specs.Value.{tape_tree, tape_choice, tape_part, tape_found, as_scalar, displayed}
 use Rattle.sj_tape.specs.declared.array.Array.{Array}
 use Rattle.sj_tape.specs.declared.array.Iter.{Iter as ArrayIter}
 use Rattle.sj_tape.specs.declared.object.Object.{Object}
@@ -47,7 +47,7 @@ array-ahead : (it : ArrayIter) → nodes_in it.nodes ≡ array 1 1 ∷ number (p
 array-ahead it h = ap (λ ns. listed (items_in ns)) h
 
 -- each part carries the choice
-array-parts : (it : ArrayIter) → it.repeats ≡ Last → nodes_in it.nodes ≡ number (pos 1) u64 ∷ number (pos 2) u64 ∷ [] → parts_ahead it ≡ (Last, one) ∷ (Last, two) ∷ []
+array-parts : (it : ArrayIter) → it.repeats ≡ Last → nodes_in it.nodes ≡ number (pos 1) u64 ∷ number (pos 2) u64 ∷ [] → items_parts_ahead it ≡ (Last, one) ∷ (Last, two) ∷ []
 array-parts it c h = rw (c, h) refl
 
 -- an object of the members a 1, b [2] and a null: all of them, with the keys' texts
@@ -67,14 +67,14 @@ values-ahead it a b h = rw h refl
 value-parts : (it : Values) (a : Bor (List ℕ)) → it.members.repeats ≡ Last → nodes_in it.members.nodes ≡ string a.now ∷ number (pos 1) u64 ∷ [] → value_parts_ahead it ≡ (Last, one) ∷ []
 value-parts it a c h = rw (c, h) refl
 
-chosen-row : chosen Last ((codes "a", one) ∷ (codes "b", null) ∷ []) ≡ (codes "a", (Last, one)) ∷ (codes "b", (Last, null)) ∷ []
+chosen-row : chosen_pairs Last ((codes "a", one) ∷ (codes "b", null) ∷ []) ≡ (codes "a", (Last, one)) ∷ (codes "b", (Last, null)) ∷ []
 chosen-row = refl
 
 -- the part of a tape that begins with an object
-value-tree : (v : Value) (a : Bor (List ℕ)) → nodes_in v.nodes ≡ object 1 2 ∷ string a.now ∷ number (pos 1) u64 ∷ [] → tree v ≡ obj (member a.now one no_members)
+value-tree : (v : Value) (a : Bor (List ℕ)) → nodes_in v.nodes ≡ object 1 2 ∷ string a.now ∷ number (pos 1) u64 ∷ [] → tape_tree v ≡ obj (member a.now one no_members)
 value-tree v a h = ap (λ ns. tree_of ns) h
 
-value-part : (v : Value) → v.repeats ≡ Last → nodes_in v.nodes ≡ nothing ∷ [] → part v ≡ (Last, null)
+value-part : (v : Value) → v.repeats ≡ Last → nodes_in v.nodes ≡ nothing ∷ [] → tape_part v ≡ (Last, null)
 value-part v c h = rw (c, h) refl
 
 -- packed nodes
@@ -88,10 +88,10 @@ packed-members : (it : PackedMembers) (a b : Bor (List ℕ)) → it.nodes.now �
 packed-members it a b h = ap (λ ns. paired (members_in (packed_marks ns))) h
 
 -- {"a":1,"a":2}, by the choice of the part
-found-first : (v : Value) → choice v ≡ First → tree v ≡ obj (member (codes "a") one (member (codes "a") two no_members)) → found v (codes "a") ≡ Some one
+found-first : (v : Value) → tape_choice v ≡ First → tape_tree v ≡ obj (member (codes "a") one (member (codes "a") two no_members)) → tape_found v (codes "a") ≡ Some one
 found-first v c h = rw (c, h) refl
 
-found-last : (v : Value) → choice v ≡ Last → tree v ≡ obj (member (codes "a") one (member (codes "a") two no_members)) → found v (codes "a") ≡ Some two
+found-last : (v : Value) → tape_choice v ≡ Last → tape_tree v ≡ obj (member (codes "a") one (member (codes "a") two no_members)) → tape_found v (codes "a") ≡ Some two
 found-last v c h = rw (c, h) refl
 
 scalar-number : as_scalar (int (pos 5) i64) ≡ Some (int (pos 5) i64)

@@ -6,8 +6,8 @@ use Rattle.sj_text_core.specs.Nodes.{Mark, nothing, width, tree_of, members_in}
 use Rattle.sj_text_core.specs.inner.Nodes.{AreMembers}
 
 -- the members whose nodes are those from the place on
-abbrev pub members_from : List Mark → ℕ → Members
-members_from ns place = members_in (drop place ns)
+abbrev pub members_at : List Mark → ℕ → Members
+members_at ns place = members_in (drop place ns)
 
 -- a member begins there, or the last one has ended
 pub record MembersAhead (ns : List Mark) (place : ℕ) : Type 0 where

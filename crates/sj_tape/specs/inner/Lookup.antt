@@ -14,6 +14,6 @@ module _ {V : Type 0} where
   last_value k (p ∷ ps) = option_or (last_value k ps) (if bytes_eq k p.0 then Some p.1 else None)
 
   -- the pairs up to the first with the text; all where there is none
-  abbrev pub compared : List ℕ → List (List ℕ × V) → ℕ
-  compared k [] = 0
-  compared k (p ∷ ps) = if bytes_eq k p.0 then 1 else suc (compared k ps)
+  abbrev pub keys_compared : List ℕ → List (List ℕ × V) → ℕ
+  keys_compared k [] = 0
+  keys_compared k (p ∷ ps) = if bytes_eq k p.0 then 1 else suc (keys_compared k ps)

@@ -13,8 +13,8 @@ abbrev pub ArePlaces : List Mark → List ℕ → Type 0
 ArePlaces ns places = (j : ℕ) → j < length places → get_or places j 0 ≡ item_at ns (j * 64)
 
 -- those of an array among the nodes
-abbrev pub IsPlaced : List Mark → ArrayPlaces → Type 0
-IsPlaced ns a = ArePlaces (drop a.start (take a.end ns)) a.places.items
+abbrev pub IsArrayPlaced : List Mark → ArrayPlaces → Type 0
+IsArrayPlaced ns a = ArePlaces (drop a.start (take a.end ns)) a.places.items
 
 abbrev pub AllPlaced : List Mark → List ArrayPlaces → Type 0
-AllPlaced ns arrays = (k : ℕ) (d : ArrayPlaces) → k < length arrays → IsPlaced ns (get_or arrays k d)
+AllPlaced ns arrays = (k : ℕ) (d : ArrayPlaces) → k < length arrays → IsArrayPlaced ns (get_or arrays k d)

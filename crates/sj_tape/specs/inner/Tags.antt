@@ -41,9 +41,9 @@ has_tag t [] = false
 has_tag t (u ∷ us) = (u == t) || has_tag t us
 
 -- where the member at position i begins, counted by widths
-unfoldable pub member_at : List Mark → ℕ → ℕ
-member_at ns zero = 0
-member_at ns (suc i) = member_at ns i + 1 + width (get_or ns (member_at ns i + 1) nothing)
+unfoldable pub member_node : List Mark → ℕ → ℕ
+member_node ns zero = 0
+member_node ns (suc i) = member_node ns i + 1 + width (get_or ns (member_node ns i + 1) nothing)
 
 -- the members from the one at position i on have their nodes from that place on
 pub record MembersFrom (ns : List Mark) (i place : ℕ) : Type 0 where
@@ -53,11 +53,11 @@ pub record MembersFrom (ns : List Mark) (i place : ℕ) : Type 0 where
 
 -- the tags of the first members' keys
 abbrev pub AreTags : List Mark → List ℕ → Type 0
-AreTags ns tags = (i : ℕ) → i < length tags → get_or tags i 0 ≡ key_tag (get_or ns (member_at ns i) nothing)
+AreTags ns tags = (i : ℕ) → i < length tags → get_or tags i 0 ≡ key_tag (get_or ns (member_node ns i) nothing)
 
 -- the place of each sixty-fourth member
 abbrev pub AreMemberPlaces : List Mark → List ℕ → Type 0
-AreMemberPlaces ns places = (j : ℕ) → j < length places → get_or places j 0 ≡ member_at ns (j * 64)
+AreMemberPlaces ns places = (j : ℕ) → j < length places → get_or places j 0 ≡ member_node ns (j * 64)
 
 -- those of the members that have these nodes, the place of each sixty-fourth member, and where the next one begins
 pub record IsTagged (ns : List Mark) (k : KeyTags) : Type 0 where
@@ -65,7 +65,7 @@ pub record IsTagged (ns : List Mark) (k : KeyTags) : Type 0 where
   pub tags : AreTags ns k.tags.items
   pub count : length k.tags.items ≤ length k.places.items * 64
   pub places : AreMemberPlaces ns k.places.items
-  pub rest : k.rest ≡ member_at ns (length k.tags.items)
+  pub rest : k.rest ≡ member_node ns (length k.tags.items)
 
 -- those of objects among the nodes
 abbrev pub AllTagged : List Mark → List KeyTags → Type 0

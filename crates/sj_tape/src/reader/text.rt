@@ -25,10 +25,10 @@ pub(crate) fn text<'i>(
     nodes: &mut Vec<Packed<'i>>,
 ) -> Result<&'i mut [u8], ErrorKind>
     requires { IsUtf8 rest.old }
-    ensures ok { IfOk result (λ r. GivesText (parse.text_at rest.old) r.now (packed_marks nodes.old.items) (packed_marks nodes.new.items)) }
+    ensures ok { IfOk result (λ r. GivesText (parse.read_text rest.old) r.now (packed_marks nodes.old.items) (packed_marks nodes.new.items)) }
     ensures shorter { IfOk result (λ r. length r.now < length rest.old) }
     ensures ends { IfOk result (λ r. EndsUtf8 r.now) }
-    ensures err { IfErr result (λ e. e ≢ ErrorKind.OutOfMemory → parse.text_at rest.old ≡ None) }
+    ensures err { IfErr result (λ e. e ≢ ErrorKind.OutOfMemory → parse.read_text rest.old ≡ None) }
     ensures kind { IfErr result (λ e. e ≢ ErrorKind.InvalidUtf8) }
 {
     let end = plain_end(rest, 0);
@@ -65,12 +65,12 @@ fn str_of(bytes: &[u8]) -> &str
 fn escaped<'i>(rest: &'i mut [u8], first: usize) -> Result<(&'i str, &'i mut [u8]), ErrorKind>
     requires utf8 { IsUtf8 rest.old }
     requires within { first ≤ length rest.old }
-    requires plain { parse.text_at rest.old ≡ parse.with_front (slice_range rest.old 0 first) (parse.text_at (drop first rest.old)) }
+    requires plain { parse.read_text rest.old ≡ parse.with_front (slice_range rest.old 0 first) (parse.read_text (drop first rest.old)) }
     requires stop { first < length rest.old → is_plain (get_or rest.old first 0) ≡ false }
-    ensures ok { IfOk result (λ p. parse.text_at rest.old ≡ Some (p.0.now, p.1.now)) }
+    ensures ok { IfOk result (λ p. parse.read_text rest.old ≡ Some (p.0.now, p.1.now)) }
     ensures shorter { IfOk result (λ p. length p.1.now < length rest.old) }
     ensures ends { IfOk result (λ p. EndsUtf8 p.1.now) }
-    ensures err { OnErr result (parse.text_at rest.old ≡ None) }
+    ensures err { OnErr result (parse.read_text rest.old ≡ None) }
     ensures kind { IfErr result (λ e. e ≢ ErrorKind.InvalidUtf8) }
 {
     let mut from = first;

@@ -135,10 +135,10 @@ fn value<'i>(
     nodes: &mut Vec<Packed<'i>>,
 ) -> Result<&'i mut [u8], ErrorKind>
     requires { EndsUtf8 rest.old }
-    ensures ok { IfOk result (λ r. Gives (parse.value_at depth rest.old) r.now (packed_marks nodes.old.items) (packed_marks nodes.new.items)) }
+    ensures ok { IfOk result (λ r. Gives (parse.read_value depth rest.old) r.now (packed_marks nodes.old.items) (packed_marks nodes.new.items)) }
     ensures shorter { IfOk result (λ r. length r.now < length rest.old) }
     ensures ends { IfOk result (λ r. EndsUtf8 r.now) }
-    ensures err { IfErr result (λ e. e ≢ ErrorKind.OutOfMemory → parse.value_at depth rest.old ≡ None) }
+    ensures err { IfErr result (λ e. e ≢ ErrorKind.OutOfMemory → parse.read_value depth rest.old ≡ None) }
     ensures kind { IfErr result (λ e. e ≢ ErrorKind.InvalidUtf8) }
 {
     if rest.is_empty() {
@@ -164,10 +164,10 @@ fn other_value<'i>(
     requires some { 0 < length rest.old }
     requires first { 57 < get_or rest.old 0 0 }
     requires ends { EndsUtf8 rest.old }
-    ensures ok { IfOk result (λ r. Gives (parse.value_at depth rest.old) r.now (packed_marks nodes.old.items) (packed_marks nodes.new.items)) }
+    ensures ok { IfOk result (λ r. Gives (parse.read_value depth rest.old) r.now (packed_marks nodes.old.items) (packed_marks nodes.new.items)) }
     ensures shorter { IfOk result (λ r. length r.now < length rest.old) }
     ensures ends { IfOk result (λ r. EndsUtf8 r.now) }
-    ensures err { IfErr result (λ e. e ≢ ErrorKind.OutOfMemory → parse.value_at depth rest.old ≡ None) }
+    ensures err { IfErr result (λ e. e ≢ ErrorKind.OutOfMemory → parse.read_value depth rest.old ≡ None) }
     ensures kind { IfErr result (λ e. e ≢ ErrorKind.InvalidUtf8) }
 {
     let byte = rest[0];
@@ -200,10 +200,10 @@ fn array<'i>(
     nodes: &mut Vec<Packed<'i>>,
 ) -> Result<&'i mut [u8], ErrorKind>
     requires { EndsUtf8 rest.old }
-    ensures ok { IfOk result (λ r. Gives (parse.list_at (parse.value_at depth) rest.old) r.now (packed_marks nodes.old.items) (packed_marks nodes.new.items)) }
+    ensures ok { IfOk result (λ r. Gives (parse.list_at (parse.read_value depth) rest.old) r.now (packed_marks nodes.old.items) (packed_marks nodes.new.items)) }
     ensures shorter { IfOk result (λ r. length r.now < length rest.old) }
     ensures ends { IfOk result (λ r. EndsUtf8 r.now) }
-    ensures err { IfErr result (λ e. e ≢ ErrorKind.OutOfMemory → parse.list_at (parse.value_at depth) rest.old ≡ None) }
+    ensures err { IfErr result (λ e. e ≢ ErrorKind.OutOfMemory → parse.list_at (parse.read_value depth) rest.old ≡ None) }
     ensures kind { IfErr result (λ e. e ≢ ErrorKind.InvalidUtf8) }
 {
     let place = count(nodes);
@@ -229,10 +229,10 @@ fn items<'i>(
     nodes: &mut Vec<Packed<'i>>,
 ) -> Result<(&'i mut [u8], usize), ErrorKind>
     requires { EndsUtf8 bytes.old }
-    ensures ok { IfOk result (λ p. GivesItems (parse.parts_at 93 (parse.value_at depth) (length bytes.old) bytes.old) p.0.now p.1 (packed_marks nodes.old.items) (packed_marks nodes.new.items)) }
+    ensures ok { IfOk result (λ p. GivesItems (parse.parts_at 93 (parse.read_value depth) (length bytes.old) bytes.old) p.0.now p.1 (packed_marks nodes.old.items) (packed_marks nodes.new.items)) }
     ensures shorter { IfOk result (λ p. length p.0.now < length bytes.old) }
     ensures ends { IfOk result (λ p. EndsUtf8 p.0.now) }
-    ensures err { IfErr result (λ e. e ≢ ErrorKind.OutOfMemory → parse.parts_at 93 (parse.value_at depth) (length bytes.old) bytes.old ≡ None) }
+    ensures err { IfErr result (λ e. e ≢ ErrorKind.OutOfMemory → parse.parts_at 93 (parse.read_value depth) (length bytes.old) bytes.old ≡ None) }
     ensures kind { IfErr result (λ e. e ≢ ErrorKind.InvalidUtf8) }
 {
     let mut rest: &'i mut [u8] = bytes;
@@ -264,10 +264,10 @@ fn object<'i>(
     nodes: &mut Vec<Packed<'i>>,
 ) -> Result<&'i mut [u8], ErrorKind>
     requires { EndsUtf8 rest.old }
-    ensures ok { IfOk result (λ r. Gives (parse.obj_at (parse.value_at depth) rest.old) r.now (packed_marks nodes.old.items) (packed_marks nodes.new.items)) }
+    ensures ok { IfOk result (λ r. Gives (parse.obj_at (parse.read_value depth) rest.old) r.now (packed_marks nodes.old.items) (packed_marks nodes.new.items)) }
     ensures shorter { IfOk result (λ r. length r.now < length rest.old) }
     ensures ends { IfOk result (λ r. EndsUtf8 r.now) }
-    ensures err { IfErr result (λ e. e ≢ ErrorKind.OutOfMemory → parse.obj_at (parse.value_at depth) rest.old ≡ None) }
+    ensures err { IfErr result (λ e. e ≢ ErrorKind.OutOfMemory → parse.obj_at (parse.read_value depth) rest.old ≡ None) }
     ensures kind { IfErr result (λ e. e ≢ ErrorKind.InvalidUtf8) }
 {
     let place = count(nodes);
@@ -293,10 +293,10 @@ fn members<'i>(
     nodes: &mut Vec<Packed<'i>>,
 ) -> Result<(&'i mut [u8], usize), ErrorKind>
     requires { EndsUtf8 bytes.old }
-    ensures ok { IfOk result (λ p. GivesMembers (parse.parts_at 125 (parse.member_at (parse.value_at depth)) (length bytes.old) bytes.old) p.0.now p.1 (packed_marks nodes.old.items) (packed_marks nodes.new.items)) }
+    ensures ok { IfOk result (λ p. GivesMembers (parse.parts_at 125 (parse.read_member (parse.read_value depth)) (length bytes.old) bytes.old) p.0.now p.1 (packed_marks nodes.old.items) (packed_marks nodes.new.items)) }
     ensures shorter { IfOk result (λ p. length p.0.now < length bytes.old) }
     ensures ends { IfOk result (λ p. EndsUtf8 p.0.now) }
-    ensures err { IfErr result (λ e. e ≢ ErrorKind.OutOfMemory → parse.parts_at 125 (parse.member_at (parse.value_at depth)) (length bytes.old) bytes.old ≡ None) }
+    ensures err { IfErr result (λ e. e ≢ ErrorKind.OutOfMemory → parse.parts_at 125 (parse.read_member (parse.read_value depth)) (length bytes.old) bytes.old ≡ None) }
     ensures kind { IfErr result (λ e. e ≢ ErrorKind.InvalidUtf8) }
 {
     let mut rest: &'i mut [u8] = bytes;
@@ -328,10 +328,10 @@ fn member<'i>(
     nodes: &mut Vec<Packed<'i>>,
 ) -> Result<&'i mut [u8], ErrorKind>
     requires { EndsUtf8 rest.old }
-    ensures ok { IfOk result (λ r. GivesMember (parse.member_at (parse.value_at depth) rest.old) r.now (packed_marks nodes.old.items) (packed_marks nodes.new.items)) }
+    ensures ok { IfOk result (λ r. GivesMember (parse.read_member (parse.read_value depth) rest.old) r.now (packed_marks nodes.old.items) (packed_marks nodes.new.items)) }
     ensures shorter { IfOk result (λ r. length r.now < length rest.old) }
     ensures ends { IfOk result (λ r. EndsUtf8 r.now) }
-    ensures err { IfErr result (λ e. e ≢ ErrorKind.OutOfMemory → parse.member_at (parse.value_at depth) rest.old ≡ None) }
+    ensures err { IfErr result (λ e. e ≢ ErrorKind.OutOfMemory → parse.read_member (parse.read_value depth) rest.old ≡ None) }
     ensures kind { IfErr result (λ e. e ≢ ErrorKind.InvalidUtf8) }
 {
     if byte_at(rest, 0) != b'"' {
@@ -356,8 +356,8 @@ pub(crate) fn whole<'i>(
 ) -> Result<(), ErrorKind>
     requires utf8 { IsUtf8 bytes.old }
     requires empty { packed_marks nodes.old.items ≡ [] }
-    ensures ok { OnOk result (Scans (parse.tree_at depth bytes.old) (packed_marks nodes.new.items)) }
-    ensures err { IfErr result (λ e. e ≢ ErrorKind.OutOfMemory → parse.tree_at depth bytes.old ≡ None) }
+    ensures ok { OnOk result (Scans (parse.read_tree depth bytes.old) (packed_marks nodes.new.items)) }
+    ensures err { IfErr result (λ e. e ≢ ErrorKind.OutOfMemory → parse.read_tree depth bytes.old ≡ None) }
     ensures kind { IfErr result (λ e. e ≢ ErrorKind.InvalidUtf8) }
 {
     let first = skip(bytes, 0);

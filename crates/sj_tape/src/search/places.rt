@@ -7,7 +7,7 @@ ghost use Rattle.sj_text_core.specs.Find.{find_member};
 ghost use Rattle.sj_text_core.specs.Nodes.{nothing, string, width as node_width};
 ghost use Rattle.sj_text_core.specs.Repeats.{find_last_member, visited};
 ghost use Rattle.sj_text_core.specs.Tree.{members_len};
-ghost use Rattle.sj_tape.specs.inner.Ahead.{MembersAhead, members_from, tree_from};
+ghost use Rattle.sj_tape.specs.inner.Ahead.{MembersAhead, members_at, tree_from};
 ghost use Rattle.sj_tape.specs.inner.Fronts.{BeginsTree};
 ghost use Rattle.sj_tape.specs.Marks.{packed_marks};
 
@@ -69,8 +69,8 @@ pub(super) fn place_of_first<L: Ledger>(
 ) -> Option<usize>
     requires { MembersAhead (packed_marks nodes.now) from }
     ensures begins { IfSome result (λ p. BeginsTree (drop p (packed_marks nodes.now))) }
-    ensures value { option_map (tree_from (packed_marks nodes.now)) result ≡ find_member key.now (members_from (packed_marks nodes.now) from) }
-    ensures exact { steps.new ≡ steps.old + visited key.now (members_from (packed_marks nodes.now) from) }
+    ensures value { option_map (tree_from (packed_marks nodes.now)) result ≡ find_member key.now (members_at (packed_marks nodes.now) from) }
+    ensures exact { steps.new ≡ steps.old + visited key.now (members_at (packed_marks nodes.now) from) }
 {
     let mut at = from;
     while at < nodes.len() {
@@ -94,12 +94,12 @@ fn first_in_run<L: Ledger>(
     requires ahead { MembersAhead (packed_marks nodes.now) from }
     requires more { from < length (packed_marks nodes.now) }
     ensures begins { IfOk result (λ p. BeginsTree (drop p (packed_marks nodes.now))) }
-    ensures found { IfOk result (λ p. Some (tree_from (packed_marks nodes.now) p) ≡ find_member key.now (members_from (packed_marks nodes.now) from)) }
-    ensures found_exact { IfOk result (λ _. steps.new ≡ steps.old + visited key.now (members_from (packed_marks nodes.now) from)) }
+    ensures found { IfOk result (λ p. Some (tree_from (packed_marks nodes.now) p) ≡ find_member key.now (members_at (packed_marks nodes.now) from)) }
+    ensures found_exact { IfOk result (λ _. steps.new ≡ steps.old + visited key.now (members_at (packed_marks nodes.now) from)) }
     ensures ahead { IfErr result (λ p. MembersAhead (packed_marks nodes.now) p) }
     ensures on { IfErr result (λ p. from < p) }
-    ensures passed { IfErr result (λ p. find_member key.now (members_from (packed_marks nodes.now) p) ≡ find_member key.now (members_from (packed_marks nodes.now) from)) }
-    ensures passed_exact { IfErr result (λ p. steps.new + visited key.now (members_from (packed_marks nodes.now) p) ≡ steps.old + visited key.now (members_from (packed_marks nodes.now) from)) }
+    ensures passed { IfErr result (λ p. find_member key.now (members_at (packed_marks nodes.now) p) ≡ find_member key.now (members_at (packed_marks nodes.now) from)) }
+    ensures passed_exact { IfErr result (λ p. steps.new + visited key.now (members_at (packed_marks nodes.now) p) ≡ steps.old + visited key.now (members_at (packed_marks nodes.now) from)) }
 {
     let width = value_width(nodes, from);
     let mut at = from;
@@ -125,8 +125,8 @@ fn first_apart<L: Ledger>(
 ) -> Option<usize>
     requires { MembersAhead (packed_marks nodes.now) from }
     ensures begins { IfSome result (λ p. BeginsTree (drop p (packed_marks nodes.now))) }
-    ensures value { option_map (tree_from (packed_marks nodes.now)) result ≡ find_member key.now (members_from (packed_marks nodes.now) from) }
-    ensures exact { steps.new ≡ steps.old + visited key.now (members_from (packed_marks nodes.now) from) }
+    ensures value { option_map (tree_from (packed_marks nodes.now)) result ≡ find_member key.now (members_at (packed_marks nodes.now) from) }
+    ensures exact { steps.new ≡ steps.old + visited key.now (members_at (packed_marks nodes.now) from) }
 {
     place_of_first(nodes, from, key, steps)
 }
@@ -142,8 +142,8 @@ pub(super) fn first_in_runs<L: Ledger>(
 ) -> Option<usize>
     requires { MembersAhead (packed_marks nodes.now) from }
     ensures begins { IfSome result (λ p. BeginsTree (drop p (packed_marks nodes.now))) }
-    ensures value { option_map (tree_from (packed_marks nodes.now)) result ≡ find_member key.now (members_from (packed_marks nodes.now) from) }
-    ensures exact { steps.new ≡ steps.old + visited key.now (members_from (packed_marks nodes.now) from) }
+    ensures value { option_map (tree_from (packed_marks nodes.now)) result ≡ find_member key.now (members_at (packed_marks nodes.now) from) }
+    ensures exact { steps.new ≡ steps.old + visited key.now (members_at (packed_marks nodes.now) from) }
 {
     let mut at = from;
     let mut runs = 0usize;
@@ -181,8 +181,8 @@ pub(super) fn place_of_last<L: Ledger>(
     requires ahead { MembersAhead (packed_marks nodes.now) from }
     requires before { IfSome before (λ p. BeginsTree (drop p (packed_marks nodes.now))) }
     ensures begins { IfSome result (λ p. BeginsTree (drop p (packed_marks nodes.now))) }
-    ensures value { option_map (tree_from (packed_marks nodes.now)) result ≡ option_or (find_last_member key.now (members_from (packed_marks nodes.now) from)) (option_map (tree_from (packed_marks nodes.now)) before) }
-    ensures exact { steps.new ≡ steps.old + members_len (members_from (packed_marks nodes.now) from) }
+    ensures value { option_map (tree_from (packed_marks nodes.now)) result ≡ option_or (find_last_member key.now (members_at (packed_marks nodes.now) from)) (option_map (tree_from (packed_marks nodes.now)) before) }
+    ensures exact { steps.new ≡ steps.old + members_len (members_at (packed_marks nodes.now) from) }
 {
     let mut at = from;
     let mut last = before;
@@ -211,8 +211,8 @@ fn last_in_run<L: Ledger>(
     ensures begins { IfSome result.0 (λ p. BeginsTree (drop p (packed_marks nodes.now))) }
     ensures ahead { MembersAhead (packed_marks nodes.now) result.1 }
     ensures on { from < result.1 }
-    ensures value { option_or (find_last_member key.now (members_from (packed_marks nodes.now) result.1)) (option_map (tree_from (packed_marks nodes.now)) result.0) ≡ option_or (find_last_member key.now (members_from (packed_marks nodes.now) from)) (option_map (tree_from (packed_marks nodes.now)) before) }
-    ensures exact { steps.new + members_len (members_from (packed_marks nodes.now) result.1) ≡ steps.old + members_len (members_from (packed_marks nodes.now) from) }
+    ensures value { option_or (find_last_member key.now (members_at (packed_marks nodes.now) result.1)) (option_map (tree_from (packed_marks nodes.now)) result.0) ≡ option_or (find_last_member key.now (members_at (packed_marks nodes.now) from)) (option_map (tree_from (packed_marks nodes.now)) before) }
+    ensures exact { steps.new + members_len (members_at (packed_marks nodes.now) result.1) ≡ steps.old + members_len (members_at (packed_marks nodes.now) from) }
 {
     let wide = value_width(nodes, from);
     let mut at = from;
@@ -240,8 +240,8 @@ fn last_apart<L: Ledger>(
     requires ahead { MembersAhead (packed_marks nodes.now) from }
     requires before { IfSome before (λ p. BeginsTree (drop p (packed_marks nodes.now))) }
     ensures begins { IfSome result (λ p. BeginsTree (drop p (packed_marks nodes.now))) }
-    ensures value { option_map (tree_from (packed_marks nodes.now)) result ≡ option_or (find_last_member key.now (members_from (packed_marks nodes.now) from)) (option_map (tree_from (packed_marks nodes.now)) before) }
-    ensures exact { steps.new ≡ steps.old + members_len (members_from (packed_marks nodes.now) from) }
+    ensures value { option_map (tree_from (packed_marks nodes.now)) result ≡ option_or (find_last_member key.now (members_at (packed_marks nodes.now) from)) (option_map (tree_from (packed_marks nodes.now)) before) }
+    ensures exact { steps.new ≡ steps.old + members_len (members_at (packed_marks nodes.now) from) }
 {
     place_of_last(nodes, from, before, key, steps)
 }
@@ -255,8 +255,8 @@ pub(super) fn last_in_runs<L: Ledger>(
 ) -> Option<usize>
     requires { MembersAhead (packed_marks nodes.now) 0 }
     ensures begins { IfSome result (λ p. BeginsTree (drop p (packed_marks nodes.now))) }
-    ensures value { option_map (tree_from (packed_marks nodes.now)) result ≡ find_last_member key.now (members_from (packed_marks nodes.now) 0) }
-    ensures exact { steps.new ≡ steps.old + members_len (members_from (packed_marks nodes.now) 0) }
+    ensures value { option_map (tree_from (packed_marks nodes.now)) result ≡ find_last_member key.now (members_at (packed_marks nodes.now) 0) }
+    ensures exact { steps.new ≡ steps.old + members_len (members_at (packed_marks nodes.now) 0) }
 {
     let mut at = 0;
     let mut last = None;

@@ -7,11 +7,11 @@ ghost use Rattle.sj_text_core.specs.Nodes.{members_in};
 ghost use Rattle.sj_text_core.specs.inner.Nodes.{AreMembers};
 ghost use Rattle.sj_text_core.specs.Repeats.{visited};
 ghost use Rattle.sj_text_core.specs.Tree.{members_len};
-ghost use Rattle.sj_tape.specs.inner.Ahead.{members_from, tree_from};
+ghost use Rattle.sj_tape.specs.inner.Ahead.{members_at, tree_from};
 ghost use Rattle.sj_tape.specs.inner.Fronts.{BeginsTree};
 ghost use Rattle.sj_tape.specs.Marks.{packed_marks};
 ghost use Rattle.sj_tape.specs.Stretches.{nodes_in};
-ghost use Rattle.sj_tape.specs.inner.Tags.{IsTagged, member_at, tag as tag_is};
+ghost use Rattle.sj_tape.specs.inner.Tags.{IsTagged, member_node, tag as tag_is};
 
 use crate::key_tags::KeyTags;
 use crate::landmarks::STEP;
@@ -38,15 +38,15 @@ fn first_among<L: Ledger>(
     steps: &mut Steps<L>,
 ) -> Result<usize, usize>
     requires are { AreMembers (packed_marks nodes.now) }
-    requires at { place ≡ member_at (packed_marks nodes.now) from }
+    requires at { place ≡ member_node (packed_marks nodes.now) from }
     requires order { from ≤ next }
     requires within { next ≤ members_len (members_in (packed_marks nodes.now)) }
     ensures begins { IfOk result (λ p. BeginsTree (drop p (packed_marks nodes.now))) }
-    ensures found { IfOk result (λ p. Some (tree_from (packed_marks nodes.now) p) ≡ find_member key.now (members_from (packed_marks nodes.now) place)) }
-    ensures found_exact { IfOk result (λ _. steps.new ≡ steps.old + visited key.now (members_from (packed_marks nodes.now) place)) }
-    ensures at { IfErr result (λ p. p ≡ member_at (packed_marks nodes.now) next) }
-    ensures passed { IfErr result (λ p. find_member key.now (members_from (packed_marks nodes.now) p) ≡ find_member key.now (members_from (packed_marks nodes.now) place)) }
-    ensures passed_exact { IfErr result (λ p. steps.new + visited key.now (members_from (packed_marks nodes.now) p) ≡ steps.old + visited key.now (members_from (packed_marks nodes.now) place)) }
+    ensures found { IfOk result (λ p. Some (tree_from (packed_marks nodes.now) p) ≡ find_member key.now (members_at (packed_marks nodes.now) place)) }
+    ensures found_exact { IfOk result (λ _. steps.new ≡ steps.old + visited key.now (members_at (packed_marks nodes.now) place)) }
+    ensures at { IfErr result (λ p. p ≡ member_node (packed_marks nodes.now) next) }
+    ensures passed { IfErr result (λ p. find_member key.now (members_at (packed_marks nodes.now) p) ≡ find_member key.now (members_at (packed_marks nodes.now) place)) }
+    ensures passed_exact { IfErr result (λ p. steps.new + visited key.now (members_at (packed_marks nodes.now) p) ≡ steps.old + visited key.now (members_at (packed_marks nodes.now) place)) }
 {
     let mut at = place;
     for _ in from..next {
@@ -72,14 +72,14 @@ fn first_in_block<L: Ledger>(
     requires are { AreMembers (packed_marks nodes.now) }
     requires tagged { IsTagged (packed_marks nodes.now) kept.now }
     requires tag { tag ≡ tag_is key.now }
-    requires at { place ≡ member_at (packed_marks nodes.now) from }
+    requires at { place ≡ member_node (packed_marks nodes.now) from }
     requires order { from ≤ next }
     requires within { next ≤ length kept.now.tags.items }
     ensures begins { IfSome result (λ p. BeginsTree (drop p (packed_marks nodes.now))) }
-    ensures found { IfSome result (λ p. Some (tree_from (packed_marks nodes.now) p) ≡ find_member key.now (members_from (packed_marks nodes.now) place)) }
-    ensures found_most { IfSome result (λ _. steps.new ≤ steps.old + visited key.now (members_from (packed_marks nodes.now) place)) }
-    ensures passed { IfNone result (find_member key.now (members_from (packed_marks nodes.now) (member_at (packed_marks nodes.now) next)) ≡ find_member key.now (members_from (packed_marks nodes.now) place)) }
-    ensures passed_most { IfNone result (steps.new + visited key.now (members_from (packed_marks nodes.now) (member_at (packed_marks nodes.now) next)) ≤ steps.old + visited key.now (members_from (packed_marks nodes.now) place)) }
+    ensures found { IfSome result (λ p. Some (tree_from (packed_marks nodes.now) p) ≡ find_member key.now (members_at (packed_marks nodes.now) place)) }
+    ensures found_most { IfSome result (λ _. steps.new ≤ steps.old + visited key.now (members_at (packed_marks nodes.now) place)) }
+    ensures passed { IfNone result (find_member key.now (members_at (packed_marks nodes.now) (member_node (packed_marks nodes.now) next)) ≡ find_member key.now (members_at (packed_marks nodes.now) place)) }
+    ensures passed_most { IfNone result (steps.new + visited key.now (members_at (packed_marks nodes.now) (member_node (packed_marks nodes.now) next)) ≤ steps.old + visited key.now (members_at (packed_marks nodes.now) place)) }
 {
     if !is_among(tag, &kept.tags[from..next]) {
         return None;
@@ -95,7 +95,7 @@ fn first_in_block<L: Ledger>(
 fn place_of_block(_nodes: &[Packed<'_>], kept: &KeyTags, block: usize, from: usize) -> usize
     requires tagged { IsTagged (packed_marks _nodes.now) kept.now }
     requires from { from ≡ min (block * 64) (length kept.now.tags.items) }
-    ensures { result ≡ member_at (packed_marks _nodes.now) from }
+    ensures { result ≡ member_node (packed_marks _nodes.now) from }
 {
     if from < kept.tags.len() {
         kept.places[block]
@@ -116,12 +116,12 @@ fn first_by_tags<L: Ledger>(
 ) -> Option<usize>
     requires are { AreMembers (packed_marks nodes.now) }
     requires tagged { IsTagged (packed_marks nodes.now) kept.now }
-    requires at { place ≡ member_at (packed_marks nodes.now) from }
+    requires at { place ≡ member_node (packed_marks nodes.now) from }
     requires few { from < 64 }
     requires within { from ≤ length kept.now.tags.items }
     ensures begins { IfSome result (λ p. BeginsTree (drop p (packed_marks nodes.now))) }
-    ensures value { option_map (tree_from (packed_marks nodes.now)) result ≡ find_member key.now (members_from (packed_marks nodes.now) place) }
-    ensures most { steps.new ≤ steps.old + visited key.now (members_from (packed_marks nodes.now) place) }
+    ensures value { option_map (tree_from (packed_marks nodes.now)) result ≡ find_member key.now (members_at (packed_marks nodes.now) place) }
+    ensures most { steps.new ≤ steps.old + visited key.now (members_at (packed_marks nodes.now) place) }
 {
     let tag = tag_of(key);
     let mut block = 0;
@@ -151,12 +151,12 @@ fn first_behind<L: Ledger>(
 ) -> Option<usize>
     requires nodes { packed_marks nodes.now ≡ nodes_in object.now.nodes }
     requires are { AreMembers (packed_marks nodes.now) }
-    requires at { place ≡ member_at (packed_marks nodes.now) from }
+    requires at { place ≡ member_node (packed_marks nodes.now) from }
     requires few { from < 64 }
     requires within { from ≤ members_len (members_in (packed_marks nodes.now)) }
     ensures begins { IfSome result (λ p. BeginsTree (drop p (packed_marks nodes.now))) }
-    ensures value { option_map (tree_from (packed_marks nodes.now)) result ≡ find_member key.now (members_from (packed_marks nodes.now) place) }
-    ensures most { steps.new ≤ steps.old + visited key.now (members_from (packed_marks nodes.now) place) }
+    ensures value { option_map (tree_from (packed_marks nodes.now)) result ≡ find_member key.now (members_at (packed_marks nodes.now) place) }
+    ensures most { steps.new ≤ steps.old + visited key.now (members_at (packed_marks nodes.now) place) }
 {
     match object.key_tags() {
         Some(kept) if from <= kept.tags.len() => {

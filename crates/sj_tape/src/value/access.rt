@@ -8,7 +8,7 @@ ghost use Rattle.sj_text_core.specs.Repeats.{find_by, visited_in};
 ghost use Rattle.sj_text_core.specs.Scalars.{static_tree};
 ghost use Rattle.sj_tape.specs.Items.{items, array_choice};
 ghost use Rattle.sj_tape.specs.Members.{members, object_choice};
-ghost use Rattle.sj_tape.specs.Value.{tree, choice, as_scalar};
+ghost use Rattle.sj_tape.specs.Value.{tape_tree, tape_choice, as_scalar};
 
 use super::Value;
 use crate::array::Array;
@@ -22,8 +22,8 @@ impl<'t, 'i> Value<'t, 'i> {
     /// The items, where it is an array; else None.
     #[inline]
     pub fn as_array(&self) -> Option<Array<'t, 'i>>
-        ensures items { option_map items result ≡ as_items (tree self.now) }
-        ensures choice { IfSome result (λ a. array_choice a ≡ choice self.now) }
+        ensures items { option_map items result ≡ as_items (tape_tree self.now) }
+        ensures choice { IfSome result (λ a. array_choice a ≡ tape_choice self.now) }
     {
         let len = self.nodes.array_len()?;
         let nodes = self.nodes.from(1);
@@ -33,8 +33,8 @@ impl<'t, 'i> Value<'t, 'i> {
     /// The members, where it is an object; else None.
     #[inline]
     pub fn as_object(&self) -> Option<Object<'t, 'i>>
-        ensures members { option_map members result ≡ as_members (tree self.now) }
-        ensures choice { IfSome result (λ o. object_choice o ≡ choice self.now) }
+        ensures members { option_map members result ≡ as_members (tape_tree self.now) }
+        ensures choice { IfSome result (λ o. object_choice o ≡ tape_choice self.now) }
     {
         let len = self.nodes.object_len()?;
         let nodes = self.nodes.from(1);
@@ -43,16 +43,16 @@ impl<'t, 'i> Value<'t, 'i> {
 
     /// As `as_array`; of another part, that an array was expected and which kind it is.
     pub fn try_as_array(&self) -> Result<Array<'t, 'i>, TryTypeError>
-        ensures items { result_map_both items (λ e. e) result ≡ read_as (as_items (tree self.now)) ValueType.Array (kind_of (tree self.now)) }
-        ensures choice { IfOk result (λ a. array_choice a ≡ choice self.now) }
+        ensures items { result_map_both items (λ e. e) result ≡ read_as (as_items (tape_tree self.now)) ValueType.Array (kind_of (tape_tree self.now)) }
+        ensures choice { IfOk result (λ a. array_choice a ≡ tape_choice self.now) }
     {
         self.as_array().ok_or(self.fault(ValueType::Array))
     }
 
     /// As `as_object`; of another part, that an object was expected and which kind it is.
     pub fn try_as_object(&self) -> Result<Object<'t, 'i>, TryTypeError>
-        ensures members { result_map_both members (λ e. e) result ≡ read_as (as_members (tree self.now)) ValueType.Object (kind_of (tree self.now)) }
-        ensures choice { IfOk result (λ o. object_choice o ≡ choice self.now) }
+        ensures members { result_map_both members (λ e. e) result ≡ read_as (as_members (tape_tree self.now)) ValueType.Object (kind_of (tape_tree self.now)) }
+        ensures choice { IfOk result (λ o. object_choice o ≡ tape_choice self.now) }
     {
         self.as_object().ok_or(self.fault(ValueType::Object))
     }
@@ -60,7 +60,7 @@ impl<'t, 'i> Value<'t, 'i> {
     /// That another kind was expected.
     pub(super) fn fault(&self, expected: ValueType) -> TryTypeError
         ensures expected { result.expected ≡ expected }
-        ensures got { result.got ≡ kind_of (tree self.now) }
+        ensures got { result.got ≡ kind_of (tape_tree self.now) }
     {
         TryTypeError {
             expected,
@@ -71,8 +71,8 @@ impl<'t, 'i> Value<'t, 'i> {
     /// The value of the member with that key that counts; None where there is none, and on a
     /// non-object.
     pub fn get(&self, key: &str) -> Option<Value<'t, 'i>>
-        ensures value { option_map tree result ≡ find_by (choice self.now) key.now (tree self.now) }
-        ensures choice { IfSome result (λ v. choice v ≡ choice self.now) }
+        ensures value { option_map tape_tree result ≡ find_by (tape_choice self.now) key.now (tape_tree self.now) }
+        ensures choice { IfSome result (λ v. tape_choice v ≡ tape_choice self.now) }
     {
         match self.as_object() {
             Some(members) => members.get(key),
@@ -83,9 +83,9 @@ impl<'t, 'i> Value<'t, 'i> {
     /// As `get`, with a step for each member that is compared: one for each member up to the one
     /// found, for every member where none is found, and none on a non-object.
     pub fn get_steps<L: Ledger>(&self, key: &str, steps: &mut Steps<L>) -> Option<Value<'t, 'i>>
-        ensures value { option_map tree result ≡ find_by (choice self.now) key.now (tree self.now) }
-        ensures choice { IfSome result (λ v. choice v ≡ choice self.now) }
-        ensures exact { steps.new ≡ steps.old + visited_in (choice self.now) key.now (tree self.now) }
+        ensures value { option_map tape_tree result ≡ find_by (tape_choice self.now) key.now (tape_tree self.now) }
+        ensures choice { IfSome result (λ v. tape_choice v ≡ tape_choice self.now) }
+        ensures exact { steps.new ≡ steps.old + visited_in (tape_choice self.now) key.now (tape_tree self.now) }
     {
         match self.as_object() {
             Some(members) => find_counted(&members, key.as_bytes(), steps),
@@ -95,23 +95,23 @@ impl<'t, 'i> Value<'t, 'i> {
 
     /// Whether a member has that key; false on a non-object.
     pub fn contains_key(&self, key: &str) -> bool
-        ensures { result ≡ is_some (find_by (choice self.now) key.now (tree self.now)) }
+        ensures { result ≡ is_some (find_by (tape_choice self.now) key.now (tape_tree self.now)) }
     {
         self.get(key).is_some()
     }
 
     /// As `get`; of a non-object, that an object was expected and which kind it is.
     pub fn try_get(&self, key: &str) -> Result<Option<Value<'t, 'i>>, TryTypeError>
-        ensures value { result_map_both (option_map tree) (λ e. e) result ≡ found_in (as_members (tree self.now)) (kind_of (tree self.now)) (find_by (choice self.now) key.now (tree self.now)) }
-        ensures choice { IfOk result (λ found. IfSome found (λ v. choice v ≡ choice self.now)) }
+        ensures value { result_map_both (option_map tape_tree) (λ e. e) result ≡ found_in (as_members (tape_tree self.now)) (kind_of (tape_tree self.now)) (find_by (tape_choice self.now) key.now (tape_tree self.now)) }
+        ensures choice { IfOk result (λ found. IfSome found (λ v. tape_choice v ≡ tape_choice self.now)) }
     {
         Ok(self.try_as_object()?.get(key))
     }
 
     /// The item at that position, counted from 0; None past the last, and on a non-array.
     pub fn get_idx(&self, index: usize) -> Option<Value<'t, 'i>>
-        ensures value { option_map tree result ≡ nth index (tree self.now) }
-        ensures choice { IfSome result (λ v. choice v ≡ choice self.now) }
+        ensures value { option_map tape_tree result ≡ nth index (tape_tree self.now) }
+        ensures choice { IfSome result (λ v. tape_choice v ≡ tape_choice self.now) }
     {
         match self.as_array() {
             Some(items) => items.get(index),
@@ -121,8 +121,8 @@ impl<'t, 'i> Value<'t, 'i> {
 
     /// As `get_idx`; of a non-array, that an array was expected and which kind it is.
     pub fn try_get_idx(&self, index: usize) -> Result<Option<Value<'t, 'i>>, TryTypeError>
-        ensures value { result_map_both (option_map tree) (λ e. e) result ≡ result_map_both (λ is. nth_item index is) (λ e. e) (read_as (as_items (tree self.now)) ValueType.Array (kind_of (tree self.now))) }
-        ensures choice { IfOk result (λ found. IfSome found (λ v. choice v ≡ choice self.now)) }
+        ensures value { result_map_both (option_map tape_tree) (λ e. e) result ≡ result_map_both (λ is. nth_item index is) (λ e. e) (read_as (as_items (tape_tree self.now)) ValueType.Array (kind_of (tape_tree self.now))) }
+        ensures choice { IfOk result (λ found. IfSome found (λ v. tape_choice v ≡ tape_choice self.now)) }
     {
         Ok(self.try_as_array()?.get(index))
     }
@@ -130,7 +130,7 @@ impl<'t, 'i> Value<'t, 'i> {
     /// The text, where it is one, for as long as the input lives; else None.
     #[inline]
     pub fn into_string(self) -> Option<&'i str>
-        ensures { option_map (λ s. s.now) result ≡ as_text (tree self.entry) }
+        ensures { option_map (λ s. s.now) result ≡ as_text (tape_tree self.entry) }
     {
         self.nodes.text_at(0)
     }
@@ -139,7 +139,7 @@ impl<'t, 'i> Value<'t, 'i> {
     /// None.
     #[inline]
     pub fn as_static(&self) -> Option<StaticNode>
-        ensures { option_map static_tree result ≡ as_scalar (tree self.now) }
+        ensures { option_map static_tree result ≡ as_scalar (tape_tree self.now) }
     {
         match self.nodes.at(0) {
             Node::Static(scalar) => Some(scalar),

@@ -1,7 +1,7 @@
 //! Whether two parts of tapes are the same document. Nothing is built, and no memory is taken.
 
 ghost use Rattle.std.specs.Prelude.{◌≡◌, ◌↔◌, IsTrue, None, take};
-ghost use Rattle.sj_text_core.specs.Agree.{texts};
+ghost use Rattle.sj_text_core.specs.Agree.{pair_keys};
 ghost use Rattle.sj_text_core.specs.inner.Agree.{Agree, HasTexts};
 ghost use Rattle.sj_text_core.specs.Reads.{as_items, as_members};
 ghost use Rattle.sj_text_core.specs.Repeats.{SameBy};
@@ -9,7 +9,7 @@ ghost use Rattle.sj_text_core.specs.Same.{Same};
 ghost use Rattle.sj_text_core.specs.Tree.{list, obj, paired};
 ghost use Rattle.sj_tape.specs.Items.{items, array_choice};
 ghost use Rattle.sj_tape.specs.Members.{members, object_choice};
-ghost use Rattle.sj_tape.specs.Value.{tree, choice};
+ghost use Rattle.sj_tape.specs.Value.{tape_tree, tape_choice};
 
 use crate::array::Array;
 use crate::object::Object;
@@ -19,7 +19,7 @@ use sj_text_core::{Repeats, SameAs, are_same_texts};
 /// Same as another part exactly where the two mean one document: numbers by value, arrays item by
 /// item, objects by the member of each key that counts in each.
 impl<'t, 'i, 'u, 'j> SameAs<Value<'u, 'j>> for Value<'t, 'i> {
-    ghost same = { λ v w. SameBy (choice v) (choice w) (tree v) (tree w) };
+    ghost same = { λ v w. SameBy (tape_choice v) (tape_choice w) (tape_tree v) (tape_tree w) };
 
     fn same_as(&self, other: &Value<'u, 'j>) -> bool {
         same_parts(*self, *other)
@@ -27,7 +27,7 @@ impl<'t, 'i, 'u, 'j> SameAs<Value<'u, 'j>> for Value<'t, 'i> {
 }
 
 fn same_parts(left: Value, right: Value) -> bool
-    ensures { IsTrue result ↔ SameBy (choice left.entry) (choice right.entry) (tree left.entry) (tree right.entry) }
+    ensures { IsTrue result ↔ SameBy (tape_choice left.entry) (tape_choice right.entry) (tape_tree left.entry) (tape_tree right.entry) }
 {
     match left.repeats() {
         Repeats::First => match right.repeats() {
@@ -41,7 +41,7 @@ fn same_parts(left: Value, right: Value) -> bool
 /// Whether the two are the same by the first member of each key.
 #[cycle(same)]
 fn same_values(left: Value, right: Value) -> bool
-    ensures { IsTrue result ↔ Same (tree left.entry) (tree right.entry) }
+    ensures { IsTrue result ↔ Same (tape_tree left.entry) (tape_tree right.entry) }
 {
     match left.as_array() {
         Some(items) => match right.as_array() {
@@ -60,9 +60,9 @@ fn same_values(left: Value, right: Value) -> bool
 
 /// Whether a scalar or a text is the same as the other part.
 fn same_leaves(left: Value, right: Value) -> bool
-    requires no_array { as_items (tree left) ≡ None }
-    requires no_object { as_members (tree left) ≡ None }
-    ensures { IsTrue result ↔ Same (tree left.entry) (tree right.entry) }
+    requires no_array { as_items (tape_tree left) ≡ None }
+    requires no_object { as_members (tape_tree left) ≡ None }
+    ensures { IsTrue result ↔ Same (tape_tree left.entry) (tape_tree right.entry) }
 {
     match left.as_static() {
         Some(scalar) => match right.as_static() {
@@ -128,7 +128,7 @@ fn same_members(left: Object, right: Object) -> bool
 /// The same, where the first `place` members have the same keys in both, and agree.
 #[cycle(same)]
 fn same_rest(left: Object, right: Object, place: usize) -> bool
-    requires in_step { texts (take place (paired (members left))) ≡ texts (take place (paired (members right))) }
+    requires in_step { pair_keys (take place (paired (members left))) ≡ pair_keys (take place (paired (members right))) }
     requires agree { Agree place (paired (members left)) (paired (members right)) }
     ensures { IsTrue result ↔ Same (obj (members left.entry)) (obj (members right.entry)) }
 {
@@ -152,7 +152,7 @@ fn same_rest(left: Object, right: Object, place: usize) -> bool
 /// Whether the first object has every key of the second, where it has those of the first `place`
 /// members.
 fn has_keys(left: Object, right: Object, place: usize) -> bool
-    requires { texts (take place (paired (members left))) ≡ texts (take place (paired (members right))) }
+    requires { pair_keys (take place (paired (members left))) ≡ pair_keys (take place (paired (members right))) }
     ensures { IsTrue result ↔ HasTexts (paired (members left.entry)) (paired (members right.entry)) }
 {
     let mut known = place;
@@ -169,8 +169,8 @@ fn has_keys(left: Object, right: Object, place: usize) -> bool
 /// Whether the two are the same, where the last member of each key counts in the first.
 #[cycle(last)]
 fn last_values(left: Value, right: Value) -> bool
-    requires { choice left ≡ Repeats.Last }
-    ensures { IsTrue result ↔ SameBy Repeats.Last (choice right.entry) (tree left.entry) (tree right.entry) }
+    requires { tape_choice left ≡ Repeats.Last }
+    ensures { IsTrue result ↔ SameBy Repeats.Last (tape_choice right.entry) (tape_tree left.entry) (tape_tree right.entry) }
 {
     match left.as_array() {
         Some(items) => match right.as_array() {
@@ -224,7 +224,7 @@ fn last_objects(left: Object, right: Object) -> bool
 
 /// Whether the two have the same keys in one order.
 fn has_same_keys(left: Object, right: Object) -> bool
-    ensures { IsTrue result ↔ texts (paired (members left.entry)) ≡ texts (paired (members right.entry)) }
+    ensures { IsTrue result ↔ pair_keys (paired (members left.entry)) ≡ pair_keys (paired (members right.entry)) }
 {
     let mut others = right.keys();
     for key in left.keys() {
@@ -241,7 +241,7 @@ fn has_same_keys(left: Object, right: Object) -> bool
 fn last_in_step(left: Object, right: Object) -> bool
     requires choice { object_choice left ≡ Repeats.Last }
     requires other_choice { object_choice right ≡ Repeats.Last }
-    requires keys { texts (paired (members left)) ≡ texts (paired (members right)) }
+    requires keys { pair_keys (paired (members left)) ≡ pair_keys (paired (members right)) }
     ensures { IsTrue result ↔ SameBy Repeats.Last Repeats.Last (obj (members left.entry)) (obj (members right.entry)) }
 {
     let mut others = right.iter();

@@ -49,11 +49,11 @@ fn split_packed<'t, 'i>(nodes: &'t [Packed<'i>]) -> (&'t [Packed<'i>], &'t [Pack
 
 impl<'t, 'i> Value<'t, 'i> {
     ghost use Rattle.sj_tape.specs.inner.PackedTree.{packed_tree};
-    ghost use Rattle.sj_tape.specs.Value.{tree};
+    ghost use Rattle.sj_tape.specs.Value.{tape_tree};
 
     /// Its nodes, where they are packed.
     pub(super) fn packed(&self) -> Option<PackedTree<'t, 'i>>
-        ensures { IfSome result (λ p. packed_tree p ≡ tree self.now) }
+        ensures { IfSome result (λ p. packed_tree p ≡ tape_tree self.now) }
     {
         let nodes = self.nodes.packed()?;
         Some(PackedTree { nodes })

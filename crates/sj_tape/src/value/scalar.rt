@@ -5,9 +5,9 @@ use crate::node::Node;
 use sj_text_core::{Meaning, StaticNode, TypedValue, ValueAsScalar, ValueType};
 
 impl<'t, 'i> Meaning for Value<'t, 'i> {
-    ghost use Rattle.sj_tape.specs.Value.{tree as tree_of_value};
+    ghost use Rattle.sj_tape.specs.Value.{tape_tree};
 
-    ghost tree = { tree_of_value };
+    ghost tree = { tape_tree };
 }
 
 impl<'t, 'i> TypedValue for Value<'t, 'i> {

@@ -17,9 +17,9 @@ impl<'t, 'i> Parts for Value<'t, 'i> {
 
     ghost use Rattle.sj_tape.specs.Items.{items_ahead};
     ghost use Rattle.sj_tape.specs.Members.{members_ahead};
-    ghost use Rattle.sj_tape.specs.Value.{tree};
+    ghost use Rattle.sj_tape.specs.Value.{tape_tree};
 
-    ghost tree_of = { tree };
+    ghost tree_of = { tape_tree };
 
     ghost items_left = { items_ahead };
 
@@ -63,12 +63,12 @@ impl<'t, 'i> Parts for Value<'t, 'i> {
 impl<'t, 'i> Value<'t, 'i> {
     ghost use Rattle.std.specs.Prelude.{◌≡◌, ◌↔◌, ◌+◌, ◌^◌, ◌≤◌, ◌++◌, length, IfOk, OnOk, OnErr, IsErrOf, string_bytes};
     ghost use Rattle.sj_print.specs.Layouts.{laid, top};
-    ghost use Rattle.sj_tape.specs.Value.{tree};
+    ghost use Rattle.sj_tape.specs.Value.{tape_tree};
 
     /// The print, over the nodes themselves where they are packed.
     fn encode_as(&self, pretty: bool, alloc: Global) -> Result<String, WriteError>
-        ensures ok { IfOk result (λ s. string_bytes s ≡ laid (top pretty) (tree self.now)) }
-        ensures too_long { IsErrOf result WriteError.TooLong ↔ (2 ^ 64 ≤ length (laid (top pretty) (tree self.now))) }
+        ensures ok { IfOk result (λ s. string_bytes s ≡ laid (top pretty) (tape_tree self.now)) }
+        ensures too_long { IsErrOf result WriteError.TooLong ↔ (2 ^ 64 ≤ length (laid (top pretty) (tape_tree self.now))) }
     {
         match self.packed() {
             Some(packed) => {
@@ -82,9 +82,9 @@ impl<'t, 'i> Value<'t, 'i> {
     /// Appends the print, over the nodes themselves where they are packed. Refused, it leaves the
     /// bytes as they were.
     fn write_as(&self, pretty: bool, out: &mut Vec<u8>) -> Result<(), WriteError>
-        ensures ok { OnOk result (out.new.items ≡ out.old.items ++ laid (top pretty) (tree self.now)) }
+        ensures ok { OnOk result (out.new.items ≡ out.old.items ++ laid (top pretty) (tape_tree self.now)) }
         ensures err { OnErr result (out.new.items ≡ out.old.items) }
-        ensures too_long { IsErrOf result WriteError.TooLong ↔ (2 ^ 64 ≤ length out.old.items + length (laid (top pretty) (tree self.now))) }
+        ensures too_long { IsErrOf result WriteError.TooLong ↔ (2 ^ 64 ≤ length out.old.items + length (laid (top pretty) (tape_tree self.now))) }
     {
         match self.packed() {
             Some(packed) => {
@@ -117,9 +117,9 @@ impl<'t, 'i> Writable for Value<'t, 'i> {
 /// A text as it is, all else as its compact print.
 impl<'t, 'i> fmt::Display for Value<'t, 'i> {
     ghost use Rattle.std.specs.Prelude.{Some};
-    ghost use Rattle.sj_tape.specs.Value.{tree, displayed};
+    ghost use Rattle.sj_tape.specs.Value.{tape_tree, displayed};
 
-    ghost output = { λ v. Some (displayed (tree v)) };
+    ghost output = { λ v. Some (displayed (tape_tree v)) };
 
     fn fmt<W: fmt::Write>(&self, f: &mut fmt::Formatter<W>) -> fmt::Result {
         if let Some(scalar) = self.as_static() {

@@ -1,7 +1,7 @@
 ghost use Rattle.std.specs.Prelude.{◌≡◌, IsSome, OnOk, OnErr};
 ghost use Rattle.std.specs.Cow.{cow_str_bytes};
 ghost use Rattle.sj_text_core.specs.Find.{find};
-ghost use Rattle.sj_document.specs.Document.{tree};
+ghost use Rattle.sj_document.specs.Document.{document_tree};
 ghost use Rattle.sj_borrowed.specs.Inserts.{IsCopy};
 ghost use Rattle.sj_borrowed.specs.Loans.{IsInserted};
 
@@ -133,7 +133,7 @@ fn is_change_refused<'k>(value: &mut BorrowedValue<'k>, key: &KnownKey<'k>) -> b
 
 /// No call of the closure is owed where the key is there: this one must not be called.
 fn found<'v>(value: &mut BorrowedValue<'v>, key: &KnownKey<'v>) -> bool
-    requires { IsSome (find (cow_str_bytes key.now) (tree cow_str_bytes value.old)) }
+    requires { IsSome (find (cow_str_bytes key.now) (document_tree cow_str_bytes value.old)) }
 {
     KnownKey::lookup_or_insert_mut(value, key, || unreachable!()).is_ok()
 }

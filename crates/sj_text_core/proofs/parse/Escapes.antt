@@ -10,10 +10,10 @@ use Rattle.std.proofs.lemmas.Bool.{and_parts, ltb-true, ltb-false}
 use Rattle.std.proofs.lemmas.Str.{encode_ascii, length-encode}
 use Rattle.sj_text_core.proofs.Characters.{hex_ascii, short_ascii, short_scalar}
 use Rattle.sj_text_core.specs.Grammar.{IsUnit, IsItem, short_escape}
-use Rattle.sj_text_core.specs.inner.Parse.{Read, is_hex, unit_at, is_high, is_low, pair_with, pair_at, code_with, code_at, escape_at, with_front, text_from, text_at}
+use Rattle.sj_text_core.specs.inner.Parse.{Reading, is_hex, unit_at, is_high, is_low, pair_with, pair_at, code_with, code_at, escape_at, with_front, text_from, read_text}
 
 -- a counter of bytes passes over them
-pub text_skip : (k : ℕ) (b : List ℕ) → text_from k b ≡ text_at (drop k b)
+pub text_skip : (k : ℕ) (b : List ℕ) → text_from k b ≡ read_text (drop k b)
 unfolding text_from
 text_skip zero [] = refl
 text_skip (suc k) [] = refl
@@ -26,15 +26,15 @@ unfolding text_from
 text_nil k = refl
 
 -- at the quote the text ends
-pub text_quote : (b : List ℕ) → text_at (34 ∷ b) ≡ Some ([], b)
+pub text_quote : (b : List ℕ) → read_text (34 ∷ b) ≡ Some ([], b)
 unfolding text_from
 text_quote b = refl
 
-abbrev pub with_escape : List ℕ → ℕ × ℕ → Read (List ℕ)
+abbrev pub with_escape : List ℕ → ℕ × ℕ → Reading (List ℕ)
 with_escape b e = with_front (encode_utf8 e.0) (text_from e.1 b)
 
 -- a backslash begins an escape
-pub text_backslash : (b : List ℕ) → text_at (92 ∷ b) ≡ option_and_then (λ e. with_escape b e) (escape_at b)
+pub text_backslash : (b : List ℕ) → read_text (92 ∷ b) ≡ option_and_then (λ e. with_escape b e) (escape_at b)
 unfolding text_from
 text_backslash b = refl
 
@@ -46,7 +46,7 @@ pub choose : {X : Type 0} (c : ℕ) (q e n p : X) → IsPlain c → (if c == 34 
 choose c q e n p h = grind (arith, nat_tests)
 
 -- a plain byte is a byte of the text
-pub text_plain : (c : ℕ) (b : List ℕ) → IsPlain c → text_at (c ∷ b) ≡ with_front (c ∷ []) (text_at b)
+pub text_plain : (c : ℕ) (b : List ℕ) → IsPlain c → read_text (c ∷ b) ≡ with_front (c ∷ []) (read_text b)
 unfolding text_from
 text_plain c b h = choose c _ _ _ _ h
 
@@ -54,29 +54,29 @@ pub refuse : {X : Type 0} (c : ℕ) (q e n p : X) → c < 32 → (if c == 34 the
 refuse c q e n p h = grind (arith, nat_tests)
 
 -- a control byte is refused
-pub text_control : (c : ℕ) (b : List ℕ) → c < 32 → text_at (c ∷ b) ≡ None
+pub text_control : (c : ℕ) (b : List ℕ) → c < 32 → read_text (c ∷ b) ≡ None
 unfolding text_from
 text_control c b h = refuse c _ _ _ _ h
 
 -- two fronts are one
-pub with_front_front : (a b : List ℕ) (o : Read (List ℕ)) → with_front a (with_front b o) ≡ with_front (a ++ b) o
+pub with_front_front : (a b : List ℕ) (o : Reading (List ℕ)) → with_front a (with_front b o) ≡ with_front (a ++ b) o
 with_front_front a b None = refl
 with_front_front a b (Some p) = ap (λ l. Some (l, p.1)) (sym (append_assoc a b p.0))
 
 -- an empty front changes nothing
-pub with_nothing : (o : Read (List ℕ)) → with_front [] o ≡ o
+pub with_nothing : (o : Reading (List ℕ)) → with_front [] o ≡ o
 with_nothing None = refl
 with_nothing (Some p) = refl
 
 -- what was read behind a front
-pub with_front_some : (f : List ℕ) (o : Read (List ℕ)) (s r : List ℕ) → with_front f o ≡ Some (s, r) → (t : List ℕ) × (o ≡ Some (t, r)) × (s ≡ f ++ t)
+pub with_front_some : (f : List ℕ) (o : Reading (List ℕ)) (s r : List ℕ) → with_front f o ≡ Some (s, r) → (t : List ℕ) × (o ≡ Some (t, r)) × (s ≡ f ++ t)
 with_front_some f None s r e = absurd (none-some (s, r) e)
 with_front_some f (Some p) s r e = let k = some_pair_parts (f ++ p.0) s p.1 r e in (p.0, ap (λ l. Some (p.0, l)) k.1, sym k.0)
 
 -- plain bytes are bytes of the text
-pub text_run : (p b : List ℕ) → AllByRecursion IsPlain p → text_at (p ++ b) ≡ with_front p (text_at b)
-text_run [] b h = sym (with_nothing (text_at b))
-text_run (c ∷ p) b h = text_plain c (p ++ b) h.0 ∙ (ap (λ o. with_front (c ∷ []) o) (text_run p b h.1) ∙ with_front_front (c ∷ []) p (text_at b))
+pub text_run : (p b : List ℕ) → AllByRecursion IsPlain p → read_text (p ++ b) ≡ with_front p (read_text b)
+text_run [] b h = sym (with_nothing (read_text b))
+text_run (c ∷ p) b h = text_plain c (p ++ b) h.0 ∙ (ap (λ o. with_front (c ∷ []) o) (text_run p b h.1) ∙ with_front_front (c ∷ []) p (read_text b))
 
 -- what a byte is to a text
 pub data Byte (c : ℕ) : Type 0 where
@@ -109,15 +109,15 @@ text_ends k [] s r e = absurd (none-some (s, r) (sym (text_nil k) ∙ e))
 text_ends (suc k) (c ∷ b) s r e = let q = text_ends k b s r (later k c b ∙ e) in (c ∷ q.0, ap (λ l. c ∷ l) q.1)
 text_ends zero (c ∷ b) s r e = by_byte c (byte_of c) b s r e (λ k s r e. text_ends k b s r e)
   where
-    by_byte : (c : ℕ) → Byte c → (b s r : List ℕ) → text_at (c ∷ b) ≡ Some (s, r) → ((k : ℕ) (s r : List ℕ) → text_from k b ≡ Some (s, r) → (inside : List ℕ) × (b ≡ inside ++ (34 ∷ r)))
+    by_byte : (c : ℕ) → Byte c → (b s r : List ℕ) → read_text (c ∷ b) ≡ Some (s, r) → ((k : ℕ) (s r : List ℕ) → text_from k b ≡ Some (s, r) → (inside : List ℕ) × (b ≡ inside ++ (34 ∷ r)))
         → (inside : List ℕ) × (c ∷ b ≡ inside ++ (34 ∷ r))
-    by_byte c (quote z) b s r e ih = let q = some_pair_parts [] s b r (sym (text_quote b) ∙ (ap (λ x. text_at (x ∷ b)) (sym z) ∙ e)) in ([], ap (λ x. x ∷ b) z ∙ ap (λ l. 34 ∷ l) q.1)
+    by_byte c (quote z) b s r e ih = let q = some_pair_parts [] s b r (sym (text_quote b) ∙ (ap (λ x. read_text (x ∷ b)) (sym z) ∙ e)) in ([], ap (λ x. x ∷ b) z ∙ ap (λ l. 34 ∷ l) q.1)
     by_byte c (backslash z) b s r e ih =
-        option_and_then_some (λ p. with_escape b p) (escape_at b) (s, r) (sym (text_backslash b) ∙ (ap (λ x. text_at (x ∷ b)) (sym z) ∙ e))
+        option_and_then_some (λ p. with_escape b p) (escape_at b) (s, r) (sym (text_backslash b) ∙ (ap (λ x. read_text (x ∷ b)) (sym z) ∙ e))
         (λ p e1 e2. let w = with_front_some (encode_utf8 p.0) (text_from p.1 b) s r e2 in let q = ih p.1 w.0 r w.1 in (c ∷ q.0, ap (λ l. c ∷ l) q.1))
     by_byte c (control z) b s r e ih = absurd (none-some (s, r) (sym (text_control c b z) ∙ e))
     by_byte c (plain z) b s r e ih =
-        let w = with_front_some (c ∷ []) (text_at b) s r (sym (text_plain c b z) ∙ e) in let q = ih 0 w.0 r w.1 in (c ∷ q.0, ap (λ l. c ∷ l) q.1)
+        let w = with_front_some (c ∷ []) (read_text b) s r (sym (text_plain c b z) ∙ e) in let q = ih 0 w.0 r w.1 in (c ∷ q.0, ap (λ l. c ∷ l) q.1)
 
 -- the bytes of a character that stands for itself
 pub high_plain : (b : ℕ) → 128 ≤ b → IsPlain b

@@ -2,19 +2,19 @@
 use Rattle.std.proofs.Common.{◌≡◌, ℕ, ◌≤◌, max, List, [], ◌++◌, Some, option_and_then, refl, sym, ap, ◌∙◌, subst, arith, append-nil, unwrap_or}
 use Rattle.sj_text_core.specs.Tree.{Tree, depth, IsProper}
 use Rattle.sj_text_core.specs.Grammar.{Spells}
-use Rattle.sj_text_core.specs.inner.Parse.{tree_at, value_at, after_blank, last}
+use Rattle.sj_text_core.specs.inner.Parse.{read_tree, read_value, after_blank, read_whole}
 use Rattle.sj_text_core.specs.Print.{compact, pretty, recarry}
 use Rattle.sj_text_core.proofs.Printed.{compact-spells, pretty-spells}
 use Rattle.sj_text_core.proofs.parse.Complete.{read_again, after_blank-append, solid_stays, spelling_solid, ends_blank}
 
 -- what is spelled in the limit is read
-pub complete : (d : ℕ) (b : List ℕ) (t : Tree) → Spells b t → depth t ≤ d → tree_at d b ≡ Some t
+pub complete : (d : ℕ) (b : List ℕ) (t : Tree) → Spells b t → depth t ≤ d → read_tree d b ≡ Some t
 complete d b t s h =
     let e : b ≡ s.before ++ (s.word ++ (s.after ++ [])) = s.is ∙ ap (λ l. s.before ++ (s.word ++ l)) (sym (append-nil s.after)) in
     let first : after_blank b ≡ s.word ++ (s.after ++ []) = ap (λ l. after_blank l) e ∙ (after_blank-append s.before (s.word ++ (s.after ++ [])) s.blank_before ∙ solid_stays s.word (s.after ++ []) (spelling_solid t s.word s.spelled)) in
-    ap (λ l. option_and_then (λ p. last p.0 (after_blank p.1)) (value_at d l)) first
-    ∙ (ap (λ o. option_and_then (λ p. last p.0 (after_blank p.1)) o) (read_again t d s.word (s.after ++ []) s.spelled h (ends_blank s.after [] s.blank_after (record { digits = refl; plain = refl })))
-    ∙ ap (λ l. last t l) (after_blank-append s.after [] s.blank_after))
+    ap (λ l. option_and_then (λ p. read_whole p.0 (after_blank p.1)) (read_value d l)) first
+    ∙ (ap (λ o. option_and_then (λ p. read_whole p.0 (after_blank p.1)) o) (read_again t d s.word (s.after ++ []) s.spelled h (ends_blank s.after [] s.blank_after (record { digits = refl; plain = refl })))
+    ∙ ap (λ l. read_whole t l) (after_blank-append s.after [] s.blank_after))
 
 some_same : (t u : Tree) → Some t ≡ Some u → t ≡ u
 some_same t u e = ap (λ o. unwrap_or o t) e

@@ -12,7 +12,7 @@ use Rattle.std.proofs.lemmas.List.{take-append-le, drop-append-le, get_or_append
 use Rattle.std.proofs.lemmas.Bool.{and_parts, lt-ltb}
 use Rattle.std.proofs.lemmas.Str.{encode_ascii, IsUtf8-drop, IsCharBoundary-after_ascii, length-encode}
 use Rattle.sj_text_core.specs.Grammar.{IsHexDigit, IsRaw, IsShort, IsCode, IsPair, IsItem, AreItems, IsString, short_escape}
-use Rattle.sj_text_core.specs.inner.Parse.{is_hex, unit_at, is_high, is_low, pair_with, pair_at, code_with, code_at, escape_at, with_front, text_from, text_at}
+use Rattle.sj_text_core.specs.inner.Parse.{is_hex, unit_at, is_high, is_low, pair_with, pair_at, code_with, code_at, escape_at, with_front, text_from, read_text}
 use Rattle.sj_text_core.proofs.parse.Escapes.{quote, backslash, control, plain, text_skip, text_quote, with_escape, text_backslash, text_control, with_front_some, text_run, Byte, byte_of, text_ends, encode_plain, escape_sound, false-true}
 
 -- what is spelled is read
@@ -40,18 +40,18 @@ unit_read u (w ∷ x ∷ y ∷ z ∷ []) r l h v =
 
 -- one item and what follows it
 abbrev Reads : ℕ → List ℕ → List ℕ → Type 0
-Reads c p r = text_at (p ++ r) ≡ with_front (encode_utf8 c) (text_at r)
+Reads c p r = read_text (p ++ r) ≡ with_front (encode_utf8 c) (read_text r)
 
 by_escape : (c n : ℕ) (q r : List ℕ) → escape_at (q ++ r) ≡ Some (c, n) → length q ≡ n → Reads c (92 ∷ q) r
 by_escape c n q r e l =
     text_backslash (q ++ r) ∙ (ap (λ o. option_and_then (λ e. with_escape (q ++ r) e) o) e
-    ∙ ap (λ o. with_front (encode_utf8 c) o) (text_skip n (q ++ r) ∙ ap (λ l. text_at l) (drop_at q r n l)))
+    ∙ ap (λ o. with_front (encode_utf8 c) o) (text_skip n (q ++ r) ∙ ap (λ l. read_text l) (drop_at q r n l)))
 
 raw_read : (c : ℕ) (p r : List ℕ) → IsRaw c p → Reads c p r
-raw_read c p r h = ap (λ l. text_at (l ++ r)) h.is ∙ text_run (encode_utf8 c) r (encode_plain c (h.printed, h.no_quote, h.no_backslash))
+raw_read c p r h = ap (λ l. read_text (l ++ r)) h.is ∙ text_run (encode_utf8 c) r (encode_plain c (h.printed, h.no_quote, h.no_backslash))
 
 short_read : (c : ℕ) (p r : List ℕ) → IsShort c p → Reads c p r
-short_read c p r h = ap (λ l. text_at (l ++ r)) h.is ∙ by_escape c 1 (h.second ∷ []) r (known h.second r (eqb_tells h.second 117) h.names) refl
+short_read c p r h = ap (λ l. read_text (l ++ r)) h.is ∙ by_escape c 1 (h.second ∷ []) r (known h.second r (eqb_tells h.second 117) h.names) refl
   where
     known : (x : ℕ) (r : List ℕ) → ((x == 117 ≡ true) × (x ≡ 117)) ⊎ ((x == 117 ≡ false) × (x ≢ 117)) → short_escape x ≡ Some c → escape_at (x ∷ r) ≡ Some (c, 1)
     known x r (inl k) e = absurd (none-some c (sym (ap (λ y. short_escape y) k.1) ∙ e))
@@ -80,7 +80,7 @@ no_low u h = ⊎_elim (λ k. below u k) (λ k. above u k.0) (scalar_cases u h)
 code_read : (c : ℕ) (p r : List ℕ) → IsCode c p → Reads c p r
 code_read c p r h =
     let ds = h.unit.digits in
-    ap (λ l. text_at (l ++ r)) h.unit.is
+    ap (λ l. read_text (l ++ r)) h.unit.is
     ∙ by_escape c 5 (117 ∷ ds) r
     (ap (λ o. option_and_then (λ u. code_with u (drop 4 (ds ++ r))) o) (unit_read c ds r h.unit.four h.unit.hex h.unit.value)
     ∙ (ap (λ t. cond t (pair_at c (drop 4 (ds ++ r))) (cond (is_low c) None (Some (c, 5)))) (no_high c h.scalar) ∙ ap (λ t. cond t None (Some (c, 5))) (no_low c h.scalar)))
@@ -97,7 +97,7 @@ pair_read c p r h =
     ap (λ o. option_and_then (λ low. pair_with h.high low) o) (unit_read h.low es r h.second_unit.four h.second_unit.hex h.second_unit.value)
     ∙ (ap (λ t. cond t (Some (surrogate_pair_char h.high h.low, 11)) None) (low_test h.low h.is_low) ∙ ap (λ d. Some (d, 11)) (sym h.writes)) in
     let all : h.first ++ h.second ≡ 92 ∷ 117 ∷ (ds ++ (92 ∷ 117 ∷ es)) = ap (λ l. l ++ h.second) h.first_unit.is ∙ ap (λ l. 92 ∷ 117 ∷ (ds ++ l)) h.second_unit.is in
-    ap (λ l. text_at (l ++ r)) (h.is ∙ all)
+    ap (λ l. read_text (l ++ r)) (h.is ∙ all)
     ∙ by_escape c 11 (117 ∷ (ds ++ (92 ∷ 117 ∷ es))) r
     (ap (λ l. code_at l) regroup
     ∙ (ap (λ o. option_and_then (λ u. code_with u (drop 4 (ds ++ tail))) o) (unit_read h.high ds tail h.first_unit.four h.first_unit.hex h.first_unit.value)
@@ -116,10 +116,10 @@ pub item_read : (c : ℕ) (p r : List ℕ) → IsItem c p → Reads c p r
 item_read c p r h = ⊎_elim (λ k. raw_read c p r k) (λ h. ⊎_elim (λ k. short_read c p r k) (λ h. ⊎_elim (λ k. code_read c p r k) (λ k. pair_read c p r k) h) h) h
 
 -- spelled characters are read
-pub items_read : (cs p r : List ℕ) → AreItems cs p → text_at (p ++ (34 ∷ r)) ≡ Some (encode_utf8_all cs, r)
-items_read [] p r h = ap (λ l. text_at (l ++ (34 ∷ r))) h ∙ text_quote r
+pub items_read : (cs p r : List ℕ) → AreItems cs p → read_text (p ++ (34 ∷ r)) ≡ Some (encode_utf8_all cs, r)
+items_read [] p r h = ap (λ l. read_text (l ++ (34 ∷ r))) h ∙ text_quote r
 items_read (c ∷ cs) p r h =
-    ap (λ l. text_at l) (ap (λ l. l ++ (34 ∷ r)) h.2 ∙ append_assoc h.0 h.1 (34 ∷ r))
+    ap (λ l. read_text l) (ap (λ l. l ++ (34 ∷ r)) h.2 ∙ append_assoc h.0 h.1 (34 ∷ r))
     ∙ (item_read c h.0 (h.1 ++ (34 ∷ r)) h.3 ∙ ap (λ o. with_front (encode_utf8 c) o) (items_read cs h.1 r h.4))
 
 -- what is read is spelled
@@ -127,7 +127,7 @@ abbrev pub Items : List ℕ → List ℕ → Type 0
 Items s p = (cs : List ℕ) × AreItems cs p × (s ≡ encode_utf8_all cs)
 
 abbrev Shorter : List ℕ → List ℕ → Type 0
-Shorter p r = (q t : List ℕ) → length q < length p → IsUtf8 q → text_at (q ++ (34 ∷ r)) ≡ Some (t, r) → Items t q
+Shorter p r = (q t : List ℕ) → length q < length p → IsUtf8 q → read_text (q ++ (34 ∷ r)) ≡ Some (t, r) → Items t q
 
 one_more : (c : ℕ) (p first rest s t : List ℕ) → p ≡ first ++ rest → IsItem c first → Items t rest → s ≡ encode_utf8 c ++ t → Items s p
 one_more c p first rest s t e h i z = (c ∷ i.0, (first, rest, e, h, i.1), z ∙ ap (λ l. encode_utf8 c ++ l) i.2)
@@ -142,13 +142,13 @@ utf8_behind q m some le a u = ap_drop (IsUtf8-drop q (m - 1 + 1) u (IsCharBounda
     ap_drop : IsUtf8 (drop (m - 1 + 1) q) → IsUtf8 (drop m q)
     ap_drop h = subst (λ (n : ℕ). IsUtf8 (drop n q)) (omega (arith, some)) h
 
-escaped : (q r s : List ℕ) → IsUtf8 q → text_at (92 ∷ (q ++ (34 ∷ r))) ≡ Some (s, r) → Shorter (92 ∷ q) r → Items s (92 ∷ q)
+escaped : (q r s : List ℕ) → IsUtf8 q → read_text (92 ∷ (q ++ (34 ∷ r))) ≡ Some (s, r) → Shorter (92 ∷ q) r → Items s (92 ∷ q)
 escaped q r s u e ih =
     let x = q ++ (34 ∷ r) in
     option_and_then_some (λ p. with_escape x p) (escape_at x) (s, r) (sym (text_backslash x) ∙ e) (λ p e1 e2.
     let k = escape_sound x p.0 p.1 e1 in
     let w = with_front_some (encode_utf8 p.0) (text_from p.1 x) s r e2 in
-    let there : text_at (drop p.1 x) ≡ Some (w.0, r) = sym (text_skip p.1 x) ∙ w.1 in
+    let there : read_text (drop p.1 x) ≡ Some (w.0, r) = sym (text_skip p.1 x) ∙ w.1 in
     let ends = text_ends 0 (drop p.1 x) w.0 r there in
     let fits : p.1 ≤ length q = omega (arith, ap (λ (l : List ℕ). length l) ends.1, length-append ends.0 (34 ∷ r), length-drop p.1 x, length-append q (34 ∷ r)) in
     let back : drop p.1 x ≡ drop p.1 q ++ (34 ∷ r) = drop-append-le p.1 q (34 ∷ r) fits in
@@ -156,40 +156,40 @@ escaped q r s u e ih =
     let byte : get_or x (p.1 - 1) 0 ≡ get_or q (p.1 - 1) 0 = get_or_append_left q (34 ∷ r) 0 (p.1 - 1) (omega (arith, k.some, fits)) in
     one_more p.0 (92 ∷ q) (92 ∷ take p.1 q) (drop p.1 q) s w.0 (ap (λ l. 92 ∷ l) (sym (take-append-drop p.1 q)))
     (subst (λ l. IsItem p.0 (92 ∷ l)) front k.item)
-    (ih (drop p.1 q) w.0 (omega (arith, length-drop p.1 q)) (utf8_behind q p.1 k.some fits (subst (λ (n : ℕ). n < 128) byte k.ascii) u) (ap (λ l. text_at l) (sym back) ∙ there))
+    (ih (drop p.1 q) w.0 (omega (arith, length-drop p.1 q)) (utf8_behind q p.1 k.some fits (subst (λ (n : ℕ). n < 128) byte k.ascii) u) (ap (λ l. read_text l) (sym back) ∙ there))
     w.2)
 
-by_char : (k : ℕ) → IsScalar k → Byte k → (q p r s : List ℕ) → p ≡ encode_utf8 k ++ q → IsUtf8 q → text_at (p ++ (34 ∷ r)) ≡ Some (s, r) → Shorter p r → Items s p
+by_char : (k : ℕ) → IsScalar k → Byte k → (q p r s : List ℕ) → p ≡ encode_utf8 k ++ q → IsUtf8 q → read_text (p ++ (34 ∷ r)) ≡ Some (s, r) → Shorter p r → Items s p
 by_char k sc (quote z) q p r s f u e ih =
     let one : p ≡ 34 ∷ q = f ∙ ap (λ l. l ++ q) (ap (λ c. encode_utf8 c) z ∙ encode_ascii 34 (omega arith)) in
-    let m = some_pair_parts [] s (q ++ (34 ∷ r)) r (sym (text_quote (q ++ (34 ∷ r))) ∙ (ap (λ l. text_at (l ++ (34 ∷ r))) (sym one) ∙ e)) in
+    let m = some_pair_parts [] s (q ++ (34 ∷ r)) r (sym (text_quote (q ++ (34 ∷ r))) ∙ (ap (λ l. read_text (l ++ (34 ∷ r))) (sym one) ∙ e)) in
     absurd (omega (arith, ap (λ (l : List ℕ). length l) m.1, length-append q (34 ∷ r)))
 by_char k sc (backslash z) q p r s f u e ih =
     let one : p ≡ 92 ∷ q = f ∙ ap (λ l. l ++ q) (ap (λ c. encode_utf8 c) z ∙ encode_ascii 92 (omega arith)) in
-    subst (λ l. Items s l) (sym one) (escaped q r s u (ap (λ l. text_at (l ++ (34 ∷ r))) (sym one) ∙ e) (subst (λ l. Shorter l r) one ih))
+    subst (λ l. Items s l) (sym one) (escaped q r s u (ap (λ l. read_text (l ++ (34 ∷ r))) (sym one) ∙ e) (subst (λ l. Shorter l r) one ih))
 by_char k sc (control z) q p r s f u e ih =
     let one : p ≡ k ∷ q = f ∙ ap (λ l. l ++ q) (encode_ascii k (omega (arith, z))) in
-    absurd (none-some (s, r) (sym (text_control k (q ++ (34 ∷ r)) z) ∙ (ap (λ l. text_at (l ++ (34 ∷ r))) (sym one) ∙ e)))
+    absurd (none-some (s, r) (sym (text_control k (q ++ (34 ∷ r)) z) ∙ (ap (λ l. read_text (l ++ (34 ∷ r))) (sym one) ∙ e)))
 by_char k sc (plain z) q p r s f u e ih =
-    let w = with_front_some (encode_utf8 k) (text_at (q ++ (34 ∷ r))) s r
-    (sym (ap (λ l. text_at l) (ap (λ l. l ++ (34 ∷ r)) f ∙ append_assoc (encode_utf8 k) q (34 ∷ r)) ∙ text_run (encode_utf8 k) (q ++ (34 ∷ r)) (encode_plain k z)) ∙ e) in
+    let w = with_front_some (encode_utf8 k) (read_text (q ++ (34 ∷ r))) s r
+    (sym (ap (λ l. read_text l) (ap (λ l. l ++ (34 ∷ r)) f ∙ append_assoc (encode_utf8 k) q (34 ∷ r)) ∙ text_run (encode_utf8 k) (q ++ (34 ∷ r)) (encode_plain k z)) ∙ e) in
     one_more k p (encode_utf8 k) q s w.0 f (inl (record { is = refl; scalar = sc; printed = z.0; no_quote = z.1; no_backslash = z.2 }))
     (ih q w.0 (omega (arith, ap (λ (l : List ℕ). length l) f, length-append (encode_utf8 k) q, encode_some k)) u w.1) w.2
 
-any_items : (p r s ks : List ℕ) → all_scalars ks ≡ true → encode_utf8_all ks ≡ p → text_at (p ++ (34 ∷ r)) ≡ Some (s, r) → Shorter p r → Items s p
+any_items : (p r s ks : List ℕ) → all_scalars ks ≡ true → encode_utf8_all ks ≡ p → read_text (p ++ (34 ∷ r)) ≡ Some (s, r) → Shorter p r → Items s p
 any_items p r s [] sc f e ih =
-    let m = some_pair_parts [] s r r (sym (text_quote r) ∙ (ap (λ l. text_at (l ++ (34 ∷ r))) f ∙ e)) in ([], sym f, sym m.0)
+    let m = some_pair_parts [] s r r (sym (text_quote r) ∙ (ap (λ l. read_text (l ++ (34 ∷ r))) f ∙ e)) in ([], sym f, sym m.0)
 any_items p r s (k ∷ ks) sc f e ih = let h = and_parts _ (all_scalars ks) sc in by_char k h.0 (byte_of k) (encode_utf8_all ks) p r s (sym f) (ks, (h.1, refl)) e ih
 
 -- what is read from UTF-8 is spelled by characters
-pub items_are : (n : ℕ) (p r s : List ℕ) → length p ≤ n → IsUtf8 p → text_at (p ++ (34 ∷ r)) ≡ Some (s, r) → Items s p
+pub items_are : (n : ℕ) (p r s : List ℕ) → length p ≤ n → IsUtf8 p → read_text (p ++ (34 ∷ r)) ≡ Some (s, r) → Items s p
 items_are zero p r s l u e = any_items p r s u.0 u.1.0 u.1.1 e (λ q t k v f. absurd (omega (arith, k, l)))
 items_are (suc n) p r s l u e = any_items p r s u.0 u.1.0 u.1.1 e (λ q t k v f. items_are n q r t (omega (arith, k, l)) v f)
 
 -- a string is what is read behind its quote
-pub string_is : (p r s : List ℕ) → IsUtf8 p → text_at (p ++ (34 ∷ r)) ≡ Some (s, r) → IsString (34 ∷ (p ++ 34 ∷ [])) s
+pub string_is : (p r s : List ℕ) → IsUtf8 p → read_text (p ++ (34 ∷ r)) ≡ Some (s, r) → IsString (34 ∷ (p ++ 34 ∷ [])) s
 string_is p r s u e = let k = items_are (length p) p r s (omega arith) u e in record { inside = p; chars = k.0; is = refl; items = k.1; text = k.2 }
 
 -- a spelled string is read
-pub string_read : (p s r : List ℕ) → (h : IsString p s) → text_at (h.inside ++ (34 ∷ r)) ≡ Some (s, r)
+pub string_read : (p s r : List ℕ) → (h : IsString p s) → read_text (h.inside ++ (34 ∷ r)) ≡ Some (s, r)
 string_read p s r h = items_read h.chars h.inside r h.items ∙ ap (λ l. Some (l, r)) (sym h.text)

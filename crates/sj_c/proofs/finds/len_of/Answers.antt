@@ -1,7 +1,7 @@
 use Rattle.std.proofs.Common.{sym, ap, ◌∙◌, map, string_bytes}
 use Rattle.sj_text_core.specs.Tree.{items_len, members_len, items_from}
 use Rattle.sj_object.specs.Members.{entry_members}
-use Rattle.sj_document.specs.Document.{tree}
+use Rattle.sj_document.specs.Document.{document_tree}
 use Rattle.sj_document.proofs.Trees.{tree-Object, tree-Array}
 use Rattle.sj_c.proofs.Lens.{items_count, members_count, items_told, members_told}
 use Rattle.sj_c.proofs.finds.len_of.Goals as goal
@@ -9,11 +9,11 @@ use Rattle.sj_c.proofs.finds.len_of.Goals as goal
 pub returns-in-Array-clause-items : goal.returns-in-Array-clause-items
 returns-in-Array-clause-items c =
     let v = c.deref.result.now in
-    items_told _ _ _ (ap (tree string_bytes) c.in-Array.is ∙ tree-Array string_bytes c.in-Array.items)
-    (c.len-in-Array.ensures ∙ v.ok.0 ∙ sym (items_count (tree string_bytes) v.items) ∙ ap (λ v. items_len (items_from (map (tree string_bytes) v.items))) c.deref.ensures)
+    items_told _ _ _ (ap (document_tree string_bytes) c.in-Array.is ∙ tree-Array string_bytes c.in-Array.items)
+    (c.len-in-Array.ensures ∙ v.ok.0 ∙ sym (items_count (document_tree string_bytes) v.items) ∙ ap (λ v. items_len (items_from (map (document_tree string_bytes) v.items))) c.deref.ensures)
 
 pub returns-in-Object-clause-members : goal.returns-in-Object-clause-members
 returns-in-Object-clause-members c =
     let m = c.deref-in-Object.result.now in
-    members_told _ _ _ (ap (tree string_bytes) c.in-Object.is ∙ tree-Object string_bytes c.in-Object.members)
-    (c.len-in-Object.ensures ∙ sym (members_count (tree string_bytes) m.entries) ∙ ap (λ m. members_len (entry_members (tree string_bytes) m.entries)) c.deref-in-Object.ensures)
+    members_told _ _ _ (ap (document_tree string_bytes) c.in-Object.is ∙ tree-Object string_bytes c.in-Object.members)
+    (c.len-in-Object.ensures ∙ sym (members_count (document_tree string_bytes) m.entries) ∙ ap (λ m. members_len (entry_members (document_tree string_bytes) m.entries)) c.deref-in-Object.ensures)

@@ -3,14 +3,14 @@ use Rattle.std.proofs.lemmas.Result.{on_ok_weaker}
 use Rattle.sj_text_core.specs.Print.{compact}
 use Rattle.sj_text_core.specs.Scalars.{static_tree}
 use Rattle.sj_canonical.specs.Canonical.{canonical_by}
-use Rattle.sj_canonical.specs.inner.Walks.{members_rest, pair_of, rest}
+use Rattle.sj_canonical.specs.inner.Walks.{members_rest, pair_of, canonical_rest}
 use Rattle.sj_canonical.specs.declared.walk.Ahead.TheVariants as ahead
 use Rattle.sj_canonical.proofs.Rests.{compact_some, canonical-static, list-rest, obj-rest, moves, opened}
 use Rattle.sj_canonical.proofs.walk.begin.Goals as goal
 
 pub returns-in-Static-clause-ok : goal.returns-in-Static-clause-ok
 returns-in-Static-clause-ok g c =
-    let left = rest c.args.choice g.P.Parts.items_left g.P.Parts.key_of g.P.Parts.tree_of c.args.pile.now.items in
+    let left = canonical_rest c.args.choice g.P.Parts.items_left g.P.Parts.key_of g.P.Parts.tree_of c.args.pile.now.items in
     on_ok_weaker c.write_static.result
     (λ e. moves _ _ (compact (static_tree c.in-Static.node)) _ left e (compact_some (static_tree c.in-Static.node))
     (ap (λ t. compact t ++ left) (sym (canonical-static c.args.choice c.in-Static.node) ∙ ap (canonical_by c.args.choice) c.in-Static.ensures)))

@@ -7,7 +7,7 @@ ghost use Rattle.sj_text_core.specs.Same.{Same};
 ghost use Rattle.sj_text_core.specs.Tree.{list, obj, items_from};
 ghost use Rattle.sj_object.specs.Edits.{lookup};
 ghost use Rattle.sj_object.specs.Members.{entry_members};
-ghost use Rattle.sj_document.specs.Document.{tree};
+ghost use Rattle.sj_document.specs.Document.{document_tree};
 
 use crate::value::{Document, Object};
 use sj_object::KeyText;
@@ -31,7 +31,7 @@ fn value_near<'m, T: KeyText>(
 #[cycle(same)]
 #[inline(always)]
 fn same_values<T: KeyText, U: KeyText>(left: &Document<T>, right: &Document<U>) -> bool
-    ensures { IsTrue result ↔ Same (tree T.text_of left.now) (tree U.text_of right.now) }
+    ensures { IsTrue result ↔ Same (document_tree T.text_of left.now) (document_tree U.text_of right.now) }
 {
     match left {
         Document::Static(scalar) => match right {
@@ -56,7 +56,7 @@ fn same_values<T: KeyText, U: KeyText>(left: &Document<T>, right: &Document<U>) 
 #[cycle(same)]
 #[inline(never)]
 fn same_items<T: KeyText, U: KeyText>(left: &Vec<Document<T>>, right: &Vec<Document<U>>) -> bool
-    ensures { IsTrue result ↔ Same (list (items_from (map (tree T.text_of) left.now.items))) (list (items_from (map (tree U.text_of) right.now.items))) }
+    ensures { IsTrue result ↔ Same (list (items_from (map (document_tree T.text_of) left.now.items))) (list (items_from (map (document_tree U.text_of) right.now.items))) }
 {
     let items = left.as_slice();
     let others = right.as_slice();
@@ -75,7 +75,7 @@ fn same_items<T: KeyText, U: KeyText>(left: &Vec<Document<T>>, right: &Vec<Docum
 #[cycle(same)]
 #[inline(never)]
 fn same_members<T: KeyText, U: KeyText>(left: &Object<T>, right: &Object<U>) -> bool
-    ensures { IsTrue result ↔ Same (obj (entry_members (tree T.text_of) left.now.entries)) (obj (entry_members (tree U.text_of) right.now.entries)) }
+    ensures { IsTrue result ↔ Same (obj (entry_members (document_tree T.text_of) left.now.entries)) (obj (entry_members (document_tree U.text_of) right.now.entries)) }
 {
     if left.len() != right.len() {
         return false;
@@ -96,7 +96,7 @@ fn same_members<T: KeyText, U: KeyText>(left: &Object<T>, right: &Object<U>) -> 
 
 /// Whether the two mean one document.
 pub fn same<T: KeyText, U: KeyText>(left: &Document<T>, right: &Document<U>) -> bool
-    ensures { IsTrue result ↔ Same (tree T.text_of left.now) (tree U.text_of right.now) }
+    ensures { IsTrue result ↔ Same (document_tree T.text_of left.now) (document_tree U.text_of right.now) }
 {
     same_values(left, right)
 }

@@ -2,8 +2,8 @@
 
 ghost use Rattle.std.specs.Prelude.{◌≡◌, ◌↔◌, IsTrue, MatchOption, option_map};
 ghost use Rattle.sj_object.specs.Edits.{lookup};
-ghost use Rattle.sj_document.specs.SameWith.{members_of};
-ghost use Rattle.sj_document.specs.SameWith.{items_of, SameEach, SameSlice, SameEntries, SameMap};
+ghost use Rattle.sj_document.specs.SameWith.{document_members};
+ghost use Rattle.sj_document.specs.SameWith.{document_items, SameEach, SameSlice, SameEntries, SameMap};
 
 use crate::value::{Document, Object};
 use sj_object::KeyText;
@@ -43,7 +43,7 @@ fn same_each<D, X: SameWith<D>>(items: &[D], others: &[X]) -> bool
 
 /// Same exactly where the document is an array of that length, item by item the same.
 impl<'x, T: KeyText, X: SameWith<Document<T>>> SameAs<&'x [X]> for Document<T> {
-    ghost same = { λ d xs. SameSlice X.same_with (items_of d) xs.now };
+    ghost same = { λ d xs. SameSlice X.same_with (document_items d) xs.now };
 
     fn same_as(&self, other: &&'x [X]) -> bool {
         match self {
@@ -87,7 +87,7 @@ fn has_same<T: KeyText, X: SameWith<Document<T>>>(members: &Object<T>, key: &str
 impl<T: KeyText, K: KeyText + Hash, X: SameWith<Document<T>>, S: BuildHasher> SameAs<
     HashMap<K, X, S>,
 > for Document<T> {
-    ghost same = { λ d m. SameMap X.same_with K.text_of (members_of d) m.entries };
+    ghost same = { λ d m. SameMap X.same_with K.text_of (document_members d) m.entries };
 
     fn same_as(&self, other: &HashMap<K, X, S>) -> bool {
         match self {

@@ -2,16 +2,16 @@
 //! taken.
 
 ghost use Rattle.std.specs.Prelude.{◌≡◌, ◌↔◌, IsTrue, map, take};
-ghost use Rattle.sj_text_core.specs.Agree.{texts};
+ghost use Rattle.sj_text_core.specs.Agree.{pair_keys};
 ghost use Rattle.sj_text_core.specs.inner.Agree.{Agree, HasTexts};
 ghost use Rattle.sj_text_core.specs.Repeats.{SameBy};
 ghost use Rattle.sj_text_core.specs.Same.{Same};
 ghost use Rattle.sj_text_core.specs.Tree.{list, obj, items_from, paired};
 ghost use Rattle.sj_tape.specs.Items.{items, array_choice};
 ghost use Rattle.sj_tape.specs.Members.{members, object_choice};
-ghost use Rattle.sj_tape.specs.Value.{tree as tape_tree, choice};
+ghost use Rattle.sj_tape.specs.Value.{tape_tree, tape_choice};
 ghost use Rattle.sj_object.specs.Members.{entry_members};
-ghost use Rattle.sj_document.specs.Document.{tree};
+ghost use Rattle.sj_document.specs.Document.{document_tree};
 
 use crate::value::{Document, Object};
 use sj_object::KeyText;
@@ -21,7 +21,7 @@ use sj_text_core::{Repeats, are_same_texts};
 /// Whether the part of a tape and the document are the same; of each key the member counts that
 /// the part says.
 pub(crate) fn same_as_tape<T: KeyText>(left: Value, right: &Document<T>) -> bool
-    ensures { IsTrue result ↔ SameBy (choice left.entry) Repeats.First (tape_tree left.entry) (tree T.text_of right.now) }
+    ensures { IsTrue result ↔ SameBy (tape_choice left.entry) Repeats.First (tape_tree left.entry) (document_tree T.text_of right.now) }
 {
     match left.repeats() {
         Repeats::First => first_as_tape(left, right),
@@ -32,7 +32,7 @@ pub(crate) fn same_as_tape<T: KeyText>(left: Value, right: &Document<T>) -> bool
 /// Whether the two are the same by the first member of each key.
 #[cycle(same)]
 fn first_as_tape<T: KeyText>(left: Value, right: &Document<T>) -> bool
-    ensures { IsTrue result ↔ Same (tape_tree left.entry) (tree T.text_of right.now) }
+    ensures { IsTrue result ↔ Same (tape_tree left.entry) (document_tree T.text_of right.now) }
 {
     match right {
         Document::Static(other) => match left.as_static() {
@@ -56,7 +56,7 @@ fn first_as_tape<T: KeyText>(left: Value, right: &Document<T>) -> bool
 
 #[cycle(same)]
 fn same_items<T: KeyText>(left: Array, right: &Vec<Document<T>>) -> bool
-    ensures { IsTrue result ↔ Same (list (items left.entry)) (list (items_from (map (tree T.text_of) right.now.items))) }
+    ensures { IsTrue result ↔ Same (list (items left.entry)) (list (items_from (map (document_tree T.text_of) right.now.items))) }
 {
     let others = right.as_slice();
     if left.len() != others.len() {
@@ -80,7 +80,7 @@ fn same_items<T: KeyText>(left: Array, right: &Vec<Document<T>>) -> bool
 /// are looked up.
 #[cycle(same)]
 fn same_members<T: KeyText>(left: object::Object, right: &Object<T>) -> bool
-    ensures { IsTrue result ↔ Same (obj (members left.entry)) (obj (entry_members (tree T.text_of) right.now.entries)) }
+    ensures { IsTrue result ↔ Same (obj (members left.entry)) (obj (entry_members (document_tree T.text_of) right.now.entries)) }
 {
     let mut others = right.iter();
     let mut place = 0;
@@ -104,9 +104,9 @@ fn same_members<T: KeyText>(left: object::Object, right: &Object<T>) -> bool
 /// The same, where the first `place` members have the same keys in both, and agree.
 #[cycle(same)]
 fn same_rest<T: KeyText>(left: object::Object, right: &Object<T>, place: usize) -> bool
-    requires in_step { texts (take place (paired (members left))) ≡ texts (take place (paired (entry_members (tree T.text_of) right.now.entries))) }
-    requires agree { Agree place (paired (members left)) (paired (entry_members (tree T.text_of) right.now.entries)) }
-    ensures { IsTrue result ↔ Same (obj (members left.entry)) (obj (entry_members (tree T.text_of) right.now.entries)) }
+    requires in_step { pair_keys (take place (paired (members left))) ≡ pair_keys (take place (paired (entry_members (document_tree T.text_of) right.now.entries))) }
+    requires agree { Agree place (paired (members left)) (paired (entry_members (document_tree T.text_of) right.now.entries)) }
+    ensures { IsTrue result ↔ Same (obj (members left.entry)) (obj (entry_members (document_tree T.text_of) right.now.entries)) }
 {
     let mut at = 0;
     for (key, value) in left.iter() {
@@ -128,8 +128,8 @@ fn same_rest<T: KeyText>(left: object::Object, right: &Object<T>, place: usize) 
 /// Whether the object of a tape has every key of the map, where it has those of the first `place`
 /// members.
 fn has_keys<T: KeyText>(left: object::Object, right: &Object<T>, place: usize) -> bool
-    requires { texts (take place (paired (members left))) ≡ texts (take place (paired (entry_members (tree T.text_of) right.now.entries))) }
-    ensures { IsTrue result ↔ HasTexts (paired (members left.entry)) (paired (entry_members (tree T.text_of) right.now.entries)) }
+    requires { pair_keys (take place (paired (members left))) ≡ pair_keys (take place (paired (entry_members (document_tree T.text_of) right.now.entries))) }
+    ensures { IsTrue result ↔ HasTexts (paired (members left.entry)) (paired (entry_members (document_tree T.text_of) right.now.entries)) }
 {
     let mut known = place;
     for (key, _) in right.iter() {
@@ -145,8 +145,8 @@ fn has_keys<T: KeyText>(left: object::Object, right: &Object<T>, place: usize) -
 /// Whether the two are the same, where the last member of each key counts in the part.
 #[cycle(last)]
 fn last_as_tape<T: KeyText>(left: Value, right: &Document<T>) -> bool
-    requires { choice left ≡ Repeats.Last }
-    ensures { IsTrue result ↔ SameBy Repeats.Last Repeats.First (tape_tree left.entry) (tree T.text_of right.now) }
+    requires { tape_choice left ≡ Repeats.Last }
+    ensures { IsTrue result ↔ SameBy Repeats.Last Repeats.First (tape_tree left.entry) (document_tree T.text_of right.now) }
 {
     match right {
         Document::Static(other) => match left.as_static() {
@@ -171,7 +171,7 @@ fn last_as_tape<T: KeyText>(left: Value, right: &Document<T>) -> bool
 #[cycle(last)]
 fn last_items<T: KeyText>(left: Array, right: &Vec<Document<T>>) -> bool
     requires { array_choice left ≡ Repeats.Last }
-    ensures { IsTrue result ↔ SameBy Repeats.Last Repeats.First (list (items left.entry)) (list (items_from (map (tree T.text_of) right.now.items))) }
+    ensures { IsTrue result ↔ SameBy Repeats.Last Repeats.First (list (items left.entry)) (list (items_from (map (document_tree T.text_of) right.now.items))) }
 {
     let others = right.as_slice();
     if left.len() != others.len() {
@@ -195,7 +195,7 @@ fn last_items<T: KeyText>(left: Array, right: &Vec<Document<T>>) -> bool
 #[cycle(last)]
 fn last_objects<T: KeyText>(left: object::Object, right: &Object<T>) -> bool
     requires { object_choice left ≡ Repeats.Last }
-    ensures { IsTrue result ↔ SameBy Repeats.Last Repeats.First (obj (members left.entry)) (obj (entry_members (tree T.text_of) right.now.entries)) }
+    ensures { IsTrue result ↔ SameBy Repeats.Last Repeats.First (obj (members left.entry)) (obj (entry_members (document_tree T.text_of) right.now.entries)) }
 {
     if has_same_keys(left, right) {
         last_in_step(left, right)
@@ -206,7 +206,7 @@ fn last_objects<T: KeyText>(left: object::Object, right: &Object<T>) -> bool
 
 /// Whether the two have the same keys in one order.
 fn has_same_keys<T: KeyText>(left: object::Object, right: &Object<T>) -> bool
-    ensures { IsTrue result ↔ texts (paired (members left.entry)) ≡ texts (paired (entry_members (tree T.text_of) right.now.entries)) }
+    ensures { IsTrue result ↔ pair_keys (paired (members left.entry)) ≡ pair_keys (paired (entry_members (document_tree T.text_of) right.now.entries)) }
 {
     let mut others = right.iter();
     for key in left.keys() {
@@ -222,8 +222,8 @@ fn has_same_keys<T: KeyText>(left: object::Object, right: &Object<T>) -> bool
 #[cycle(last)]
 fn last_in_step<T: KeyText>(left: object::Object, right: &Object<T>) -> bool
     requires choice { object_choice left ≡ Repeats.Last }
-    requires keys { texts (paired (members left)) ≡ texts (paired (entry_members (tree T.text_of) right.now.entries)) }
-    ensures { IsTrue result ↔ SameBy Repeats.Last Repeats.First (obj (members left.entry)) (obj (entry_members (tree T.text_of) right.now.entries)) }
+    requires keys { pair_keys (paired (members left)) ≡ pair_keys (paired (entry_members (document_tree T.text_of) right.now.entries)) }
+    ensures { IsTrue result ↔ SameBy Repeats.Last Repeats.First (obj (members left.entry)) (obj (entry_members (document_tree T.text_of) right.now.entries)) }
 {
     let mut others = right.iter();
     for (_, value) in left.iter() {
@@ -243,7 +243,7 @@ fn last_in_step<T: KeyText>(left: object::Object, right: &Object<T>) -> bool
 #[cycle(last)]
 fn last_members<T: KeyText>(left: object::Object, right: &Object<T>) -> bool
     requires { object_choice left ≡ Repeats.Last }
-    ensures { IsTrue result ↔ SameBy Repeats.Last Repeats.First (obj (members left.entry)) (obj (entry_members (tree T.text_of) right.now.entries)) }
+    ensures { IsTrue result ↔ SameBy Repeats.Last Repeats.First (obj (members left.entry)) (obj (entry_members (document_tree T.text_of) right.now.entries)) }
 {
     let mut seen = 0;
     for (key, value) in left.iter() {

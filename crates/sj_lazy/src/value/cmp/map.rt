@@ -2,12 +2,12 @@
 //! compared.
 
 ghost use Rattle.std.specs.Prelude.{◌≡◌, ◌↔◌, ℕ, List, IsTrue, MatchOption, is_some, map};
-ghost use Rattle.sj_lazy.specs.Object.{members as members_of, object_choice};
-ghost use Rattle.sj_lazy.specs.SameMap.{SameEntries, SameMap, counted};
+ghost use Rattle.sj_lazy.specs.Object.{lazy_members, lazy_object_choice};
+ghost use Rattle.sj_lazy.specs.SameMap.{SameTexts, SameAsMap, counted};
 ghost use Rattle.sj_lazy.specs.inner.SameMap.{EachFound};
 ghost use Rattle.sj_lazy.specs.inner.SameMap.{HasKeys};
-ghost use Rattle.sj_lazy.specs.Value.{tree, choice};
-ghost use Rattle.sj_document.specs.SameWith.{value_at};
+ghost use Rattle.sj_lazy.specs.Value.{value_tree, value_choice};
+ghost use Rattle.sj_document.specs.SameWith.{value_of_text};
 ghost use Rattle.sj_tape.specs.Members.{members as tape_members};
 ghost use Rattle.sj_text_core.specs.Reads.{as_members};
 ghost use Rattle.sj_text_core.specs.Tree.{Tree, paired};
@@ -24,7 +24,7 @@ use std::hash::{BuildHasher, Hash};
 /// Same exactly where the value is an object with the same keys as the map, and each has the same.
 impl<'b, 't, 'i, K: KeyText + Hash, X: SameAsLazy, S: BuildHasher> SameAs<HashMap<K, X, S>>
     for Value<'b, 't, 'i> {
-    ghost same = { λ v m. SameMap X.same_lazy K.text_of (choice v) (as_members (tree v)) m.entries };
+    ghost same = { λ v m. SameAsMap X.same_lazy K.text_of (value_choice v) (as_members (value_tree v)) m.entries };
 
     fn same_as(&self, other: &HashMap<K, X, S>) -> bool {
         match self.as_object() {
@@ -40,7 +40,7 @@ fn same_entries<K: KeyText + Hash, X: SameAsLazy, S: BuildHasher>(
     object: &Object,
     entries: &HashMap<K, X, S>,
 ) -> bool
-    ensures { IsTrue result ↔ SameEntries (λ u x. X.same_lazy (object_choice object.now, u) x) K.text_of (counted (object_choice object.now) (members_of object.now)) entries.now.entries }
+    ensures { IsTrue result ↔ SameTexts (λ u x. X.same_lazy (lazy_object_choice object.now, u) x) K.text_of (counted (lazy_object_choice object.now) (lazy_members object.now)) entries.now.entries }
 {
     if object.len() < entries.len() {
         return false;
@@ -53,7 +53,7 @@ fn each_found<K: KeyText + Hash, X: SameAsLazy, S: BuildHasher>(
     object: &Object,
     entries: &HashMap<K, X, S>,
 ) -> bool
-    ensures { IsTrue result ↔ EachFound (λ u x. X.same_lazy (object_choice object.now, u) x) K.text_of (counted (object_choice object.now) (members_of object.now)) entries.now.entries }
+    ensures { IsTrue result ↔ EachFound (λ u x. X.same_lazy (lazy_object_choice object.now, u) x) K.text_of (counted (lazy_object_choice object.now) (lazy_members object.now)) entries.now.entries }
 {
     for (key, value) in entries.iter() {
         if !has_same(object, key.text(), value) {
@@ -65,7 +65,7 @@ fn each_found<K: KeyText + Hash, X: SameAsLazy, S: BuildHasher>(
 
 /// Whether the object has the value at that key.
 fn has_same<X: SameAsLazy>(object: &Object, key: &str, value: &X) -> bool
-    ensures { IsTrue result ↔ MatchOption (counted (object_choice object.now) (members_of object.now) key.now) ⊥ (λ u. X.same_lazy (object_choice object.now, u) value.now) }
+    ensures { IsTrue result ↔ MatchOption (counted (lazy_object_choice object.now) (lazy_members object.now) key.now) ⊥ (λ u. X.same_lazy (lazy_object_choice object.now, u) value.now) }
 {
     match object.get(key) {
         Some(member) => value.same_as_lazy(&member),
@@ -79,8 +79,8 @@ fn has_keys<K: KeyText + Hash, X: SameAsLazy, S: BuildHasher>(
     object: &Object,
     entries: &HashMap<K, X, S>,
 ) -> bool
-    requires { EachFound (λ u x. X.same_lazy (object_choice object.now, u) x) K.text_of (counted (object_choice object.now) (members_of object.now)) entries.now.entries }
-    ensures { IsTrue result ↔ HasKeys K.text_of (map (λ (p : List ℕ × Tree). p.0) (paired (members_of object.now))) entries.now.entries }
+    requires { EachFound (λ u x. X.same_lazy (lazy_object_choice object.now, u) x) K.text_of (counted (lazy_object_choice object.now) (lazy_members object.now)) entries.now.entries }
+    ensures { IsTrue result ↔ HasKeys K.text_of (map (λ (p : List ℕ × Tree). p.0) (paired (lazy_members object.now))) entries.now.entries }
 {
     match object {
         Object::Tape(part) => tape_has_keys(part, entries),
@@ -105,7 +105,7 @@ fn tape_has_keys<K: KeyText + Hash, X, S: BuildHasher>(
 
 /// Whether a key of the map has the text.
 fn has_key<K: KeyText + Hash, X, S: BuildHasher>(entries: &HashMap<K, X, S>, text: &str) -> bool
-    ensures { result ≡ is_some (value_at K.text_of text.now entries.now.entries) }
+    ensures { result ≡ is_some (value_of_text K.text_of text.now entries.now.entries) }
 {
     for (key, _) in entries.iter() {
         if key.text() == text {

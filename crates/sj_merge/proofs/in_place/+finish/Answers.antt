@@ -5,7 +5,7 @@ use Rattle.sj_text_core.specs.Find.{find_member}
 use Rattle.sj_text_core.specs.Edits as members
 use Rattle.sj_object.specs.Members.{entry_members}
 use Rattle.sj_object.proofs.Shown.{lookup-entry_members, entry_members-set_value, entry_members-cut}
-use Rattle.sj_document.specs.Document.{tree}
+use Rattle.sj_document.specs.Document.{document_tree}
 use Rattle.sj_document.specs.declared.value.Document.{Object, the_lemmas}
 use Rattle.sj_document.proofs.Trees.{Map, tree-Object}
 use Rattle.sj_merge.specs.inner.Log.{in_object, finished_one, finished}
@@ -21,7 +21,7 @@ finish-finish_one-requires g r c κs within =
 pub finish-loop-logged-preserved : goal.finish-loop-logged-preserved
 finish-loop-logged-preserved g r c =
     let t = g.T.KeyText.text_of in
-    let ms = entry_members (tree t) c.loop-logged.into.entries in
+    let ms = entry_members (document_tree t) c.loop-logged.into.entries in
     let ahead : into_iter_items c.loop-logged.logged-iterator ≡ c.in-Some.logged ∷ into_iter_items c.next.new.self = c.in-Some.ensures.steps.0 in
     record {
       done = ap (finished t (into_iter_items c.next.new.self)) c.finish_one.ensures ∙ ap (λ l. finished t l ms) (sym ahead) ∙ c.loop-logged.invariant.done;
@@ -32,8 +32,8 @@ pub finish_one-returns-in-Goes : goal.finish_one-returns-in-Goes
 finish_one-returns-in-Goes g r c =
     let t = g.T.KeyText.text_of in
     let es = c.args.into.now.entries in
-    let ms = entry_members (tree t) es in
-    ap (entry_members (tree t)) c.remove.ensures.entries ∙ entry_members-cut (tree t) c.text.result.now es ∙ ap (λ k. members.cut k ms) c.text.ensures
+    let ms = entry_members (document_tree t) es in
+    ap (entry_members (document_tree t)) c.remove.ensures.entries ∙ entry_members-cut (document_tree t) c.text.result.now es ∙ ap (λ k. members.cut k ms) c.text.ensures
     ∙ sym (finished-Goes t c.in-Goes.key ms) ∙ ap (λ x. finished_one t x ms) (sym c.in-Goes.is)
 
 pub finish_one-finish_within-requires : goal.finish_one-finish_within-requires
@@ -43,24 +43,24 @@ pub finish_one-returns-in-Some : goal.finish_one-returns-in-Some
 finish_one-returns-in-Some g r c =
     let t = g.T.KeyText.text_of in
     let es = c.args.into.now.entries in
-    let ms = entry_members (tree t) es in
+    let ms = entry_members (document_tree t) es in
     let k = c.text-in-Within.result.now in
     let key = c.in-Within.key in
     let log = c.in-Within.log in
     let old = c.in-Some.child.now in
-    let found : Some (tree t old) ≡ find_member (t key) ms = ap (option_map (tree t)) c.in-Some.ensures.value ∙ lookup-entry_members (tree t) k es ∙ ap (λ k. find_member k ms) c.text-in-Within.ensures in
-    entry_members-set_value (tree t) k c.finish_within.new.value old es (sym c.in-Some.ensures.value) ∙ (λ j. members.put (c.text-in-Within.ensures j) (c.finish_within.ensures j) ms)
-    ∙ sym (changed-found (t key) (in_object (finished t log.items)) (tree t old) ms (sym found)) ∙ sym (finished-Within t key log ms) ∙ ap (λ x. finished_one t x ms) (sym c.in-Within.is)
+    let found : Some (document_tree t old) ≡ find_member (t key) ms = ap (option_map (document_tree t)) c.in-Some.ensures.value ∙ lookup-entry_members (document_tree t) k es ∙ ap (λ k. find_member k ms) c.text-in-Within.ensures in
+    entry_members-set_value (document_tree t) k c.finish_within.new.value old es (sym c.in-Some.ensures.value) ∙ (λ j. members.put (c.text-in-Within.ensures j) (c.finish_within.ensures j) ms)
+    ∙ sym (changed-found (t key) (in_object (finished t log.items)) (document_tree t old) ms (sym found)) ∙ sym (finished-Within t key log ms) ∙ ap (λ x. finished_one t x ms) (sym c.in-Within.is)
 
 pub finish_one-returns : goal.finish_one-returns
 finish_one-returns g r c =
     let t = g.T.KeyText.text_of in
     let es = c.args.into.now.entries in
-    let ms = entry_members (tree t) es in
+    let ms = entry_members (document_tree t) es in
     let k = c.text-in-Within.result.now in
     let key = c.in-Within.key in
     let log = c.in-Within.log in
-    let none : None ≡ find_member (t key) ms = ap (option_map (tree t)) c.in_default.ensures.value ∙ lookup-entry_members (tree t) k es ∙ ap (λ k. find_member k ms) c.text-in-Within.ensures in
+    let none : None ≡ find_member (t key) ms = ap (option_map (document_tree t)) c.in_default.ensures.value ∙ lookup-entry_members (document_tree t) k es ∙ ap (λ k. find_member k ms) c.text-in-Within.ensures in
     sym (changed-absent (t key) (in_object (finished t log.items)) ms (sym none)) ∙ sym (finished-Within t key log ms) ∙ ap (λ x. finished_one t x ms) (sym c.in-Within.is)
 
 pub finish_within-returns-in-Object : goal.finish_within-returns-in-Object
@@ -69,6 +69,6 @@ finish_within-returns-in-Object g r c =
     let m = c.deref_mut.result.now in
     let n = c.finish.new.into in
     let b : Box (Map g.row.T.Denot) Global = record c.in-Object.into { value = n } in
-    let same : tree t c.args.value.now ≡ obj (entry_members (tree t) m.entries) =
-    (ap (tree t) c.in-Object.is ∙ tree-Object t c.in-Object.into) ∙ sym (ap (λ n. obj (entry_members (tree t) n.entries)) (c.deref_mut.ensures.value ∙ ap (λ b. b.value) c.in-Object.into-is)) in
-    (ap (tree t) (let e : _ ≡ Object b = search (rules, the_lemmas) in e) ∙ tree-Object t b) ∙ ap obj c.finish.ensures ∙ ap (in_object (finished t c.args.log.items)) (sym same)
+    let same : document_tree t c.args.value.now ≡ obj (entry_members (document_tree t) m.entries) =
+    (ap (document_tree t) c.in-Object.is ∙ tree-Object t c.in-Object.into) ∙ sym (ap (λ n. obj (entry_members (document_tree t) n.entries)) (c.deref_mut.ensures.value ∙ ap (λ b. b.value) c.in-Object.into-is)) in
+    (ap (document_tree t) (let e : _ ≡ Object b = search (rules, the_lemmas) in e) ∙ tree-Object t b) ∙ ap obj c.finish.ensures ∙ ap (in_object (finished t c.args.log.items)) (sym same)

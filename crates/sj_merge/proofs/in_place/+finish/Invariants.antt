@@ -1,7 +1,7 @@
 use Rattle.std.proofs.Common.{◌≡◌, ◌≤◌, ◌+◌, ◌*◌}
 use Rattle.std.specs.Vec.Iter.{into_iter_items}
 use Rattle.sj_object.specs.Members.{entry_members}
-use Rattle.sj_document.specs.Document.{tree}
+use Rattle.sj_document.specs.Document.{document_tree}
 use Rattle.sj_merge.specs.inner.Log.{finished}
 use Rattle.sj_merge.proofs.Logs.{depth_of, log_depth}
 use Rattle.sj_merge.proofs.in_place.+finish.Given as goal
@@ -11,7 +11,7 @@ invariant-finish-loop-logged g l =
     let t = g.T.KeyText.text_of in
     let rest = into_iter_items l.logged-iterator in
     record {
-      done : finished t rest (entry_members (tree t) l.into.entries) ≡ finished t l.fn.log.items (entry_members (tree t) l.fn.into.entries);
+      done : finished t rest (entry_members (document_tree t) l.into.entries) ≡ finished t l.fn.log.items (entry_members (document_tree t) l.fn.into.entries);
       within : log_depth rest ≤ log_depth l.fn.log.items;
     }
 

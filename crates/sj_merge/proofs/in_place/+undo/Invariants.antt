@@ -1,7 +1,7 @@
 use Rattle.std.proofs.Common.{◌≡◌, ◌≤◌, ◌+◌, ◌*◌, length}
 use Rattle.sj_object.specs.Members.{entry_members}
-use Rattle.sj_document.specs.Document.{tree}
-use Rattle.sj_merge.specs.inner.Log.{undone}
+use Rattle.sj_document.specs.Document.{document_tree}
+use Rattle.sj_merge.specs.inner.Log.{log_undone}
 use Rattle.sj_merge.proofs.Logs.{depth_of, log_depth}
 use Rattle.sj_merge.proofs.in_place.+undo.Given as goal
 
@@ -9,7 +9,7 @@ abbrev pub invariant-undo-loop-last : goal.invariant-undo-loop-last
 invariant-undo-loop-last g l =
     let t = g.T.KeyText.text_of in
     record {
-      done : undone t l.left.items (entry_members (tree t) l.into.entries) ≡ undone t l.fn.log.items (entry_members (tree t) l.fn.into.entries);
+      done : log_undone t l.left.items (entry_members (document_tree t) l.into.entries) ≡ log_undone t l.fn.log.items (entry_members (document_tree t) l.fn.into.entries);
       within : log_depth l.left.items ≤ log_depth l.fn.log.items;
     }
 

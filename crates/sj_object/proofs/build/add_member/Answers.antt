@@ -2,7 +2,7 @@ use Rattle.std.proofs.Common.{◌≡◌, false, sym, ap, ◌∙◌, arith}
 use Rattle.sj_text_core.specs.Keep.{is_seen}
 use Rattle.sj_tape.specs.Stretches.{nodes_in}
 use Rattle.sj_tape.proofs.Stretched.{few}
-use Rattle.sj_object.specs.Entries.{texts}
+use Rattle.sj_object.specs.Entries.{entry_texts}
 use Rattle.sj_object.specs.inner.Piles.{first_mark, made_of, pile}
 use Rattle.sj_object.proofs.PileEntries.{add_none, add_one}
 use Rattle.sj_object.proofs.Piles.{whole_at}
@@ -29,6 +29,6 @@ returns-clause-means g c =
     let ns = nodes_in c.args.nodes in
     let ps = pile tree c.args.made.now.items in
     let w = whole_at ns 0 _ ps c.at-node-2.ensures c.requires in
-    let absent : is_seen c.args.text.now (texts es) ≡ false = sym c.has_hashed.ensures ∙ c.if-has_hashed.false in
+    let absent : is_seen c.args.text.now (entry_texts es) ≡ false = sym c.has_hashed.ensures ∙ c.if-has_hashed.false in
     add_one tree c.args.text.now (made_of (first_mark ns) ps) es (g.V.Map.MapOf.entries c.add_hashed.new.self) c.in_ok-key.key _ c.in_ok-value.value absent c.in_ok-add_hashed.ensures c.in_ok-key.ensures.text
     (c.in_ok-value.ensures.means ∙ ap (λ m. made_of m ps) (sym w.first))

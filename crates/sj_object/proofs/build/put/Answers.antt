@@ -2,7 +2,7 @@ use Rattle.std.proofs.Common.{◌∷◌, [], arith, refl, sym, ap, ◌∙◌, su
 use Rattle.sj_text_core.specs.Tree.{list, obj, items_from, members_from}
 use Rattle.sj_tape.specs.Marks.{mark}
 use Rattle.sj_tape.specs.Stretches.{nodes_in}
-use Rattle.sj_object.specs.inner.Piles.{pile, taken, left, taken_pairs, left_pairs, kept_by, grown, Needs, CanTakeItems, CanTakePairs}
+use Rattle.sj_object.specs.inner.Piles.{pile, taken, trees_left, taken_pairs, left_pairs, kept_by, grown, Needs, CanTakeItems, CanTakePairs}
 use Rattle.sj_object.proofs.Piles.{array_on, object_on, begins_with, some_node}
 use Rattle.sj_object.proofs.build.put.Goals as goal
 
@@ -37,7 +37,7 @@ returns-in_ok-push-in-Array-clause-means g c =
     let ps = pile tree c.args.made.now.items in
     let whole = begins_with ns _ (some_node ns ps c.requires) (sym (ap (λ n. mark n) c.in-Array.is) ∙ c.at.ensures) in
     array_on tree c.take_items.new.made.items c.push.new.self.items c.in_ok-from_vec-in-Array.field-0 c.in_ok-items-in-Array.items.items _ _ c.in_ok-items-in-Array.ensures.means c.in_ok-items-in-Array.ensures.rest c.in_ok-from_vec-in-Array.ensures.means c.in_ok-push-in-Array.ensures.items
-    ∙ (λ i. list (items_from (taken c.in-Array.len (c.from.ensures i) ps)) ∷ left c.in-Array.len (c.from.ensures i) ps)
+    ∙ (λ i. list (items_from (taken c.in-Array.len (c.from.ensures i) ps)) ∷ trees_left c.in-Array.len (c.from.ensures i) ps)
     ∙ sym (ap (λ l. grown c.args.repeats l ps) whole)
 
 pub returns-in_ok-push-in-Object-clause-means : goal.returns-in_ok-push-in-Object-clause-means

@@ -2,7 +2,7 @@ use Rattle.std.proofs.Common.{rules, ◌≡◌, ◌+◌, ◌-◌, suc, [], ◌++
 use Rattle.std.proofs.lemmas.List.Elements.{All-nil, All-push}
 use Rattle.sj_tape.specs.Stretches.{nodes_in}
 use Rattle.sj_tape.proofs.Stretched.{few}
-use Rattle.sj_object.specs.inner.Piles.{pile, taken, left, CanTakeItems}
+use Rattle.sj_object.specs.inner.Piles.{pile, taken, trees_left, CanTakeItems}
 use Rattle.sj_object.proofs.Piles.{one_item, map_push}
 use Rattle.sj_object.proofs.build.take_items.Goals as goal
 
@@ -16,7 +16,7 @@ loop-i-init g c =
     record {
       can = subst (λ k. CanTakeItems k ns ps) (sym n) c.requires;
       told = ap (λ vs. map tree vs ++ taken (c.args.len - 0) ns ps) none ∙ ap (λ k. taken k ns ps) n;
-      less = ap (λ k. left k ns ps) n;
+      less = ap (λ k. trees_left k ns ps) n;
       made = λ h. (subst (All g.V.Made.built) (sym none) (All-nil g.V.Made.built), h);
     }
 
@@ -59,7 +59,7 @@ loop-i-preserved g c =
       told = (λ i. map tree c.push.new.self.items ++ taken m (after i) (rest i))
           ∙ map_push tree c.loop-i.items.items c.push.new.self.items c.in_ok-take_value.field-0 _ _ c.in_ok-push.ensures.items c.in_ok-take_value.ensures.means
           ∙ ap (λ l. map tree c.loop-i.items.items ++ l) (sym one.made) ∙ ap (λ k. map tree c.loop-i.items.items ++ taken k ns ps) (sym e) ∙ inv.told;
-      less = (λ i. left m (after i) (rest i)) ∙ sym one.less ∙ ap (λ k. left k ns ps) (sym e) ∙ inv.less;
+      less = (λ i. trees_left m (after i) (rest i)) ∙ sym one.less ∙ ap (λ k. trees_left k ns ps) (sym e) ∙ inv.less;
       made = λ h.
           let a = inv.made h in
           let d = c.in_ok-take_value.ensures.property a.1 in

@@ -4,7 +4,7 @@ use Rattle.sj_tape.specs.Marks.{text_in}
 use Rattle.sj_tape.specs.Stretches.{nodes_in}
 use Rattle.sj_tape.proofs.Stretched.{few}
 use Rattle.sj_object.proofs.Strings.{text_key}
-use Rattle.sj_object.specs.inner.Piles.{pile, first_mark, made_of, left_of, CanTake, taken_pairs, left_pairs, CanTakePairs, kept_by, shown}
+use Rattle.sj_object.specs.inner.Piles.{pile, first_mark, made_of, left_of, CanTake, taken_pairs, left_pairs, CanTakePairs, kept_by, entry_pairs}
 use Rattle.sj_object.proofs.PileEntries.{kept_more}
 use Rattle.sj_object.proofs.Piles.{one_member}
 use Rattle.sj_object.proofs.build.take_members.Goals as goal
@@ -66,14 +66,14 @@ loop-i-preserved g c =
     let place : c.loop-i.at + (1 + c.in_ok-width.width) ≡ c.loop-i.at + 1 + width node = omega (arith, c.in_ok-width.ensures.width, ap width first) in
     let after = ap (λ k. drop k (nodes_in c.args.nodes)) place in
     let rest = c.in_ok-width.ensures.rest ∙ ap (λ x. left_of x ps) first in
-    let told = c.in_ok-width.ensures.means ∙ ap (λ x. kept_by r (shown tree es) ((c.in-Some.text.now, made_of x ps) ∷ [])) first in
+    let told = c.in_ok-width.ensures.means ∙ ap (λ x. kept_by r (entry_pairs tree es) ((c.in-Some.text.now, made_of x ps) ∷ [])) first in
     let key = text_key _ _ c.in-Some.ensures in
     record {
       can = subst (λ l. CanTakePairs m l (pile tree c.put_member.new.made.items)) (sym after) (subst (CanTakePairs m _) (sym rest) one.can);
       told = (λ i. kept_by r (told i) (taken_pairs m (after i) (rest i)))
-          ∙ kept_more r (shown tree es) (c.in-Some.text.now, made_of node ps) more
-          ∙ (λ i. kept_by r (shown tree es) ((key i, made_of node ps) ∷ more))
-          ∙ ap (kept_by r (shown tree es)) (sym one.made) ∙ ap (λ k. kept_by r (shown tree es) (taken_pairs k ns ps)) (sym e) ∙ inv.told;
+          ∙ kept_more r (entry_pairs tree es) (c.in-Some.text.now, made_of node ps) more
+          ∙ (λ i. kept_by r (entry_pairs tree es) ((key i, made_of node ps) ∷ more))
+          ∙ ap (kept_by r (entry_pairs tree es)) (sym one.made) ∙ ap (λ k. kept_by r (entry_pairs tree es) (taken_pairs k ns ps)) (sym e) ∙ inv.told;
       less = (λ i. left_pairs m (after i) (rest i)) ∙ sym one.less ∙ ap (λ k. left_pairs k ns ps) (sym e) ∙ inv.less;
       made = λ h.
           let a = inv.made h in

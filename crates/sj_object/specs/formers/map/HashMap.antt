@@ -33,11 +33,11 @@ use Rattle.std.specs.Coded.{coded_option}
 use Rattle.sj_object.specs.declared.key.KeyText as text
 use Rattle.sj_object.specs.declared.hasher.KeyHasher as hasher
 use Rattle.sj_object.specs.Texts.{no_repeats}
-use Rattle.sj_object.specs.Entries.{Entry, texts, entries_of}
+use Rattle.sj_object.specs.Entries.{Entry, entry_texts, entries_of}
 use Rattle.sj_object.specs.HashMap.{Contents, same_contents}
 use Rattle.sj_object.specs.Index.{HasRoom}
 use Rattle.sj_object.specs.inner.Index.{HasRoom-prop}
-use Rattle.sj_object.specs.Stored.{IsIndexOf, members_of, pairs_of, buckets_of}
+use Rattle.sj_object.specs.Stored.{IsIndexOf, stored_members, pairs_of, buckets_of}
 use Rattle.sj_object.specs.inner.Stored.{IsIndexOf-prop}
 use Rattle.sj_object.specs.declared.map.index.Table.{Table}
 use Rattle.sj_object.specs.declared.map.members.Members.{Members}
@@ -61,13 +61,13 @@ on_value h p = (p.0, h p.1)
 
 -- ---- the value
 
-pub texts-map : {K X Y : Type 0} (h : X → Y) (es : List (Entry K X)) → texts (map (on_value h) es) ≡ texts es
+pub texts-map : {K X Y : Type 0} (h : X → Y) (es : List (Entry K X)) → entry_texts (map (on_value h) es) ≡ entry_texts es
 texts-map h [] = refl
 texts-map h (e ∷ es) = ap (λ l. e.0.1 ∷ l) (texts-map h es)
 
 -- what entries have to be for so many buckets
 abbrev pub Fits : {K X : Type 0} → Option ℕ → List (Entry K X) → Type 0
-Fits o es = (no_repeats (texts es) ≡ true) × HasRoom (length es) o
+Fits o es = (no_repeats (entry_texts es) ≡ true) × HasRoom (length es) o
 
 pub Fits-prop : {K X : Type 0} (o : Option ℕ) (es : List (Entry K X)) → IsProp (Fits o es)
 Fits-prop o es p q = λ i. (Coded-set coded_bool _ _ p.0 q.0 i, HasRoom-prop (length es) o p.1 q.1 i)
@@ -77,7 +77,7 @@ Fits-map o h es p = (ap no_repeats (texts-map h es) ∙ p.0, subst (λ n. HasRoo
 
 -- entries that are the same once seen through h
 pub Fits-seen : {K X Y : Type 0} (o : Option ℕ) (h : X → Y) (es : List (Entry K X)) (fs : List (Entry K Y)) → map (on_value h) es ≡ fs → Fits o fs → Fits o es
-Fits-seen o h es fs e p = (ap no_repeats (sym (texts-map h es) ∙ ap texts e) ∙ p.0, subst (λ n. HasRoom n o) (sym (ap length e) ∙ length-map es (on_value h)) p.1)
+Fits-seen o h es fs e p = (ap no_repeats (sym (texts-map h es) ∙ ap entry_texts e) ∙ p.0, subst (λ n. HasRoom n o) (sym (ap length e) ∙ length-map es (on_value h)) p.1)
 
 module _ {K S : Type 0} where
   module _ {X Y : Type 0} (m : Contents K X S) where
@@ -220,7 +220,7 @@ module _ {K X Y : Type 0} (h : X → Y) where
   abbrev stored : Store K X → Store K Y
   stored = (store K).map X Y h
 
-  members-mapped : (m : Members K X) → members_of (mapped_members m) ≡ map (on_value h) (members_of m)
+  members-mapped : (m : Members K X) → stored_members (mapped_members m) ≡ map (on_value h) (stored_members m)
   members-mapped (Listed v) = refl
   members-mapped (Ring r) = refl
 
@@ -240,7 +240,7 @@ module _ {K X Y : Type 0} (h : X → Y) where
   index-seen hs (Plain v) i = i
   index-seen hs (Hashed b) i = i
 
-held_of-members : {K X : Type 0} (t : K → List ℕ) (b : Box (Beside K X) Global) (m : Members K X) → held (list (entry this (K × List ℕ))) X (entries_of t (members_of m)) ≡ held (store K) X (in_box K b m)
+held_of-members : {K X : Type 0} (t : K → List ℕ) (b : Box (Beside K X) Global) (m : Members K X) → held (list (entry this (K × List ℕ))) X (entries_of t (stored_members m)) ≡ held (store K) X (in_box K b m)
 held_of-members t b (Listed v) = entries_of-held t v.items
 held_of-members t b (Ring r) = entries_of-held t r.items
 

@@ -1,6 +1,6 @@
 use Rattle.std.proofs.Common.{map, refl, sym, arith}
 use Rattle.sj_text_core.specs.Tree.{items_from}
-use Rattle.sj_document.specs.Document.{tree}
+use Rattle.sj_document.specs.Document.{document_tree}
 use Rattle.sj_document.proofs.Arrays.{none_nth}
 use Rattle.sj_patch.proofs.Leaves.{no_item}
 use Rattle.sj_patch.proofs.Taken.{took_item}
@@ -18,4 +18,4 @@ pub returns-else-index-len : goal.returns-else-index-len
 returns-else-index-len g c =
     let t = g.T.KeyText.text_of in
     let vs = c.args.items.now.items in
-    (refl, no_item c.args.token.now c.in-Some.index (items_from (map (tree t) vs)) (sym c.in-Some.ensures) (sym (none_nth t vs c.in-Some.index (omega (arith, c.if-index-len.false, c.len.ensures, c.args.items.now.ok.0)))))
+    (refl, no_item c.args.token.now c.in-Some.index (items_from (map (document_tree t) vs)) (sym c.in-Some.ensures) (sym (none_nth t vs c.in-Some.index (omega (arith, c.if-index-len.false, c.len.ensures, c.args.items.now.ok.0)))))

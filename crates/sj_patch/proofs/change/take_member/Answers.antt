@@ -2,7 +2,7 @@ use Rattle.std.proofs.Common.{option_map, sym, ap, ◌∙◌}
 use Rattle.sj_text_core.specs.Tree.{obj}
 use Rattle.sj_object.specs.Members.{entry_members}
 use Rattle.sj_object.proofs.Shown.{lookup-entry_members, entry_members-cut}
-use Rattle.sj_document.specs.Document.{tree}
+use Rattle.sj_document.specs.Document.{document_tree}
 use Rattle.sj_patch.proofs.Leaves.{no_member, cut_absent}
 use Rattle.sj_patch.proofs.Taken.{took_member}
 use Rattle.sj_patch.proofs.change.take_member.Goals as goal
@@ -18,6 +18,6 @@ returns-in-None g c =
     let t = g.T.KeyText.text_of in
     let es = c.args.members.now.entries in
     let k = c.args.key.now in
-    let ms = entry_members (tree t) es in
-    let missing = sym (lookup-entry_members (tree t) k es) ∙ ap (option_map (tree t)) (sym c.in-None.ensures.answer) in
-    (ap obj (ap (entry_members (tree t)) c.in-None.ensures.entries ∙ entry_members-cut (tree t) k es ∙ cut_absent k ms missing), no_member k ms missing)
+    let ms = entry_members (document_tree t) es in
+    let missing = sym (lookup-entry_members (document_tree t) k es) ∙ ap (option_map (document_tree t)) (sym c.in-None.ensures.answer) in
+    (ap obj (ap (entry_members (document_tree t)) c.in-None.ensures.entries ∙ entry_members-cut (document_tree t) k es ∙ cut_absent k ms missing), no_member k ms missing)

@@ -1,6 +1,6 @@
 use Rattle.std.proofs.Common.{◌≡◌, ◌+◌, [], ◌∷◌, ◌++◌, length, map, drop, ap, ◌∙◌}
 use Rattle.std.proofs.lemmas.List.{map-append, length_push}
-use Rattle.sj_document.specs.Document.{tree}
+use Rattle.sj_document.specs.Document.{document_tree}
 use Rattle.sj_patch.specs.inner.Filled.{filled, filled_all}
 use Rattle.sj_patch.specs.Meant.{meant}
 use Rattle.sj_patch.specs.Operations.{operations_from}
@@ -26,12 +26,12 @@ loop-index-preserved g c =
     let o = meant t c.in-Ok.operation in
     let pushed : map (meant t) c.push.new.self.items ≡ map (meant t) os ++ o ∷ [] =
     ap (map (meant t)) c.in_ok-push-in-Ok.ensures.items ∙ map-append (meant t) os (c.in-Ok.operation ∷ []) in
-    let more : filled_all (map (meant t) c.push.new.self.items) (seen t vs) ≡ filled_all (map (meant t) os) (seen t vs) ++ filled o (tree t v) ∷ [] =
+    let more : filled_all (map (meant t) c.push.new.self.items) (seen t vs) ≡ filled_all (map (meant t) os) (seen t vs) ++ filled o (document_tree t v) ∷ [] =
     ap (λ xs. filled_all xs (seen t vs)) pushed ∙ filled-more t os vs i v o c.loop-index.invariant.count c.loop-index-test.true c.index-items-index.is in
     record {
       count = ap length c.in_ok-push-in-Ok.ensures.items ∙ length_push os c.in-Ok.operation ∙ ap (λ n. n + 1) c.loop-index.invariant.count;
       read =
           ap (λ xs. behind xs (operations_from (i + 1) (seen t (drop (i + 1) vs)))) more
-          ∙ behind-turn t vs i v (filled_all (map (meant t) os) (seen t vs)) (filled o (tree t v)) c.loop-index-test.true c.index-items-index.is c.in-Ok.ensures.ok
+          ∙ behind-turn t vs i v (filled_all (map (meant t) os) (seen t vs)) (filled o (document_tree t v)) c.loop-index-test.true c.index-items-index.is c.in-Ok.ensures.ok
           ∙ c.loop-index.invariant.read;
     }

@@ -1,6 +1,6 @@
 use Rattle.std.proofs.Common.{map, Ok, refl, sym, ap, ◌∙◌, arith}
 use Rattle.sj_text_core.specs.Tree.{list, items_from}
-use Rattle.sj_document.specs.Document.{tree}
+use Rattle.sj_document.specs.Document.{document_tree}
 use Rattle.sj_document.proofs.Arrays.{items_seen, item_at, none_nth}
 use Rattle.sj_patch.proofs.Items.{items-remove}
 use Rattle.sj_patch.specs.inner.Changed.{or_null}
@@ -13,12 +13,12 @@ returns-then-at-len g c =
     let vs = c.args.items.now.items in
     let k = c.args.token.now in
     let i = c.args.at in
-    let is = items_from (map (tree t) vs) in
+    let is = items_from (map (document_tree t) vs) in
     let there = item_at t vs i c.remove.result (omega (arith, c.if-at-len.true, c.len.ensures, c.args.items.now.ok.0)) c.remove.ensures.value in
-    (item_out k i is (tree t c.remove.result) there ∙ ap (λ is. Ok (list is)) (sym (ap (items_seen t) c.remove.ensures.items ∙ items-remove t vs i)), sym (ap or_null there))
+    (item_out k i is (document_tree t c.remove.result) there ∙ ap (λ is. Ok (list is)) (sym (ap (items_seen t) c.remove.ensures.items ∙ items-remove t vs i)), sym (ap or_null there))
 
 pub returns-else-at-len : goal.returns-else-at-len
 returns-else-at-len g c =
     let t = g.T.KeyText.text_of in
     let vs = c.args.items.now.items in
-    (refl, no_item_out c.args.token.now c.args.at (items_from (map (tree t) vs)) (sym (none_nth t vs c.args.at (omega (arith, c.if-at-len.false, c.len.ensures, c.args.items.now.ok.0)))))
+    (refl, no_item_out c.args.token.now c.args.at (items_from (map (document_tree t) vs)) (sym (none_nth t vs c.args.at (omega (arith, c.if-at-len.false, c.len.ensures, c.args.items.now.ok.0)))))

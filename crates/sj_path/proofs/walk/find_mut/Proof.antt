@@ -51,7 +51,7 @@ use Rattle.sj_text_core.specs.Tree.{Tree}
 use Rattle.sj_text_core.specs.Paths.{by_token, set_found}
 use Rattle.sj_text_core.specs.declared.repeats.Repeats.TheVariants.{First}
 use Rattle.sj_pointer.specs.Pointed.{token_into, pointed, set_pointed}
-use Rattle.sj_document.specs.Document.{tree}
+use Rattle.sj_document.specs.Document.{document_tree}
 use Rattle.sj_document.specs.declared.value.Document.{Document}
 use Rattle.sj_object.specs.declared.key.KeyText as key
 use Rattle.sj_document.specs.contracts.value.Document.{the_row}
@@ -94,13 +94,13 @@ module _ {M : Type 1} {𝓤 : Ura M} (𝓛 : Logic 𝓤) (𝓜 : Model 𝓤 𝓛
 
   module _ (y : Walk.Ghost) where
     abbrev old : Tree
-    old = tree k.text_of y.0.3.0.now
+    old = document_tree k.text_of y.0.3.0.now
 
     abbrev ks : List (List ℕ)
     ks = y.0.3.1.0.now
 
     abbrev Lent : (m : maybe.Option GName) → (Tree → Tree → Type 0) → Fml
-    Lent m P = follows_so (Doc T k kd e ed p pd) (Doc T k kd e ed p pd) y.0.3.0.ghost_name m (λ w n. P (tree k.text_of w) (tree k.text_of n)) (λ n. tree k.text_of n ≡ old)
+    Lent m P = follows_so (Doc T k kd e ed p pd) (Doc T k kd e ed p pd) y.0.3.0.ghost_name m (λ w n. P (document_tree k.text_of w) (document_tree k.text_of n)) (λ n. document_tree k.text_of n ≡ old)
 
     abbrev Part : RattleType
     Part = MutRef (named 0) y.0.0.0 (Doc T k kd e ed p pd)
@@ -111,7 +111,7 @@ module _ {M : Type 1} {𝓤 : Ura M} (𝓛 : Logic 𝓤) (𝓜 : Model 𝓤 𝓛
     Token (suc (suc n)) = flft y.0.0.1.1.0 y.0.1.1.1.0
 
     -- the walk ends at the part that is lent
-    ends_found : (x : MutBor (Document T.Denot)) → Some (tree k.text_of x.now) ≡ pointed ks old
+    ends_found : (x : MutBor (Document T.Denot)) → Some (document_tree k.text_of x.now) ≡ pointed ks old
         → Sq 𝓛 (‵ (Part.own_val x (mut_vals x)) ∷ ‵ (Lent (maybe.some x.ghost_name) (λ w n. n ≡ set_pointed ks w old)) ∷ ‵ (Token 0) ∷ ‵ (Token 1) ∷ ‵ (Token 2) ∷ []) (prop (Walk.post y (live 1 (of_list (mut_vals x)))))
     ends_found x shown =
         use1 𝓛 (‵ ((option.the_row Part).own_val (Some x) (live 1 (of_list (mut_vals x)) ∷ []))) (some_in 𝓛 Part x (vptr x.ref_ptr.0 x.ref_ptr.1)) $
@@ -131,21 +131,21 @@ module _ {M : Type 1} {𝓤 : Ura M} (𝓛 : Logic 𝓤) (𝓜 : Model 𝓤 𝓛
     -- what is said of the whole where all tokens were gone
     says_found : (γ : GName) (rest : List (List ℕ)) (shown : Tree) → rest ≡ [] → ent 𝓤 (sem 𝓛 (Lent (maybe.some γ) (λ w n. Carries ks rest old shown w n))) (sem 𝓛 (Lent (maybe.some γ) (λ w n. n ≡ set_pointed ks w old)))
     says_found γ rest shown q = lent_weaker 𝓛 (Doc T k kd e ed p pd) (Doc T k kd e ed p pd) (Doc T k kd e ed p pd) y.0.3.0.ghost_name (maybe.some γ) _ _
-        (λ w n. tree k.text_of n ≡ set_pointed ks (tree k.text_of w) old) (λ n. tree k.text_of n ≡ old) (λ w n m. m.0 (tree k.text_of w) (ap (λ rs. set_pointed rs (tree k.text_of w) shown) (sym q))) (λ n r. r)
+        (λ w n. document_tree k.text_of n ≡ set_pointed ks (document_tree k.text_of w) old) (λ n. document_tree k.text_of n ≡ old) (λ w n m. m.0 (document_tree k.text_of w) (ap (λ rs. set_pointed rs (document_tree k.text_of w) shown) (sym q))) (λ n r. r)
 
     -- and where one more token found a part, or nothing
     module _ (γ : GName) (key : List ℕ) (rest : List (List ℕ)) (shown : Tree) where
       abbrev Step : (m : maybe.Option GName) → (Tree → Tree → Type 0) → Fml
-      Step m P = follows_so (Doc T k kd e ed p pd) (Doc T k kd e ed p pd) γ m (λ w s. P (tree k.text_of w) (tree k.text_of s)) (λ s. tree k.text_of s ≡ shown)
+      Step m P = follows_so (Doc T k kd e ed p pd) (Doc T k kd e ed p pd) γ m (λ w s. P (document_tree k.text_of w) (document_tree k.text_of s)) (λ s. document_tree k.text_of s ≡ shown)
 
       says_further : (γ' : GName) (way : List (List ℕ)) (next : Tree) → way ≡ key ∷ rest → token_into First key shown ≡ Some next
           → ent 𝓤 (sep 𝓤 (sem 𝓛 (Lent (maybe.some γ) (λ w n. Carries ks way old shown w n))) (sem 𝓛 (Step (maybe.some γ') (λ w s. s ≡ set_found (by_token key) w shown)))) (sem 𝓛 (Lent (maybe.some γ') (λ w n. Carries ks rest old next w n)))
       says_further γ' way next here there = lent_so 𝓛 (Doc T k kd e ed p pd) (Doc T k kd e ed p pd) (Doc T k kd e ed p pd) y.0.3.0.ghost_name γ _ _ (maybe.some γ') _ _
-          (λ w n. Carries ks rest old next (tree k.text_of w) (tree k.text_of n)) (λ n. tree k.text_of n ≡ old)
-          (λ w s n f m. carries_further key ks rest old shown next (tree k.text_of w) (tree k.text_of s) (tree k.text_of n) there f (subst (λ rs. Carries ks rs old shown (tree k.text_of s) (tree k.text_of n)) here m)) (λ s n f m. m.1 f)
+          (λ w n. Carries ks rest old next (document_tree k.text_of w) (document_tree k.text_of n)) (λ n. document_tree k.text_of n ≡ old)
+          (λ w s n f m. carries_further key ks rest old shown next (document_tree k.text_of w) (document_tree k.text_of s) (document_tree k.text_of n) there f (subst (λ rs. Carries ks rs old shown (document_tree k.text_of s) (document_tree k.text_of n)) here m)) (λ s n f m. m.1 f)
 
       says_nowhere : (way : List (List ℕ)) → ent 𝓤 (sep 𝓤 (sem 𝓛 (Lent (maybe.some γ) (λ w n. Carries ks way old shown w n))) (sem 𝓛 (Step maybe.none (λ w s. Unit {0})))) (sem 𝓛 (Lent maybe.none (λ w n. Unit {0})))
-      says_nowhere way = lent_so 𝓛 (Doc T k kd e ed p pd) (Doc T k kd e ed p pd) (Doc T k kd e ed p pd) y.0.3.0.ghost_name γ _ _ maybe.none _ _ (λ w n. Unit {0}) (λ n. tree k.text_of n ≡ old) (λ w s n f m. tt) (λ s n f m. m.1 f)
+      says_nowhere way = lent_so 𝓛 (Doc T k kd e ed p pd) (Doc T k kd e ed p pd) (Doc T k kd e ed p pd) y.0.3.0.ghost_name γ _ _ maybe.none _ _ (λ w n. Unit {0}) (λ n. document_tree k.text_of n ≡ old) (λ w s n f m. tt) (λ s n f m. m.1 f)
 
 pub find_mut_spec : {M : Type 1} → statement M
 unfolding tables_of after_turn
@@ -159,26 +159,26 @@ find_mut_spec 𝓤 𝓛 𝓜 𝓡 wired T L k kd e ed p pd mk me mp =
     proved 𝓛 End hs c 𝓜 𝓡 (Goes-spent_ref 𝓛 3 (0 ∷ []) tt (plain (λ _. D)), (Goes-dropped 𝓛 3 (shr_ref_to (1 ∷ []) tt (plain (λ _. pointer_row))) yes (λ κs x w. refl), tt))
     (f.Key.name (args T k kd e ed p pd)) (function T k kd e ed p pd) (code.unfolded 𝓤 𝓛.H 𝓜 𝓡 wired (T, tt) kd ed pd)
     (λ κs. (mut_vals, (shr_vals, tt))) (λ κs. (mut_Tells (named 0) κs.0 D, (shr_Tells (named 1) κs.1.0 pointer_row, tt))) (λ κs qs bounds a _ are.
-    let us = mut_vals a.0 in let ws = shr_vals a.1.0 in let old = tree k.text_of a.0.now in let ks = a.1.0.now in
+    let us = mut_vals a.0 in let ws = shr_vals a.1.0 in let old = document_tree k.text_of a.0.now in let ks = a.1.0.now in
     let y : W.Ghost = ((κs, qs, bounds, a, (us, (ws, tt))), tt) in
     qed 𝓛 (((‵ (flft κs.0 qs.0) ⊛ ‵ (flft κs.1.0 qs.1.0) ⊛ ‵ (flft κs.1.1.0 qs.1.1.0) ⊛ ‵ ftrue) ⊛ ‵ ((MutRef (named 0) κs.0 D).own_val a.0 us) ⊛ ‵ ((ShrRef (named 1) κs.1.0 pointer_row).own_val a.1.0 ws) ⊛ ‵ ftrue) ∷ (given (κs.1.1.0 ⊑ T.lives) (‵ ftrue) ⊛ ‵ ftrue) ∷ []) ∵
     move ! (1 ∷ []) $ split ! $ learn ! (λ lives. drop ! $ drop ! $
     split ! $ split ! $ move ! (1 ∷ []) $ split ! $ move ! (1 ∷ []) $ split ! $ move ! (4 ∷ []) $ split ! $ move ! (1 ∷ []) $ split ! $ keep ! (2 ∷ 0 ∷ 6 ∷ 5 ∷ 3 ∷ []) $
     -- [self; the pointer; the tokens of self, of the pointer and of T]
-    use0 𝓛 (‵ (follows_so D D a.0.ghost_name (maybe.some a.0.ghost_name) (λ w n. Carries ks ks old old (tree k.text_of w) (tree k.text_of n)) (λ n. tree k.text_of n ≡ old)))
+    use0 𝓛 (‵ (follows_so D D a.0.ghost_name (maybe.some a.0.ghost_name) (λ w n. Carries ks ks old old (document_tree k.text_of w) (document_tree k.text_of n)) (λ n. document_tree k.text_of n ≡ old)))
     (lent_itself 𝓛 D a.0.ghost_name a.0.now _ _ (λ w. ((λ u q. q), (λ q. q))) refl) $
     enter ! _ _ _ _ _ $ alloc_all ! (λ l. pass_all ! refl ((tt, tt), ((tt, tt), tt)) $
     sets ! (of_opd ! (get ! refl)) refl (tt, tt) $ sets ! (of_opd ! (lit ! tt)) refl (tt, record { fits = lit< tt }) $
     let En : Env 𝓤 𝓛.H = env (function T k kd e ed p pd).locals l in
     let Post = W.post y in
-    let At : Type 0 = (i : ℕ) × (x : MutBor (Document T.Denot)) × (i < 2 ^ 64) × (pointed (behind i ks) (tree k.text_of x.now) ≡ pointed ks old) in
+    let At : Type 0 = (i : ℕ) × (x : MutBor (Document T.Denot)) × (i < 2 ^ 64) × (pointed (behind i ks) (document_tree k.text_of x.now) ≡ pointed ks old) in
     let Nearer : At → At → Type 0 = λ t u. length (behind t.0 ks) < length (behind u.0 ks) in
     let Now : At → List (Item 𝓤) = λ t.
-    ‵ (follows_so D D a.0.ghost_name (maybe.some t.1.ghost_name) (λ w n. Carries ks (behind t.0 ks) old (tree k.text_of t.1.now) (tree k.text_of w) (tree k.text_of n)) (λ n. tree k.text_of n ≡ old))
+    ‵ (follows_so D D a.0.ghost_name (maybe.some t.1.ghost_name) (λ w n. Carries ks (behind t.0 ks) old (document_tree k.text_of t.1.now) (document_tree k.text_of w) (document_tree k.text_of n)) (λ n. document_tree k.text_of n ≡ old))
     ∷ ‵ ((MutRef (named 0) κs.0 D).own_val t.1 (mut_vals t.1)) ∷ ‵ ((ShrRef (named 1) κs.1.0 pointer_row).own_val a.1.0 ws) ∷ ‵ (flft κs.0 qs.0) ∷ ‵ (flft κs.1.0 qs.1.0) ∷ ‵ (flft κs.1.1.0 qs.1.1.0)
     ∷ holding 𝓛 En ((1, vptr a.0.ref_ptr.0 a.0.ref_ptr.1) ∷ (2, vptr a.1.0.ref_ptr.0 a.1.0.ref_ptr.1) ∷ (3, vptr t.1.ref_ptr.0 t.1.ref_ptr.1) ∷ (4, vint w64 t.0) ∷ []) in
     first ! $ blocks ! $ loops ! (tables_of 𝓤 𝓛.H 𝓜 𝓣) Nearer (InvImage.wf (λ (t : At). length (behind t.0 ks)) lt-wf_rel.wf) Now (λ t.
-    let i = t.0 in let x = t.1 in let shown = tree k.text_of x.now in
+    let i = t.0 in let x = t.1 in let shown = document_tree k.text_of x.now in
     move ! (2 ∷ []) $ use1 𝓛 (‵ ((ShrRef (named 1) κs.1.0 pointer_row).own_val a.1.0 ws) ⊛ ‵ ((ShrRef (named 1) κs.1.0 pointer_row).own_val a.1.0 ws)) ((shr_copy 𝓛 (named 1) κs.1.0 pointer_row pointer_laws.the_row_laws.shr_laws).twice a.1.0 ws) $ split ! $
     owned ! usize _ (uint_Makes 𝓛 w64) i (vint w64 i ∷ []) (refl, t.2) $
     nothing ! $ move ! (1 ∷ 0 ∷ []) $ join ! $ move ! (1 ∷ 0 ∷ []) $ join ! $
@@ -233,14 +233,14 @@ find_mut_spec 𝓤 𝓛 𝓜 𝓡 wired T L k kd e ed p pd mk me mp =
           -- [what the call asks; the pointer; what is said]
           calls_at ! (framed 𝓤 𝓛.H 𝓜 𝓣) G' (h-met.met 𝓤 𝓛 𝓜 𝓡 (code.calls-sj_path::walk::step_mut 𝓡.env wired) T L k kd e ed p pd mk me mp) z' (and_then ! (get ! refl) (and_then ! (get ! refl) (no_more !))) (λ v'.
           use1 𝓛 (later (some (λ (r' : Option (MutBor (Document T.Denot))). ((‵ (flft κs.0 qs.0) ⊛ ‵ (flft κs.1.0 qs.1.0) ⊛ ‵ (flft κs.1.1.0 qs.1.1.0) ⊛ ‵ ftrue) ⊛ ‵ ((option.the_row (MutRef (named 0) κs.0 D)).own_val r' (v' ∷ []))) ⊛
-          some (λ (ends : Unit {0} × (Unit {0} × Unit {0})). ‵ (lasts (h.ended T k kd e ed p pd) z'.0.0 z'.0.3 ends) ⊛ (‵ (follows_so D D x.ghost_name (ghost_name_of r') (λ w s. OnSome r' (tree k.text_of s ≡ set_found (by_token token.now) (tree k.text_of w) shown)) (λ s. tree k.text_of s ≡ shown))
-          ⊛ raw (fact 𝓤 (option_map (λ v. tree k.text_of v.now) r' ≡ token_into First token.now shown))))))) (id⊢ 𝓤 _) $
+          some (λ (ends : Unit {0} × (Unit {0} × Unit {0})). ‵ (lasts (h.ended T k kd e ed p pd) z'.0.0 z'.0.3 ends) ⊛ (‵ (follows_so D D x.ghost_name (ghost_name_of r') (λ w s. OnSome r' (document_tree k.text_of s ≡ set_found (by_token token.now) (document_tree k.text_of w) shown)) (λ s. document_tree k.text_of s ≡ shown))
+          ⊛ raw (fact 𝓤 (option_map (λ v. document_tree k.text_of v.now) r' ≡ token_into First token.now shown))))))) (id⊢ 𝓤 _) $
           await ! tt $ pick ! (λ r'. split ! $ split ! $ move ! (2 ∷ []) $ pick ! (λ ends. split ! $ drop ! $ split ! $ move ! (1 ∷ []) $ heard ! _ (λ found.
           -- [what the call says; the tokens; what it found; the pointer; what is said]
           move ! (2 ∷ []) $ option_out ! (MutRef (named 0) κs.0 D) r' (v' ∷ [])
           (λ is_none' spelled'.
-          let missing : token_into First token.now shown ≡ None = sym found ∙ ap (option_map (λ v. tree k.text_of v.now)) is_none' in
-          rewrite ! 0 (λ (o : Option (MutBor (Document T.Denot))). ‵ (follows_so D D x.ghost_name (ghost_name_of o) (λ w s. OnSome o (tree k.text_of s ≡ set_found (by_token token.now) (tree k.text_of w) shown)) (λ s. tree k.text_of s ≡ shown))) is_none' refl $
+          let missing : token_into First token.now shown ≡ None = sym found ∙ ap (option_map (λ v. document_tree k.text_of v.now)) is_none' in
+          rewrite ! 0 (λ (o : Option (MutBor (Document T.Denot))). ‵ (follows_so D D x.ghost_name (ghost_name_of o) (λ w s. OnSome o (document_tree k.text_of s ≡ set_found (by_token token.now) (document_tree k.text_of w) shown)) (λ s. document_tree k.text_of s ≡ shown))) is_none' refl $
           move ! (3 ∷ 0 ∷ []) $ use2 𝓛 (‵ (Lent 𝓛 𝓜 𝓡 T k kd e ed p pd y maybe.none (λ w n. Unit {0}))) (says_nowhere 𝓛 𝓜 𝓡 T k kd e ed p pd y x.ghost_name token.now (behind (i + 1) ks) shown (behind i ks)) $
           lands_as ! (ap only spelled') refl (tt, (record { fits = lit< tt }, tt)) $
           by_variants ! 7 (whole !) (get_tag ! (vrt ! refl (fld ! refl (stop !))) (whole !)) tt (
@@ -255,10 +255,10 @@ find_mut_spec 𝓤 𝓛 𝓜 𝓡 wired T L k kd e ed p pd mk me mp =
           (λ x' xs' is_some' spelled'.
           peeks ! (MutRef (named 0) κs.0 D) _ (shows 𝓛 (MutRef (named 0) κs.0 D)) x' xs' (λ is'.
           let told' = mut_Tells (named 0) κs.0 D x' xs' is' in
-          let next = tree k.text_of x'.now in
-          let there : token_into First token.now shown ≡ Some next = sym found ∙ ap (option_map (λ v. tree k.text_of v.now)) is_some' in
+          let next = document_tree k.text_of x'.now in
+          let there : token_into First token.now shown ≡ Some next = sym found ∙ ap (option_map (λ v. document_tree k.text_of v.now)) is_some' in
           rewrite ! 0 (λ (vs : List Val). ‵ ((MutRef (named 0) κs.0 D).own_val x' vs)) told' refl $
-          rewrite ! 1 (λ (o : Option (MutBor (Document T.Denot))). ‵ (follows_so D D x.ghost_name (ghost_name_of o) (λ w s. OnSome o (tree k.text_of s ≡ set_found (by_token token.now) (tree k.text_of w) shown)) (λ s. tree k.text_of s ≡ shown))) is_some' refl $
+          rewrite ! 1 (λ (o : Option (MutBor (Document T.Denot))). ‵ (follows_so D D x.ghost_name (ghost_name_of o) (λ w s. OnSome o (document_tree k.text_of s ≡ set_found (by_token token.now) (document_tree k.text_of w) shown)) (λ s. document_tree k.text_of s ≡ shown))) is_some' refl $
           move ! (4 ∷ 1 ∷ []) $ use2 𝓛 (‵ (Lent 𝓛 𝓜 𝓡 T k kd e ed p pd y (maybe.some x'.ghost_name) (λ w n. Carries ks (behind (i + 1) ks) old next w n)))
           (says_further 𝓛 𝓜 𝓡 T k kd e ed p pd y x.ghost_name token.now (behind (i + 1) ks) shown x'.ghost_name (behind i ks) next here there) $
           lands_as ! (ap only spelled' ∙ ap (λ (vs : List Val). live 1 (of_list (vs ++ []))) told') refl (tt, (record { fits = lit< tt }, (tt, tt))) $

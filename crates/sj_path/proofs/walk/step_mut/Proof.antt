@@ -49,7 +49,7 @@ use Rattle.sj_text_core.specs.Find.{find, nth}
 use Rattle.sj_text_core.specs.Paths.{Step, by_key, by_place, by_token, set_found}
 use Rattle.sj_text_core.specs.declared.repeats.Repeats.TheVariants.{First}
 use Rattle.sj_pointer.specs.Pointed.{token_into}
-use Rattle.sj_document.specs.Document.{tree}
+use Rattle.sj_document.specs.Document.{document_tree}
 use Rattle.sj_document.specs.declared.value.Document.{Document}
 use Rattle.sj_object.specs.declared.key.KeyText as key
 use Rattle.sj_document.specs.contracts.value.Document.{the_row}
@@ -93,7 +93,7 @@ module _ {M : Type 1} {𝓤 : Ura M} (𝓛 : Logic 𝓤) (𝓜 : Model 𝓤 𝓛
 
   module _ (y : Walk.Ghost) where
     abbrev old : Tree
-    old = tree k.text_of y.0.3.0.now
+    old = document_tree k.text_of y.0.3.0.now
 
     abbrev token : List ℕ
     token = y.0.3.1.0.now
@@ -108,15 +108,15 @@ module _ {M : Type 1} {𝓤 : Ura M} (𝓛 : Logic 𝓤) (𝓜 : Model 𝓤 𝓛
 
     module _ (r : Option (MutBor (Document T.Denot))) where
       abbrev Lent : Step → Fml
-      Lent s = follows_so (Doc T k kd e ed p pd) (Doc T k kd e ed p pd) y.0.3.0.ghost_name (ghost_name_of r) (λ w n. OnSome r (tree k.text_of n ≡ set_found s (tree k.text_of w) old)) (λ n. tree k.text_of n ≡ old)
+      Lent s = follows_so (Doc T k kd e ed p pd) (Doc T k kd e ed p pd) y.0.3.0.ghost_name (ghost_name_of r) (λ w n. OnSome r (document_tree k.text_of n ≡ set_found s (document_tree k.text_of w) old)) (λ n. document_tree k.text_of n ≡ old)
 
       -- the walk ends with what a step lends that finds and writes as the token does
-      walk_ends : (v : Val) (s : Step) → ((u : Tree) → set_found s u old ≡ set_found (by_token token) u old) → option_map (λ x. tree k.text_of x.now) r ≡ token_into First token old
+      walk_ends : (v : Val) (s : Step) → ((u : Tree) → set_found s u old ≡ set_found (by_token token) u old) → option_map (λ x. document_tree k.text_of x.now) r ≡ token_into First token old
           → Sq 𝓛 (‵ (Found.own_val r (v ∷ [])) ∷ ‵ (Lent s) ∷ ‵ (Token 0) ∷ ‵ (Token 1) ∷ ‵ (Token 2) ∷ []) (prop (Walk.post y v))
       walk_ends v s same shown =
           move ! (1 ∷ []) $ use1 𝓛 (‵ (Lent (by_token token)))
-          (lent_weaker 𝓛 (Doc T k kd e ed p pd) (Doc T k kd e ed p pd) (Doc T k kd e ed p pd) y.0.3.0.ghost_name (ghost_name_of r) _ _ (λ w n. OnSome r (tree k.text_of n ≡ set_found (by_token token) (tree k.text_of w) old)) (λ n. tree k.text_of n ≡ old)
-          (λ w n q. on_some r (λ f. f ∙ same (tree k.text_of w)) q) (λ n q. q)) $
+          (lent_weaker 𝓛 (Doc T k kd e ed p pd) (Doc T k kd e ed p pd) (Doc T k kd e ed p pd) y.0.3.0.ghost_name (ghost_name_of r) _ _ (λ w n. OnSome r (document_tree k.text_of n ≡ set_found (by_token token) (document_tree k.text_of w) old)) (λ n. document_tree k.text_of n ≡ old)
+          (λ w n q. on_some r (λ f. f ∙ same (document_tree k.text_of w)) q) (λ n q. q)) $
           keep ! (1 ∷ 2 ∷ 3 ∷ 4 ∷ 0 ∷ []) $
           suffices ! _ (ends_at 𝓛 (end T k kd e ed p pd) (stayed T k kd e ed p pd) held y v r (tt, (tt, tt)) (tt, (tt, tt))) $
           nothing ! $ nothing ! $ fjoin ! $ nothing ! $ fjoin ! $ join ! $ nothing ! $ move ! (4 ∷ 0 ∷ []) $ join ! $ move ! (3 ∷ 0 ∷ []) $ join ! $ move ! (2 ∷ 0 ∷ []) $ join ! $ join ! $ frame ! $
@@ -133,7 +133,7 @@ step_mut_spec {M} 𝓤 𝓛 𝓜 𝓡 wired T L k kd e ed p pd mk me mp =
     proved 𝓛 End hs c 𝓜 𝓡 (Goes-spent_ref 𝓛 3 (0 ∷ []) tt (plain (λ _. D)), (Goes-dropped 𝓛 3 (StrRefOf (1 ∷ []) tt) yes (λ κs x w. refl), tt))
     (f.Key.name (args T k kd e ed p pd)) (function T k kd e ed p pd) (code.unfolded 𝓤 𝓛.H 𝓜 𝓡 wired (T, tt) kd ed pd)
     (λ κs. (mut_vals, (shr_slice_vals, tt))) (λ κs. (mut_Tells (named 0) κs.0 D, ((str-laws (record { mir = named 1; lft = κs.1.0 })).tells, tt))) (λ κs qs bounds a _ are.
-    let us = mut_vals a.0 in let ws = shr_slice_vals a.1.0 in let old = tree k.text_of a.0.now in
+    let us = mut_vals a.0 in let ws = shr_slice_vals a.1.0 in let old = document_tree k.text_of a.0.now in
     let y : W.Ghost = ((κs, qs, bounds, a, (us, (ws, tt))), tt) in
     let text : NamedLft = record { mir = named 1; lft = κs.1.0 } in
     qed 𝓛 (((‵ (flft κs.0 qs.0) ⊛ ‵ (flft κs.1.0 qs.1.0) ⊛ ‵ (flft κs.1.1.0 qs.1.1.0) ⊛ ‵ ftrue) ⊛ ‵ ((MutRef (named 0) κs.0 D).own_val a.0 us) ⊛ ‵ ((Str (named 1) κs.1.0).own_val a.1.0 ws) ⊛ ‵ ftrue) ∷ (given (κs.1.1.0 ⊑ T.lives) (‵ ftrue) ⊛ ‵ ftrue) ∷ []) ∵
@@ -177,7 +177,7 @@ step_mut_spec {M} 𝓤 𝓛 𝓜 𝓡 wired T L k kd e ed p pd mk me mp =
             nothing ! $ use0 𝓛 (given (κs.1.1.0 ⊑ T.lives) (‵ ftrue)) (fact_i 𝓤 _ (emp 𝓤) lives) $ join ! $ move ! (1 ∷ 0 ∷ []) $ use2 𝓛 (raw (G'.pre z')) (id⊢ 𝓤 _) $
             calls_at_last ! (framed 𝓤 𝓛.H 𝓜 𝓣) G' (m-met.met 𝓤 𝓛 𝓜 𝓡 (code.calls-sj_document::value::Document::get_mut 𝓡.env wired) T L k kd e ed p pd mk me mp) z' (and_then ! (get ! refl) (and_then ! (get ! refl) (no_more !))) (λ v'.
             use1 𝓛 (later (some (λ (r' : Option (MutBor (Document T.Denot))). ((‵ (flft κs.0 qs.0) ⊛ ‵ (flft κs.1.0 qs.1.0) ⊛ ‵ (flft κs.1.1.0 qs.1.1.0) ⊛ ‵ ftrue) ⊛ ‵ ((option.the_row (MutRef (named 0) κs.0 D)).own_val r' (v' ∷ []))) ⊛
-            some (λ (ends : Unit {0} × (Unit {0} × Unit {0})). ‵ (lasts (m.ended T k kd e ed p pd) z'.0.0 z'.0.3 ends) ⊛ (‵ (Lent 𝓛 𝓜 𝓡 T k kd e ed p pd y r' (by_key a.1.0.now)) ⊛ raw (fact 𝓤 (option_map (λ x. tree k.text_of x.now) r' ≡ find a.1.0.now old))))))) (id⊢ 𝓤 _) $
+            some (λ (ends : Unit {0} × (Unit {0} × Unit {0})). ‵ (lasts (m.ended T k kd e ed p pd) z'.0.0 z'.0.3 ends) ⊛ (‵ (Lent 𝓛 𝓜 𝓡 T k kd e ed p pd y r' (by_key a.1.0.now)) ⊛ raw (fact 𝓤 (option_map (λ x. document_tree k.text_of x.now) r' ≡ find a.1.0.now old))))))) (id⊢ 𝓤 _) $
             await ! tt $ pick ! (λ r'. split ! $ split ! $ move ! (2 ∷ []) $ pick ! (λ ends'. split ! $ drop ! $ split ! $ move ! (1 ∷ []) $ heard ! _ (λ found.
             move ! (2 ∷ []) $ peeks ! (option.the_row (MutRef (named 0) κs.0 D)) _ (shows 𝓛 (option.the_row (MutRef (named 0) κs.0 D))) r' (v' ∷ []) (λ is'.
             let fits = ((option_lawful 𝓛 (MutRef (named 0) κs.0 D) (mut_Lawful 𝓛 (named 0) κs.0 D)).typed r' (v' ∷ []) is').0 in
@@ -206,7 +206,7 @@ step_mut_spec {M} 𝓤 𝓛 𝓜 𝓡 wired T L k kd e ed p pd mk me mp =
           -- [what the call asks; the token of the text; the text]
           calls_at_last ! (framed 𝓤 𝓛.H 𝓜 𝓣) G' (h-met.met 𝓤 𝓛 𝓜 𝓡 (code.calls-sj_document::value::Document::get_idx_mut 𝓡.env wired) T L k kd e ed p pd mk me mp) z' (and_then ! (get ! refl) (and_then ! (get ! refl) (no_more !))) (λ v'.
           use1 𝓛 (later (some (λ (r' : Option (MutBor (Document T.Denot))). ((‵ (flft κs.0 qs.0) ⊛ ‵ (flft κs.1.1.0 qs.1.1.0) ⊛ ‵ ftrue) ⊛ ‵ ((option.the_row (MutRef (named 0) κs.0 D)).own_val r' (v' ∷ []))) ⊛
-          some (λ (ends : Unit {0} × (Unit {0} × Unit {0})). ‵ (lasts (h.ended T k kd e ed p pd) z'.0.0 z'.0.3 ends) ⊛ (‵ (Lent 𝓛 𝓜 𝓡 T k kd e ed p pd y r' (by_place i)) ⊛ raw (fact 𝓤 (option_map (λ x. tree k.text_of x.now) r' ≡ nth i old))))))) (id⊢ 𝓤 _) $
+          some (λ (ends : Unit {0} × (Unit {0} × Unit {0})). ‵ (lasts (h.ended T k kd e ed p pd) z'.0.0 z'.0.3 ends) ⊛ (‵ (Lent 𝓛 𝓜 𝓡 T k kd e ed p pd y r' (by_place i)) ⊛ raw (fact 𝓤 (option_map (λ x. document_tree k.text_of x.now) r' ≡ nth i old))))))) (id⊢ 𝓤 _) $
           await ! tt $ pick ! (λ r'. split ! $ split ! $ move ! (2 ∷ []) $ pick ! (λ ends'. split ! $ drop ! $ split ! $ move ! (1 ∷ []) $ heard ! _ (λ found.
           move ! (2 ∷ []) $ peeks ! (option.the_row (MutRef (named 0) κs.0 D)) _ (shows 𝓛 (option.the_row (MutRef (named 0) κs.0 D))) r' (v' ∷ []) (λ is'.
           let fits = ((option_lawful 𝓛 (MutRef (named 0) κs.0 D) (mut_Lawful 𝓛 (named 0) κs.0 D)).typed r' (v' ∷ []) is').0 in

@@ -4,7 +4,7 @@ use Rattle.sj_text_core.specs.Tree.{list, obj, items_from, members_from}
 use Rattle.sj_print.specs.Layouts.{laid, deeper, gap}
 use Rattle.sj_print.specs.inner.Layouts.{colon}
 use Rattle.sj_print.specs.Outputs.{AppendsText, HoldsText}
-use Rattle.sj_print.specs.inner.Piles.{items_mark, members_mark, items_weight, members_weight, items_laid, members_laid, ahead_tree, left, PilesUp}
+use Rattle.sj_print.specs.inner.Piles.{items_mark, members_mark, items_weight, members_weight, items_laid, members_laid, ahead_tree, pile_weight, PilesUp}
 use Rattle.sj_print.specs.declared.print.Ahead.TheVariants as ahead
 use Rattle.sj_print.proofs.Layouts.{items_laid-item, members_laid-member}
 use Rattle.sj_print.proofs.Piles.{left_push, stored, piled_print, piled_up, piled_part, piled_on}
@@ -69,7 +69,7 @@ print_piled-loop-opened-preserved g t c =
     let items = g.P.Parts.items_left in
     let members = g.P.Parts.members_left in
     record {
-      within = omega (arith, c.loop-opened.invariant.within, c.further-out.ensures.fewer, ap (left items members) c.in-Some.ensures.items ∙ left_push items members c.pop.new.self.items c.in-Some.opened);
+      within = omega (arith, c.loop-opened.invariant.within, c.further-out.ensures.fewer, ap (pile_weight items members) c.in-Some.ensures.items ∙ left_push items members c.pop.new.self.items c.in-Some.opened);
       put = λ s l. piled_on items members g.O.Output.holds s _ _ _ _ _ _ _ _ c.in-Some.ensures.items (c.loop-opened.invariant.put s l) c.further-out.ensures.piled;
     }
 
@@ -92,7 +92,7 @@ pile_up-returns-in-Err-clause-piled g t c =
 pub further_item-returns-in_default-clause-piled : goal.further_item-returns-in_default-clause-piled
 further_item-returns-in_default-clause-piled g t c =
     piled_print g.P.Parts.items_left g.P.Parts.members_left g.O.Output.holds c.args.pile.now.items c.args.out c.put_items_end.result c.args.layout (λ s. items_laid c.args.is_begun s (items_from (g.P.Parts.items_left c.args.items)))
-    (λ s l. subst (λ left. AppendsText g.O.Output.holds c.args.out c.put_items_end.result (items_laid c.args.is_begun s (items_from left))) (sym c.in_default.ensures.0) (c.put_items_end.ensures s l))
+    (λ s l. subst (λ pile_weight. AppendsText g.O.Output.holds c.args.out c.put_items_end.result (items_laid c.args.is_begun s (items_from pile_weight))) (sym c.in_default.ensures.0) (c.put_items_end.ensures s l))
 
 pub further_item-returns-clause-piled : goal.further_item-returns-clause-piled
 further_item-returns-clause-piled g t c =
@@ -105,12 +105,12 @@ further_item-returns-clause-piled g t c =
     (λ s. items_mark c.args.is_begun ∷ gap s) (λ s. laid s (g.P.Parts.tree_of c.in-Some.item)) (λ s. items_laid c.args.is_begun s (items_from (g.P.Parts.items_left c.args.items)))
     c.deeper-inner.ensures c.put_before_item-out.ensures
     (subst (λ p. PilesUp items members holds p c.put_before_item-out.result c.print_part.new.pile.items c.print_part.result c.deeper-inner.result (λ s. laid s (g.P.Parts.tree_of c.in-Some.item))) put c.print_part.ensures.piled)
-    (λ s. ap (λ left. items_laid c.args.is_begun s (items_from left)) c.in-Some.ensures ∙ items_laid-item c.args.is_begun s (g.P.Parts.tree_of c.in-Some.item) (items_from (g.P.Parts.items_left c.next_item.new.items)))
+    (λ s. ap (λ pile_weight. items_laid c.args.is_begun s (items_from pile_weight)) c.in-Some.ensures ∙ items_laid-item c.args.is_begun s (g.P.Parts.tree_of c.in-Some.item) (items_from (g.P.Parts.items_left c.next_item.new.items)))
 
 pub further_member-returns-in_default-clause-piled : goal.further_member-returns-in_default-clause-piled
 further_member-returns-in_default-clause-piled g t c =
     piled_print g.P.Parts.items_left g.P.Parts.members_left g.O.Output.holds c.args.pile.now.items c.args.out c.put_members_end.result c.args.layout (λ s. members_laid c.args.is_begun s (members_from (g.P.Parts.members_left c.args.members)))
-    (λ s l. subst (λ left. AppendsText g.O.Output.holds c.args.out c.put_members_end.result (members_laid c.args.is_begun s (members_from left))) (sym c.in_default.ensures.0) (c.put_members_end.ensures s l))
+    (λ s l. subst (λ pile_weight. AppendsText g.O.Output.holds c.args.out c.put_members_end.result (members_laid c.args.is_begun s (members_from pile_weight))) (sym c.in_default.ensures.0) (c.put_members_end.ensures s l))
 
 pub further_member-returns-clause-piled : goal.further_member-returns-clause-piled
 further_member-returns-clause-piled g t c =
@@ -123,7 +123,7 @@ further_member-returns-clause-piled g t c =
     (λ s. (members_mark c.args.is_begun ∷ gap s) ++ (quoted (g.P.Parts.key_of c.in-Some.key) ++ colon s)) (λ s. laid s (g.P.Parts.tree_of c.in-Some.value)) (λ s. members_laid c.args.is_begun s (members_from (g.P.Parts.members_left c.args.members)))
     c.deeper-inner.ensures c.put_before_member-out.ensures
     (subst (λ p. PilesUp items members holds p c.put_before_member-out.result c.print_part.new.pile.items c.print_part.result c.deeper-inner.result (λ s. laid s (g.P.Parts.tree_of c.in-Some.value))) put c.print_part.ensures.piled)
-    (λ s. ap (λ left. members_laid c.args.is_begun s (members_from left)) c.in-Some.ensures ∙ members_laid-member c.args.is_begun s (g.P.Parts.key_of c.in-Some.key) (g.P.Parts.tree_of c.in-Some.value) (members_from (g.P.Parts.members_left c.next_member.new.members)))
+    (λ s. ap (λ pile_weight. members_laid c.args.is_begun s (members_from pile_weight)) c.in-Some.ensures ∙ members_laid-member c.args.is_begun s (g.P.Parts.key_of c.in-Some.key) (g.P.Parts.tree_of c.in-Some.value) (members_from (g.P.Parts.members_left c.next_member.new.members)))
 
 pub print_ahead-returns-in-Items : goal.print_ahead-returns-in-Items
 print_ahead-returns-in-Items g t c s l =

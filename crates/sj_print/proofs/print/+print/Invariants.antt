@@ -4,7 +4,7 @@ use Rattle.sj_print.specs.Layouts.{IsLayout, laid}
 use Rattle.sj_print.specs.inner.Layouts.{items_end, members_end}
 use Rattle.sj_print.specs.Outputs.{HoldsText}
 use Rattle.sj_print.specs.inner.Outputs.{Towards}
-use Rattle.sj_print.specs.inner.Piles.{weight, items_weight, members_weight, ahead_tree, ahead_weight, left, rest, inner, AreLaid, open_weight}
+use Rattle.sj_print.specs.inner.Piles.{weight, items_weight, members_weight, ahead_tree, ahead_weight, pile_weight, laid_rest, inner, AreLaid, open_weight}
 use Rattle.sj_print.proofs.print.+print.Given as goal
 
 abbrev pub decreases-print_within : goal.decreases-print_within
@@ -57,12 +57,12 @@ decreases-further_member g l = 4 * members_weight (members_from (g.P.Parts.membe
 
 abbrev pub invariant-print_piled-loop-opened : goal.invariant-print_piled-loop-opened
 invariant-print_piled-loop-opened g l = record {
-  within : left g.P.Parts.items_left g.P.Parts.members_left l.pile.items ≤ ahead_weight g.P.Parts.items_left g.P.Parts.members_left l.fn.ahead + 1;
-  put : (s : Option ℕ) → IsLayout l.fn.layout s → AreLaid s l.pile.items × Towards (HoldsText g.O.Output.holds) l.fn.out l.out (rest g.P.Parts.items_left g.P.Parts.members_left s l.pile.items) (laid s (ahead_tree g.P.Parts.items_left g.P.Parts.members_left l.fn.ahead));
+  within : pile_weight g.P.Parts.items_left g.P.Parts.members_left l.pile.items ≤ ahead_weight g.P.Parts.items_left g.P.Parts.members_left l.fn.ahead + 1;
+  put : (s : Option ℕ) → IsLayout l.fn.layout s → AreLaid s l.pile.items × Towards (HoldsText g.O.Output.holds) l.fn.out l.out (laid_rest g.P.Parts.items_left g.P.Parts.members_left s l.pile.items) (laid s (ahead_tree g.P.Parts.items_left g.P.Parts.members_left l.fn.ahead));
 }
 
 abbrev pub decreases-print_piled-loop-opened : goal.decreases-print_piled-loop-opened
-decreases-print_piled-loop-opened g l = left g.P.Parts.items_left g.P.Parts.members_left l.pile.items
+decreases-print_piled-loop-opened g l = pile_weight g.P.Parts.items_left g.P.Parts.members_left l.pile.items
 
 abbrev pub decreases-pile_items : goal.decreases-pile_items
 decreases-pile_items g l = 4 * items_weight (items_from (g.P.Parts.items_left l.items)) + 5

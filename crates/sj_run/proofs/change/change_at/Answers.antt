@@ -1,5 +1,5 @@
 use Rattle.std.proofs.Common.{map}
-use Rattle.sj_document.specs.Document.{tree}
+use Rattle.sj_document.specs.Document.{document_tree}
 use Rattle.sj_run.specs.inner.Asked.{write_meant}
 use Rattle.sj_commands.specs.Meant.{step_meant}
 use Rattle.sj_run.proofs.Kept.{kept_reply, kept_after, kept_refused, short_write}
@@ -15,5 +15,5 @@ returns g c =
       reply = kept_reply t p w v _ c.edit_at.result c.edit_at.ensures;
       after = kept_after t p w v _ c.edit_at.result c.edit_at.ensures;
       refused = kept_refused t p w v _ c.edit_at.result c.edit_at.ensures;
-      short = short_write p w (tree t v);
+      short = short_write p w (document_tree t v);
     }

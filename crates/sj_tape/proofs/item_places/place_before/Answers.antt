@@ -4,7 +4,7 @@ use Rattle.sj_text_core.specs.Tree.{items_len}
 use Rattle.sj_tape.specs.Marks.{packed_marks}
 use Rattle.sj_tape.specs.Parts.{items_in}
 use Rattle.sj_tape.specs.inner.Parts.{ItemsFrom}
-use Rattle.sj_tape.specs.inner.Places.{IsPlaced, item_at}
+use Rattle.sj_tape.specs.inner.Places.{IsArrayPlaced, item_at}
 use Rattle.sj_tape.proofs.ItemPlaces.{item_from}
 use Rattle.sj_tape.proofs.item_places.place_before.Goals as goal
 
@@ -14,7 +14,7 @@ returns-clause-there c =
     let array = c.index-arrays-index.result in
     let part = drop c.args.start (take c.args.end ns) in
     let kept = c.min-kept.result - 1 in
-    let placed : IsPlaced ns array = subst (λ a. IsPlaced ns a) (sym c.index-arrays-index.is) (c.requires.placed c.index_of-index.result array (omega (arith, c.if-index-arrays.false))) in
+    let placed : IsArrayPlaced ns array = subst (λ a. IsArrayPlaced ns a) (sym c.index-arrays-index.is) (c.requires.placed c.index_of-index.result array (omega (arith, c.if-index-arrays.false))) in
     let same : part ≡ drop array.start (take array.end ns) =
     ap (λ k. drop k (take c.args.end ns)) (sym c.if-array-start.false) ∙ ap (λ k. drop array.start (take k ns)) (omega (arith, c.if-array-end.false)) in
     let within : kept < length array.places.items = search rules in

@@ -2,7 +2,7 @@ use Rattle.std.proofs.Common.{rules, ◌≡◌, ◌+◌, ◌*◌, ◌≤◌, ◌
 use Rattle.sj_text_core.specs.Tree.{members_len}
 use Rattle.sj_text_core.specs.Nodes.{members_in}
 use Rattle.sj_tape.specs.Marks.{packed_marks}
-use Rattle.sj_tape.specs.inner.Tags.{member_at}
+use Rattle.sj_tape.specs.inner.Tags.{member_node}
 use Rattle.sj_tape.proofs.MemberPlaces.{member_from, one_member_place, placed_with}
 use Rattle.sj_tape.proofs.key_tags.tags_between.Goals as goal
 
@@ -14,8 +14,8 @@ loop-tags-preserved c =
     let pushed : c.push.new.self.items ≡ l.places.items ++ l.at ∷ [] = search rules in
     let long : length c.push.new.self.items ≡ length l.places.items + 1 = ap length pushed ∙ length-append l.places.items (l.at ∷ []) in
     let steps : passed ≡ length l.places.items * 64 = omega (arith, l.invariant.count, c.len.ensures, c.loop-tags-test.true) in
-    let here : l.at ≡ member_at ns (length l.places.items * 64) =
-    one_member_place ns passed l.at (member_at ns passed) l.invariant.from (member_from ns c.requires.are passed (omega (arith, c.len.ensures, c.loop-tags-test.true, c.requires.counted))) ∙ ap (member_at ns) steps in
+    let here : l.at ≡ member_node ns (length l.places.items * 64) =
+    one_member_place ns passed l.at (member_node ns passed) l.invariant.from (member_from ns c.requires.are passed (omega (arith, c.len.ensures, c.loop-tags-test.true, c.requires.counted))) ∙ ap (member_node ns) steps in
     record {
       from = c.in_ok-place.ensures.from;
       count = omega (arith, long, steps, c.min.ensures, c.len.ensures, c.len-in-loop-tags-2.ensures, c.len-in-loop-tags-3.ensures, c.in_ok-place.ensures.all, c.loop-tags-test.true);
@@ -33,5 +33,5 @@ returns-clause-tagged c =
       tags = l.invariant.tagged;
       count = omega (arith, l.invariant.count);
       places = l.invariant.there;
-      rest = one_member_place ns (length l.tags.items) l.at (member_at ns (length l.tags.items)) l.invariant.from (member_from ns c.requires.are (length l.tags.items) few);
+      rest = one_member_place ns (length l.tags.items) l.at (member_node ns (length l.tags.items)) l.invariant.from (member_from ns c.requires.are (length l.tags.items) few);
     }

@@ -1,6 +1,6 @@
 use Rattle.std.proofs.Common.{rules, ◌≡◌, Bool, true, false, List, [], ◌∷◌, refl, string_bytes}
 use Rattle.sj_text_core.specs.Tree.{Tree}
-use Rattle.sj_document.specs.Document.{tree}
+use Rattle.sj_document.specs.Document.{document_tree}
 use Rattle.std.specs.List.{list_all}
 use Rattle.sjconf.specs.Demands.{AllMet, Judged}
 use Rattle.sjconf.specs.declared.demand.Demand.{Demand}
@@ -16,4 +16,4 @@ all-met t (d ∷ ds) (false ∷ bs) js e = cc
 pub returns : goal.returns
 returns c =
     let all : list_all (λ b. b) c.in_ok-verdicts.verdicts.items ≡ true = search (rules, c.are_true.ensures, c.deref.ensures, c.if-not-are_true.false) in
-    all-met (tree string_bytes c.args.made.whole.now) c.args.demands.now c.in_ok-verdicts.verdicts.items c.in_ok-verdicts.ensures all
+    all-met (document_tree string_bytes c.args.made.whole.now) c.args.demands.now c.in_ok-verdicts.verdicts.items c.in_ok-verdicts.ensures all

@@ -1,7 +1,7 @@
 use Rattle.std.proofs.Common.{rules, ◌≡◌, suc, length, map, List, [], ◌∷◌, Option, Some, None, string_bytes, refl, sym, ap, ◌∙◌}
 use Rattle.sj_text_core.specs.Tree.{Tree, null, boolean, int, text, list, obj, Items, items_len, items_from}
 use Rattle.sj_text_core.specs.Reads.{as_items}
-use Rattle.sj_document.specs.Document.{tree}
+use Rattle.sj_document.specs.Document.{document_tree}
 use Rattle.sjconf.specs.Demands.{length_in}
 use Rattle.sjconf.proofs.demand.length_of.Goals as goal
 
@@ -20,7 +20,7 @@ items-length (obj ms) is e = cc
 pub returns-in_ok-as_array-in-None : goal.returns-in_ok-as_array-in-None
 returns-in_ok-as_array-in-None c =
     let vs = c.in_ok-as_array-in-None.field-0.now.items in
-    let t = tree string_bytes c.args.value.now in
-    let found : as_items t ≡ Some (items_from (map (tree string_bytes) vs)) = search (rules, c.as_array.ensures, c.in_ok-as_array-in-None.was) in
+    let t = document_tree string_bytes c.args.value.now in
+    let found : as_items t ≡ Some (items_from (map (document_tree string_bytes) vs)) = search (rules, c.as_array.ensures, c.in_ok-as_array-in-None.was) in
     let count : c.len.result ≡ length vs = search (rules, c.len.ensures) in
-    ap Some (count ∙ sym (items-count (tree string_bytes) vs)) ∙ sym (items-length t (items_from (map (tree string_bytes) vs)) found)
+    ap Some (count ∙ sym (items-count (document_tree string_bytes) vs)) ∙ sym (items-length t (items_from (map (document_tree string_bytes) vs)) found)

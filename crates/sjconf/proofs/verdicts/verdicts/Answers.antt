@@ -2,7 +2,7 @@ use Rattle.std.proofs.Common.{◌≡◌, ◌+◌, take, Bool, List, [], ◌∷�
 use Rattle.std.proofs.lemmas.List.{take_more}
 use Rattle.std.specs.Prelude.{◌↔◌, IsTrue}
 use Rattle.sj_text_core.specs.Tree.{Tree}
-use Rattle.sj_document.specs.Document.{tree}
+use Rattle.sj_document.specs.Document.{document_tree}
 use Rattle.sjconf.specs.Demands.{Judged, IsMet}
 use Rattle.sjconf.specs.declared.demand.Demand.{Demand}
 use Rattle.sjconf.proofs.verdicts.verdicts.Goals as goal
@@ -15,7 +15,7 @@ judged-append t (x ∷ ds) (y ∷ bs) d b js j = (js.0, judged-append t ds bs d 
 
 pub loop-demand-preserved : goal.loop-demand-preserved
 loop-demand-preserved c =
-    let t = tree string_bytes c.args.document.now in
+    let t = document_tree string_bytes c.args.document.now in
     let i = c.loop-demand.demand-index in
     let ds = c.args.demands.now in
     let d = c.demand-item.result in

@@ -1,7 +1,7 @@
 use Rattle.std.proofs.Common.{rules, ◌≡◌, ◌+◌, take, map, List, [], ◌∷◌, ◌++◌, string_bytes, sym, ap, ◌∙◌, subst, arith}
 use Rattle.std.proofs.lemmas.List.{take_more, map-append}
 use Rattle.sj_text_core.specs.Tree.{Tree}
-use Rattle.sj_document.specs.Document.{tree}
+use Rattle.sj_document.specs.Document.{document_tree}
 use Rattle.sjconf.specs.Layers.{AreRead, IsRead}
 use Rattle.sjconf.specs.declared.input.Layer.{Layer}
 use Rattle.sjconf.proofs.whole.documents.Goals as goal
@@ -18,7 +18,7 @@ loop-layer-preserved c =
     let ls = c.args.layers.now in
     let l = c.layer-item.result in
     let vs = c.loop-layer.documents.items in
-    let meant = tree string_bytes in
+    let meant = document_tree string_bytes in
     let v = c.in_ok-document.field-0 in
     let more : take (i + 1) ls ≡ take i ls ++ l ∷ [] =
     take_more ls i l (search rules) ∙ ap (λ (x : Layer). take i ls ++ x ∷ []) (sym (search (rules, c.layer-item.is))) in

@@ -1,7 +1,7 @@
 use Rattle.std.proofs.Common.{ℕ, suc, Result, subst, ◌∙◌, inl, inr}
 use Rattle.sj_lines.specs.Lines.{full_lines, numbered}
-use Rattle.sj_tape.specs.Value.{tree}
-use Rattle.sj_stream.specs.Answers.{IsRead, line_of}
+use Rattle.sj_tape.specs.Value.{tape_tree}
+use Rattle.sj_stream.specs.Answers.{IsRead, answer_line}
 use Rattle.sj_stream.specs.Stream.{waiting, current}
 use Rattle.sj_stream.specs.declared.unread.Unread.{Unread}
 use Rattle.sjroute.proofs.Runs.{goes-on, taken-text, is-message, is-broken}
@@ -14,10 +14,10 @@ loop-step-preserved-in-Some-value c =
     let next = taken-text c.loop-step.stream new text c.in-Some.step c.loop-step.invariant.told c.in-Some-text.ensures c.in-Some.ensures.some in
     let read = subst (λ (a : Result ℕ Unread). IsRead text a (current new)) c.in-Ok.is next.1 in
     let put = c.in_ok-is_met-in-Ok.ensures in
-    let one = is-message text c.in-Ok.field-0 (current new) (tree c.in-Some-value.message) c.loop-step.routes c.put_message.new.routes c.in_ok-is_met-in-Ok.is_met read c.in-Some-value.ensures.tree put.any put.taken in
+    let one = is-message text c.in-Ok.field-0 (current new) (tape_tree c.in-Some-value.message) c.loop-step.routes c.put_message.new.routes c.in_ok-is_met-in-Ok.is_met read c.in-Some-value.ensures.tree put.any put.taken in
     record {
       told = c.advance.ensures.tells ∙ c.loop-step.invariant.told;
-      on = goes-on (numbered (suc c.args.before) (full_lines c.args.piece.now)) c.args.routes.now (line_of c.in-Some.step, text) (waiting c.loop-step.stream) (waiting new) c.loop-step.routes c.put_message.new.routes c.loop-step.invariant.on next.0 (inl one);
+      on = goes-on (numbered (suc c.args.before) (full_lines c.args.piece.now)) c.args.routes.now (answer_line c.in-Some.step, text) (waiting c.loop-step.stream) (waiting new) c.loop-step.routes c.put_message.new.routes c.loop-step.invariant.on next.0 (inl one);
     }
 
 pub loop-step-preserved : goal.loop-step-preserved
@@ -30,5 +30,5 @@ loop-step-preserved c =
     let one = is-broken text c.in-Err.unread (current new) c.loop-step.routes c.take_broken.new.routes read taken.known taken.taken in
     record {
       told = c.advance.ensures.tells ∙ c.loop-step.invariant.told;
-      on = goes-on (numbered (suc c.args.before) (full_lines c.args.piece.now)) c.args.routes.now (line_of c.in-Some.step, text) (waiting c.loop-step.stream) (waiting new) c.loop-step.routes c.take_broken.new.routes c.loop-step.invariant.on next.0 (inr one);
+      on = goes-on (numbered (suc c.args.before) (full_lines c.args.piece.now)) c.args.routes.now (answer_line c.in-Some.step, text) (waiting c.loop-step.stream) (waiting new) c.loop-step.routes c.take_broken.new.routes c.loop-step.invariant.on next.0 (inr one);
     }

@@ -1,6 +1,6 @@
 use Rattle.std.proofs.Common.{rules, ◌≡◌, true, ◌+◌, get_or, ap, arith, sym, subst, Bool, take}
 use Rattle.std.specs.Prelude.{◌↔◌, IsTrue}
-use Rattle.sj_tape.specs.Value.{tree}
+use Rattle.sj_tape.specs.Value.{tape_tree}
 use Rattle.sjroute.specs.Routed.{MeetsAny, MeetsRule, line_to}
 use Rattle.sjroute.proofs.Takings.{step-taken, taken-so, taken-not, any-step, any-then, any-else, not-both}
 use Rattle.sjroute.proofs.routing.put_met.Goals.{then-is_met+in_ok-put, else-is_met}
@@ -13,7 +13,7 @@ loop-route-preserved c =
     let qs = c.loop-route.routes in
     let d = c.route-item.result in
     let r = get_or qs i d in
-    let t = tree c.args.message in
+    let t = tape_tree c.args.message in
     let f = line_to c.args.text.now t in
     let at : d ≡ r = search (rules, c.route-item.is) in
     let is : r ≡ get_or qs i r = ap (λ x. get_or qs i x) at in

@@ -1,5 +1,5 @@
 use Rattle.std.proofs.Common.{rules, ◌≡◌, get_or, ap, arith}
-use Rattle.sj_tape.specs.Value.{tree}
+use Rattle.sj_tape.specs.Value.{tape_tree}
 use Rattle.sjroute.specs.Routed.{IsUnmet, line_to}
 use Rattle.sjroute.proofs.Takings.{step-taken, taken-so, taken-not, not-both}
 use Rattle.sjroute.proofs.routing.put_unmet.Goals.{then-is_unmet+in_ok-put, else-is_unmet}
@@ -12,7 +12,7 @@ loop-route-preserved c =
     let qs = c.loop-route.routes in
     let d = c.route-item.result in
     let r = get_or qs i d in
-    let f = (line_to c.args.text.now (tree c.args.message)) in
+    let f = (line_to c.args.text.now (tape_tree c.args.message)) in
     let at : d ≡ r = search (rules, c.route-item.is) in
     let is : r ≡ get_or qs i r = ap (λ x. get_or qs i x) at in
     let inv = c.loop-route.invariant in

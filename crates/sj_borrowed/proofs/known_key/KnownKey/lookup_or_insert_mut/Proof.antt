@@ -58,9 +58,9 @@ use Rattle.sj_text_core.specs.Tree.{obj}
 use Rattle.sj_text_core.specs.Reads.{as_members, kind_of}
 use Rattle.sj_text_core.specs.Find.{find}
 use Rattle.sj_object.specs.Members.{entry_members}
-use Rattle.sj_object.specs.Edits.{lookup, position, put, value_at, with_value_at}
-use Rattle.sj_document.specs.Document.{tree, with_member}
-use Rattle.sj_borrowed.specs.Inserts.{why_of, why_in, IsCopy}
+use Rattle.sj_object.specs.Edits.{lookup, position, put_entry, nth_value, with_value_at}
+use Rattle.sj_document.specs.Document.{document_tree, with_member}
+use Rattle.sj_borrowed.specs.Inserts.{known_fault, why_in, IsCopy}
 use Rattle.sj_document.specs.declared.value.Document.{Document}
 use Rattle.sj_object.specs.Lends.{KeyMembers}
 use Rattle.sj_document.specs.Rows.{document_row, object_row}
@@ -147,13 +147,13 @@ lookup_or_insert_mut_spec {M} 𝓤 𝓛 𝓜 𝓡 wired F LF g-F gd Fd P met-F g
     let κs = y.0.0 in let qs = y.0.1 in let bounds = y.0.2 in let a = y.0.3 in let vss = y.0.4 in
     let κv = κs.1.0 in let qv = qs.1.0 in let ℓv = named_lft 5 1 tt κs in
     let D = document_row (Text ℓv) keyed in let O = object_row (Text ℓv) keyed in
-    let key = cow_str_bytes a.1.0.now in let u = tree t a.0.now in let with = a.1.1.0 in
+    let key = cow_str_bytes a.1.0.now in let u = document_tree t a.0.now in let with = a.1.1.0 in
     let Known = known.the_row (named_lft 5 3 tt κs) in let Lent = result.the_row (MutRef (named 0) κs.0 O) E in let Answer = result.the_row (MutRef (named 0) κs.0 D) E in
     let LE = fault_laws.the_row_laws.lawful 𝓛 in
     let told = mut_Tells (named 0) κs.0 D a.0 vss.0 are.0 in let told' = shr_Tells (named 2) κs.1.1.0 Known a.1.0 vss.1.0 are.1.0 in
     let one = typed_one (layout F) vss.1.1.0 (((param_laws 0 F LF).lawful 𝓛).typed with vss.1.1.0 are.1.1.0) in
-    let Left = λ (r : Result (MutBor (Map (CowStr Global))) Error). follows_so D O a.0.ghost_name (name_if_ok (λ x. x.ghost_name) r) (λ w n. IsOk r → tree t n ≡ obj (entry_members (tree t) w.entries)) (λ n. OnErr r (tree t n ≡ u)) in
-    let Then = λ (r : Result (MutBor (Document (CowStr Global))) Error). follows_so D D a.0.ghost_name (name_if_ok (λ x. x.ghost_name) r) (λ w n. IsOk r → tree t n ≡ with_member key (tree t w) u) (λ n. OnErr r (tree t n ≡ u)) in
+    let Left = λ (r : Result (MutBor (Map (CowStr Global))) Error). follows_so D O a.0.ghost_name (name_if_ok (λ x. x.ghost_name) r) (λ w n. IsOk r → document_tree t n ≡ obj (entry_members (document_tree t) w.entries)) (λ n. OnErr r (document_tree t n ≡ u)) in
+    let Then = λ (r : Result (MutBor (Document (CowStr Global))) Error). follows_so D D a.0.ghost_name (name_if_ok (λ x. x.ghost_name) r) (λ w n. IsOk r → document_tree t n ≡ with_member key (document_tree t w) u) (λ n. OnErr r (document_tree t n ≡ u)) in
     let A = Passed ℓv in let LA = arg_laws (bare (layout (Text ℓv))) no (Text ℓv) (cow_laws.the_row_laws ℓv heap.the_row allocator.ghosts heap_laws.the_row_laws) refl in
     let eG = total.ghosts Heap allocator.ghosts allocator.dict lets_go in let ed = total.dict Heap allocator.ghosts allocator.dict lets_go in let pG = equal.ghosts Heap allocator.ghosts allocator.dict lets_go in let pd = equal.dict Heap allocator.ghosts allocator.dict lets_go in
     let met-A = allocator-met.passed 𝓡.env (code.calls-std_heap::GlobalAllocator::allocate 𝓡.env wired) (code.calls-std_heap::GlobalAllocator::deallocate 𝓡.env wired) (code.calls-std_heap::GlobalAllocator::grow 𝓡.env wired) (code.calls-std_heap::GlobalAllocator::shrink 𝓡.env wired) M 𝓤 𝓛 𝓜 𝓡 in
@@ -178,7 +178,7 @@ lookup_or_insert_mut_spec {M} 𝓤 𝓛 𝓜 𝓡 wired F LF g-F gd Fd P met-F g
     -- [what the call asks; key; with; the tokens of the key's reference, of the key and of F]
     calls_at ! (framed 𝓤 𝓛.H 𝓜 𝓣) G (g-met.met 𝓤 𝓛 𝓜 𝓡 (code.calls-sj_borrowed::known_key::or_insert::members_of 𝓡.env wired) A LA text.ghosts text.dict eG ed pG pd met-k met-e met-p) z (and_then ! (get ! refl) (no_more !)) (λ v.
     use1 𝓛 (later (some (λ (r : Result (MutBor (Map (CowStr Global))) Error). ((‵ (flft κs.0 qs.0) ⊛ ‵ (flft κv qv) ⊛ ‵ ftrue) ⊛ ‵ (Lent.own_val r (v ∷ []))) ⊛
-    some (λ (ends : Unit {0} × Unit {0}). ‵ (lasts (g.ended A text.ghosts text.dict eG ed pG pd) z.0.0 z.0.3 ends) ⊛ (‵ (Left r) ⊛ raw (fact 𝓤 (IfOk r (λ m. Some (entry_members (tree t) m.now.entries) ≡ as_members u))) ⊛ raw (fact 𝓤 (IfErr r (λ why. why ≡ NotAnObject (kind_of u)))) ⊛ raw (fact 𝓤 (OnErr r (as_members u ≡ None)))))))) (id⊢ 𝓤 _) $
+    some (λ (ends : Unit {0} × Unit {0}). ‵ (lasts (g.ended A text.ghosts text.dict eG ed pG pd) z.0.0 z.0.3 ends) ⊛ (‵ (Left r) ⊛ raw (fact 𝓤 (IfOk r (λ m. Some (entry_members (document_tree t) m.now.entries) ≡ as_members u))) ⊛ raw (fact 𝓤 (IfErr r (λ why. why ≡ NotAnObject (kind_of u)))) ⊛ raw (fact 𝓤 (OnErr r (as_members u ≡ None)))))))) (id⊢ 𝓤 _) $
     await ! tt $ pick ! (λ r. split ! $ split ! $ split ! $ move ! (1 ∷ []) $ split ! $ move ! (4 ∷ []) $ pick ! (λ ends. split ! $ drop ! $ split ! $ move ! (1 ∷ []) $ split ! $ heard ! _ (λ shown. split ! $ heard ! _ (λ kind-r. heard ! _ (λ refused.
     move ! (2 ∷ []) $ drop ! $ move ! (3 ∷ []) $
     -- [what r owns; what the call says; the tokens of the text and target; key; with; the three others]
@@ -187,7 +187,7 @@ lookup_or_insert_mut_spec {M} 𝓤 𝓛 𝓜 𝓡 wired F LF g-F gd Fd P met-F g
     (λ m xs is_ok spelled.
     peeks ! (MutRef (named 0) κs.0 O) _ (shows 𝓛 (MutRef (named 0) κs.0 O)) m xs (λ is.
     let told-m = mut_Tells (named 0) κs.0 O m xs is in let γ = m.ghost_name in let b = m.ref_ptr.0 in let o = m.ref_ptr.1 in let vs = mut_vals m in
-    let at : Some (entry_members (tree t) m.now.entries) ≡ as_members u = subst (λ (r : Result (MutBor (Map (CowStr Global))) Error). IfOk r (λ m. Some (entry_members (tree t) m.now.entries) ≡ as_members u)) is_ok shown in
+    let at : Some (entry_members (document_tree t) m.now.entries) ≡ as_members u = subst (λ (r : Result (MutBor (Map (CowStr Global))) Error). IfOk r (λ m. Some (entry_members (document_tree t) m.now.entries) ≡ as_members u)) is_ok shown in
     rewrite ! 0 (λ (vs : List Val). ‵ ((MutRef (named 0) κs.0 O).own_val m vs)) told-m refl $ rewrite ! 1 (λ (r : Result (MutBor (Map (CowStr Global))) Error). ‵ (Left r)) is_ok refl $
     lands_as ! (ap only spelled ∙ ap (λ (vs : List Val). live 0 (of_list (vs ++ []))) told-m) refl (tt, (record { fits = lit< tt }, (tt, tt))) $
     first ! $ by_variants ! 23 (whole !) (get_tag ! (vrt ! refl (fld ! refl (stop !))) (whole !)) tt (
@@ -212,7 +212,7 @@ lookup_or_insert_mut_spec {M} 𝓤 𝓛 𝓜 𝓡 wired F LF g-F gd Fd P met-F g
           calls_at ! (framed 𝓤 𝓛.H 𝓜 𝓣) H (h-met.met 𝓤 𝓛 𝓜 𝓡 (code.calls-sj_borrowed::known_key::or_insert::place_or_put 𝓡.env wired) F LF g-F gd Fd P' met-F' glue-F) z' (and_then ! (get ! refl) (and_then ! (get ! refl) (and_then ! (get ! refl) (no_more !)))) (λ v'.
           use1 𝓛 (later (some (λ (place : Result ℕ Error). ((‵ (flft κ' p.1) ⊛ ‵ (flft κv qr) ⊛ ‵ (flft κs.1.1.0 qs.1.1.0) ⊛ ‵ (flft κs.1.1.1.0 qs.1.1.1.0) ⊛ ‵ (flft κs.1.1.1.1.0 qs.1.1.1.1.0) ⊛ ‵ ftrue) ⊛ ‵ ((result.the_row usize E).own_val place (v' ∷ []))) ⊛
           some (λ (ends' : Map (CowStr Global) × (Unit {0} × (Unit {0} × Unit {0}))). ‵ (lasts (h.ended F g-F gd Fd P') z'.0.0 z'.0.3 ends') ⊛ (raw (fact 𝓤 (IfOk place (λ i. position key ends'.0.entries ≡ Some i))) ⊛ raw (fact 𝓤 (IsSome (lookup key m.now.entries) → (ends'.0 ≡ m.now) × IsOk place))
-          ⊛ raw (fact 𝓤 (lookup key m.now.entries ≡ None → OnOk place ((copy : CowStr Global) × (v : Document (CowStr Global)) × IsCopy a.1.0.now copy × g-F.post with tt v × (ends'.0.entries ≡ put (copy, key) v m.now.entries)))) ⊛ raw (fact 𝓤 (OnErr place (ends'.0 ≡ m.now))) ⊛ raw (fact 𝓤 (IfErr place (λ why. why ≡ OutOfMemory)))))))) (id⊢ 𝓤 _) $
+          ⊛ raw (fact 𝓤 (lookup key m.now.entries ≡ None → OnOk place ((copy : CowStr Global) × (v : Document (CowStr Global)) × IsCopy a.1.0.now copy × g-F.post with tt v × (ends'.0.entries ≡ put_entry (copy, key) v m.now.entries)))) ⊛ raw (fact 𝓤 (OnErr place (ends'.0 ≡ m.now))) ⊛ raw (fact 𝓤 (IfErr place (λ why. why ≡ OutOfMemory)))))))) (id⊢ 𝓤 _) $
           await ! tt $ pick ! (λ place. split ! $ split ! $ move ! (2 ∷ []) $ pick ! (λ ends'. split ! $ move ! (1 ∷ []) $ split ! $ heard ! _ (λ placed. split ! $ heard ! _ (λ found. split ! $ heard ! _ (λ made. split ! $ heard ! _ (λ kept. heard ! _ (λ kind-place.
           let after' = ends'.0 in
           -- [what the loan ends as; the tokens; the place; what the lender keeps; the loan's end; what the first call says]
@@ -229,14 +229,14 @@ lookup_or_insert_mut_spec {M} 𝓤 𝓛 𝓜 𝓡 wired F LF g-F gd Fd P met-F g
           nothing ! $ move ! (1 ∷ 0 ∷ []) $ join ! $ move ! (2 ∷ 0 ∷ []) $ join ! $ nothing ! $ move ! (2 ∷ 0 ∷ []) $ join ! $ move ! (2 ∷ 0 ∷ []) $ join ! $ join ! $
           use0 𝓛 (given (IfOk place (λ i. i < length after'.entries)) (‵ ftrue)) (fact_i 𝓤 _ (emp 𝓤) (within key after' place placed)) $ use0 𝓛 (given (κv ⊑ A.lives) (‵ ftrue)) (fact_i 𝓤 _ (emp 𝓤) lives) $ join ! $ move ! (1 ∷ 0 ∷ []) $ use2 𝓛 (raw (V.pre z'')) (id⊢ 𝓤 _) $
           -- [what the call asks; the three other tokens; what the first call says]
-          calls_at_last ! (framed 𝓤 𝓛.H 𝓜 𝓣) V (j-met.met 𝓤 𝓛 𝓜 𝓡 (code.calls-sj_borrowed::known_key::or_insert::value_at 𝓡.env wired) A LA text.ghosts text.dict eG ed pG pd met-k met-e met-p) z'' (and_then ! (get ! refl) (and_then ! (get ! refl) (no_more !))) (λ v''.
+          calls_at_last ! (framed 𝓤 𝓛.H 𝓜 𝓣) V (j-met.met 𝓤 𝓛 𝓜 𝓡 (code.calls-sj_borrowed::known_key::or_insert::nth_value 𝓡.env wired) A LA text.ghosts text.dict eG ed pG pd met-k met-e met-p) z'' (and_then ! (get ! refl) (and_then ! (get ! refl) (no_more !))) (λ v''.
           use1 𝓛 (later (some (λ (q : Result (MutBor (Document (CowStr Global))) Error). ((‵ (flft κs.0 qs.0) ⊛ ‵ (flft κv qv) ⊛ ‵ ftrue) ⊛ ‵ (Answer.own_val q (v'' ∷ []))) ⊛
           some (λ (ends'' : Unit {0} × (Unit {0} × Unit {0})). ‵ (lasts (j.ended A text.ghosts text.dict eG ed pG pd) z''.0.0 z''.0.3 ends'') ⊛ (‵ (follows_so O D γ (name_if_ok (λ x. x.ghost_name) q) (λ w n. IsOk q → (i : ℕ) × (place ≡ Ok i) × (n ≡ with_value_at after' i w)) (λ n. OnErr q (n ≡ after')))
-          ⊛ raw (fact 𝓤 (IfOk q (λ v. (i : ℕ) × (place ≡ Ok i) × (value_at i after'.entries ≡ Some v.now)))) ⊛ raw (fact 𝓤 (IfErr q (λ why. place ≡ Err why)))))))) (id⊢ 𝓤 _) $
+          ⊛ raw (fact 𝓤 (IfOk q (λ v. (i : ℕ) × (place ≡ Ok i) × (nth_value i after'.entries ≡ Some v.now)))) ⊛ raw (fact 𝓤 (IfErr q (λ why. place ≡ Err why)))))))) (id⊢ 𝓤 _) $
           await ! tt $ pick ! (λ q. split ! $ split ! $ move ! (2 ∷ []) $ pick ! (λ ends''. split ! $ drop ! $ split ! $ move ! (1 ∷ []) $ split ! $ heard ! _ (λ value. heard ! _ (λ fault-q.
           let Copied = IsCopy a.1.0.now in let Gives = λ (v : Document (CowStr Global)). g-F.post with tt v in
           -- [what the last call says; its tokens; what q owns; the three other tokens; what the first call says]
-          move ! (4 ∷ 0 ∷ []) $ use2 𝓛 (‵ (Then q)) (lent_so 𝓛 D O D a.0.ghost_name γ _ _ (name_if_ok (λ x. x.ghost_name) q) (λ w n. IsOk q → (i : ℕ) × (place ≡ Ok i) × (n ≡ with_value_at after' i w)) (λ n. OnErr q (n ≡ after')) (λ w n. IsOk q → tree t n ≡ with_member key (tree t w) u) (λ n. OnErr q (tree t n ≡ u))
+          move ! (4 ∷ 0 ∷ []) $ use2 𝓛 (‵ (Then q)) (lent_so 𝓛 D O D a.0.ghost_name γ _ _ (name_if_ok (λ x. x.ghost_name) q) (λ w n. IsOk q → (i : ℕ) × (place ≡ Ok i) × (n ≡ with_value_at after' i w)) (λ n. OnErr q (n ≡ after')) (λ w n. IsOk q → document_tree t n ≡ with_member key (document_tree t w) u) (λ n. OnErr q (document_tree t n ≡ u))
           (λ w n' n put' lent' ok. lent' refl ∙ written t Copied Gives key m.now after' place q u at placed found made w n' (put' ok)) (λ n' n stays lent'. on_err q (λ same'. lent' refl ∙ same') (unwritten t Copied Gives key m.now after' place q u at kept fault-q n' stays))) $
           move ! (2 ∷ []) $ peeks ! Answer _ (shows 𝓛 Answer) q (v'' ∷ []) (λ is-q. let fits-q = ((result_lawful 𝓛 (MutRef (named 0) κs.0 D) E (mut_Lawful 𝓛 (named 0) κs.0 D) LE).typed q (v'' ∷ []) is-q).0 in
           lands_last ! refl fits-q $ exec ! 𝓣.C 𝓣.Λ (env fn.locals l) (after 3 fn.body) (at_ret _ (W.post y)) $
@@ -245,9 +245,9 @@ lookup_or_insert_mut_spec {M} 𝓤 𝓛 𝓜 𝓡 wired F LF g-F gd Fd P met-F g
           move ! (2 ∷ []) $ split ! $ move ! (1 ∷ []) $ split ! $ keep ! (3 ∷ 4 ∷ 2 ∷ 0 ∷ 5 ∷ []) $
           suffices ! _ (ends_at 𝓛 End hs c y v'' q (tt, (tt, (tt, tt))) (tt, (tt, (tt, tt)))) $
           nothing ! $ nothing ! $ fjoin ! $ nothing ! $ fjoin ! $ nothing ! $ fjoin ! $ join ! $ move ! (3 ∷ 4 ∷ []) $ join ! $ move ! (3 ∷ 0 ∷ []) $ join ! $ join ! $ frame ! $
-          use0 𝓛 (raw (fact 𝓤 (IsSome (find key u) → IsOk q))) (fact_i 𝓤 _ (emp 𝓤) (lends t Copied Gives key m.now after' place q u at found fault-q)) $ use0 𝓛 (raw (fact 𝓤 (IfErr q (λ why. why ≡ why_of u)))) (fact_i 𝓤 _ (emp 𝓤) (kind t Copied Gives key m.now after' place q u at kind-place fault-q)) $ join ! $
+          use0 𝓛 (raw (fact 𝓤 (IsSome (find key u) → IsOk q))) (fact_i 𝓤 _ (emp 𝓤) (lends t Copied Gives key m.now after' place q u at found fault-q)) $ use0 𝓛 (raw (fact 𝓤 (IfErr q (λ why. why ≡ known_fault u)))) (fact_i 𝓤 _ (emp 𝓤) (kind t Copied Gives key m.now after' place q u at kind-place fault-q)) $ join ! $
           use0 𝓛 (raw (fact 𝓤 (OnOk q (IsSome (as_members u))))) (fact_i 𝓤 _ (emp 𝓤) (object t Copied Gives key m.now after' place q u at)) $ join ! $ use0 𝓛 (raw (fact 𝓤 (find key u ≡ None → IfOk q (λ v. g-F.post with tt v.now)))) (fact_i 𝓤 _ (emp 𝓤) (made_value t Copied Gives key m.now after' place q u at placed made value)) $ join ! $
-          use0 𝓛 (raw (fact 𝓤 (IfSome (find key u) (λ b. IfOk q (λ v. tree t v.now ≡ b))))) (fact_i 𝓤 _ (emp 𝓤) (found_tree t Copied Gives key m.now after' place q u at placed found value)) $ join ! $ move ! (1 ∷ 0 ∷ []) $ join ! $ done !)))))))))))))))))),
+          use0 𝓛 (raw (fact 𝓤 (IfSome (find key u) (λ b. IfOk q (λ v. document_tree t v.now ≡ b))))) (fact_i 𝓤 _ (emp 𝓤) (found_tree t Copied Gives key m.now after' place q u at placed found value)) $ join ! $ move ! (1 ∷ 0 ∷ []) $ join ! $ done !)))))))))))))))))),
       ((λ one. absurd (suc-ne-zero 0 (sym one))), tt),
     )))
     (λ why ys is_err spelled.
@@ -276,11 +276,11 @@ lookup_or_insert_mut_spec {M} 𝓤 𝓛 𝓜 𝓡 wired F LF g-F gd Fd P met-F g
             lands_last ! refl (fits_as (spot_of 𝓤 𝓛.H (env fn.locals l) 14).0 (ap only unit) (tt, tt)) $ exec ! 𝓣.C 𝓣.Λ (env fn.locals l) (after 3 fn.body) (at_ret _ (W.post y)) $
             sets ! (of_opd ! (get ! refl)) refl fits' $ returns ! (look_at ! 0 refl) $ free_all ! refl $
             -- [the token of F; the answer; what the first call says; the tokens of the text and target; key; the tokens of its reference and of the key]
-            move ! (2 ∷ []) $ use1 𝓛 (‵ (Then failed)) (lent_none 𝓛 D O D a.0.ghost_name _ _ (λ w n. IsOk failed → tree t n ≡ with_member key (tree t w) u) (λ n. OnErr failed (tree t n ≡ u)) (λ w n x. not_ok (MutBor (Document (CowStr Global))) why) (λ n x. x)) $
+            move ! (2 ∷ []) $ use1 𝓛 (‵ (Then failed)) (lent_none 𝓛 D O D a.0.ghost_name _ _ (λ w n. IsOk failed → document_tree t n ≡ with_member key (document_tree t w) u) (λ n. OnErr failed (document_tree t n ≡ u)) (λ w n x. not_ok (MutBor (Document (CowStr Global))) why) (λ n x. x)) $
             keep ! (2 ∷ 0 ∷ 4 ∷ 3 ∷ 6 ∷ 7 ∷ 1 ∷ []) $
             suffices ! _ (ends_at 𝓛 End hs c y (live 1 (of_list (word.0 ∷ []))) failed (tt, (tt, (tt, tt))) (tt, (tt, (tt, tt)))) $
             nothing ! $ nothing ! $ fjoin ! $ nothing ! $ fjoin ! $ nothing ! $ fjoin ! $ join ! $ nothing ! $ move ! (7 ∷ 0 ∷ []) $ join ! $ move ! (6 ∷ 0 ∷ []) $ join ! $ move ! (5 ∷ 0 ∷ []) $ join ! $ move ! (4 ∷ 0 ∷ []) $ join ! $ move ! (3 ∷ 0 ∷ []) $ join ! $ join ! $ frame ! $
-            use0 𝓛 (raw (fact 𝓤 (IsSome (find key u) → IsOk failed))) (fact_i 𝓤 _ (emp 𝓤) (λ h. absurd (none_there (find key u) (no_members_found key u (sym absent')) h))) $ use0 𝓛 (raw (fact 𝓤 (why ≡ why_of u))) (fact_i 𝓤 _ (emp 𝓤) (kind-why ∙ ap (why_in (kind_of u)) (sym absent'))) $ join ! $
+            use0 𝓛 (raw (fact 𝓤 (IsSome (find key u) → IsOk failed))) (fact_i 𝓤 _ (emp 𝓤) (λ h. absurd (none_there (find key u) (no_members_found key u (sym absent')) h))) $ use0 𝓛 (raw (fact 𝓤 (why ≡ known_fault u))) (fact_i 𝓤 _ (emp 𝓤) (kind-why ∙ ap (why_in (kind_of u)) (sym absent'))) $ join ! $
             use0 𝓛 (raw (fact 𝓤 (Unit {0}))) (fact_i 𝓤 _ (emp 𝓤) tt) $ join ! $ use0 𝓛 (raw (fact 𝓤 (find key u ≡ None → Unit {0}))) (fact_i 𝓤 _ (emp 𝓤) (λ h. tt)) $ join ! $
             use0 𝓛 (raw (fact 𝓤 (IfSome (find key u) (λ b. Unit {0})))) (fact_i 𝓤 _ (emp 𝓤) (some_any (find key u))) $ join ! $ move ! (1 ∷ 0 ∷ []) $ join ! $ done !))))),
         tt,

@@ -4,11 +4,11 @@ use Rattle.sj_text_core.specs.Tree.{Tree}
 use Rattle.sj_text_core.specs.Grammar.{Spells}
 use Rattle.sj_text_core.specs.Keep.{keep}
 use Rattle.sj_text_core.specs.Repeats.{keep_by}
-use Rattle.sj_tape.specs.Value.{part}
+use Rattle.sj_tape.specs.Value.{tape_part}
 use Rattle.sj_commands.specs.Commands.{PlainCommand, bad}
 use Rattle.sj_commands.specs.CommandLines.{IsCommandOf, command_in}
 use Rattle.sj_commands.specs.Meant.{command_meant}
-use Rattle.sj_commands.specs.inner.Parts.{kept}
+use Rattle.sj_commands.specs.inner.Parts.{kept_part}
 use Rattle.sj_commands.specs.declared.command.Command.{Command}
 use Rattle.sj_commands.proofs.CommandLemmas.{reads_tree, reads_one, reads_bad, reads_bad_only}
 use Rattle.sj_text_core.proofs.Unread.{unreadable}
@@ -18,7 +18,7 @@ pub returns-in-Ok-clause-is : goal.returns-in-Ok-clause-is
 returns-in-Ok-clause-is c =
     let b = c.args.line.now in
     let read = c.in-Ok.ensures in
-    let t = kept (part c.as_value.result) in
+    let t = kept_part (tape_part c.as_value.result) in
     let same : t ≡ keep c.in-Ok.tape = λ i. keep_by (c.as_value.ensures.choice i) (c.as_value.ensures.tree i) in
     IfOk-weaker c.command_in.result (λ (x : Command). command_meant x ≡ command_in t) (λ (x : Command). IsCommandOf b (command_meant x))
     (λ x h. reads_tree b t c.in-Ok.tape (command_meant x) read.spelled read.within same h) c.command_in.ensures
@@ -27,7 +27,7 @@ pub returns-in-Ok-clause-only : goal.returns-in-Ok-clause-only
 returns-in-Ok-clause-only c =
     let b = c.args.line.now in
     let read = c.in-Ok.ensures in
-    let t = kept (part c.as_value.result) in
+    let t = kept_part (tape_part c.as_value.result) in
     let only : (u : Tree) → Spells b u → t ≡ keep u = λ u s. (λ i. keep_by (c.as_value.ensures.choice i) (c.as_value.ensures.tree i)) ∙ ap keep (sym (read.only u s)) in
     IfOk-weaker c.command_in.result (λ (x : Command). command_meant x ≡ command_in t) (λ (x : Command). (d : PlainCommand) → IsCommandOf b d → d ≡ command_meant x)
     (λ x h d. reads_one b t (command_meant x) d only (c.in-Ok.tape, read.spelled, read.within) h) c.command_in.ensures

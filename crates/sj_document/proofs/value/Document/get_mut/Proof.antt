@@ -41,7 +41,7 @@ use Rattle.sj_text_core.specs.Reads.{as_members}
 use Rattle.sj_text_core.specs.Paths.{by_key, set_found}
 use Rattle.sj_object.specs.Edits.{lookup, with_value}
 use Rattle.sj_object.specs.Members.{entry_members}
-use Rattle.sj_document.specs.Document.{tree}
+use Rattle.sj_document.specs.Document.{document_tree}
 use Rattle.sj_document.specs.declared.value.Document.{Document}
 use Rattle.sj_document.specs.Rows.{object_row}
 use Rattle.sj_document.proofs.Trees.{Map}
@@ -101,8 +101,8 @@ get_mut_spec 𝓤 𝓛 𝓜 𝓡 wired T L k kd e ed p pd mk me mp =
     -- [what the call asks; the key; the key's token]
     calls_at ! (framed 𝓤 𝓛.H 𝓜 𝓣) G (g-met.met 𝓤 𝓛 𝓜 𝓡 (code.calls-sj_document::value::Document::as_object_mut 𝓡.env wired) T L k kd e ed p pd mk me mp) z (and_then ! (get ! refl) (no_more !)) (λ v.
     use1 𝓛 (later (some (λ (r : Option (MutBor (Map T.Denot))). ((‵ (flft κs.0 qs.0) ⊛ ‵ (flft κs.1.1.0 qs.1.1.0) ⊛ ‵ ftrue) ⊛ ‵ ((option.the_row (MutRef (named 0) κs.0 O)).own_val r (v ∷ []))) ⊛
-    some (λ (ends : Unit {0} × Unit {0}). ‵ (lasts (g.ended T k kd e ed p pd) z.0.0 z.0.3 ends) ⊛ (‵ (follows_so D O a.0.ghost_name (ghost_name_of r) (λ w n. OnSome r (tree k.text_of n ≡ obj (entry_members (tree k.text_of) w.entries))) (λ n. tree k.text_of n ≡ tree k.text_of a.0.now))
-    ⊛ raw (fact 𝓤 (option_map (λ m. entry_members (tree k.text_of) m.now.entries) r ≡ as_members (tree k.text_of a.0.now)))))))) (id⊢ 𝓤 _) $
+    some (λ (ends : Unit {0} × Unit {0}). ‵ (lasts (g.ended T k kd e ed p pd) z.0.0 z.0.3 ends) ⊛ (‵ (follows_so D O a.0.ghost_name (ghost_name_of r) (λ w n. OnSome r (document_tree k.text_of n ≡ obj (entry_members (document_tree k.text_of) w.entries))) (λ n. document_tree k.text_of n ≡ document_tree k.text_of a.0.now))
+    ⊛ raw (fact 𝓤 (option_map (λ m. entry_members (document_tree k.text_of) m.now.entries) r ≡ as_members (document_tree k.text_of a.0.now)))))))) (id⊢ 𝓤 _) $
     await ! tt $ pick ! (λ r. split ! $ split ! $ split ! $
     -- [the token of self; that of T; what r owns; what the call says; the key; its token]
     move ! (1 ∷ []) $ split ! $ move ! (4 ∷ []) $ pick ! (λ ends. split ! $ drop ! $ split ! $ move ! (1 ∷ []) $ heard ! _ (λ shown.
@@ -110,8 +110,8 @@ get_mut_spec 𝓤 𝓛 𝓜 𝓡 wired T L k kd e ed p pd mk me mp =
     -- [what r owns; what the call says; the tokens of T and self; the key; its token]
     option_out ! (MutRef (named 0) κs.0 O) r (v ∷ [])
     (λ is_none spelled.
-    rewrite ! 0 (λ (x : Option (MutBor (Map T.Denot))). ‵ (follows_so D O a.0.ghost_name (ghost_name_of x) (λ w n. OnSome x (tree k.text_of n ≡ obj (entry_members (tree k.text_of) w.entries))) (λ n. tree k.text_of n ≡ tree k.text_of a.0.now))) is_none refl $
-    use1 𝓛 (‵ (follows_so D D a.0.ghost_name maybe.none (λ w n. Unit {0}) (λ n. tree k.text_of n ≡ tree k.text_of a.0.now))) (lent_none 𝓛 D O D a.0.ghost_name _ _ (λ w n. Unit {0}) (λ n. tree k.text_of n ≡ tree k.text_of a.0.now) (λ w n x. tt) (λ n x. x)) $
+    rewrite ! 0 (λ (x : Option (MutBor (Map T.Denot))). ‵ (follows_so D O a.0.ghost_name (ghost_name_of x) (λ w n. OnSome x (document_tree k.text_of n ≡ obj (entry_members (document_tree k.text_of) w.entries))) (λ n. document_tree k.text_of n ≡ document_tree k.text_of a.0.now))) is_none refl $
+    use1 𝓛 (‵ (follows_so D D a.0.ghost_name maybe.none (λ w n. Unit {0}) (λ n. document_tree k.text_of n ≡ document_tree k.text_of a.0.now))) (lent_none 𝓛 D O D a.0.ghost_name _ _ (λ w n. Unit {0}) (λ n. document_tree k.text_of n ≡ document_tree k.text_of a.0.now) (λ w n x. tt) (λ n x. x)) $
     lands_as ! (ap only spelled) refl (tt, (record { fits = lit< tt }, tt)) $
     first ! $ by_variants ! 11 (whole !) (get_tag ! (vrt ! refl (fld ! refl (stop !))) (whole !)) tt (
       (λ one. absurd (suc-ne-zero 0 (sym one))),
@@ -122,16 +122,16 @@ get_mut_spec 𝓤 𝓛 𝓜 𝓡 wired T L k kd e ed p pd mk me mp =
             keep ! (2 ∷ 4 ∷ 1 ∷ 0 ∷ []) $ use0 𝓛 (‵ ((option.the_row (MutRef (named 0) κs.0 D)).own_val None (live 0 (of_list []) ∷ []))) (none_in 𝓛 (MutRef (named 0) κs.0 D)) $
             suffices ! _ (ends_at 𝓛 End hs c y (live 0 (of_list [])) None (tt, (tt, tt)) (tt, (tt, tt))) $
             nothing ! $ nothing ! $ fjoin ! $ nothing ! $ fjoin ! $ join ! $ nothing ! $ move ! (4 ∷ 0 ∷ []) $ join ! $ move ! (3 ∷ 0 ∷ []) $ join ! $ move ! (2 ∷ 0 ∷ []) $ join ! $ join ! $ frame ! $
-            says ! (no_members_found a.1.0.now (tree k.text_of a.0.now) (ap (option_map (λ m. entry_members (tree k.text_of) m.now.entries)) (sym is_none) ∙ shown)) $ done !),
+            says ! (no_members_found a.1.0.now (document_tree k.text_of a.0.now) (ap (option_map (λ m. entry_members (document_tree k.text_of) m.now.entries)) (sym is_none) ∙ shown)) $ done !),
         tt,
       ),
     ))
     (λ m xs is_some spelled.
     peeks ! (MutRef (named 0) κs.0 O) _ (shows 𝓛 (MutRef (named 0) κs.0 O)) m xs (λ is.
     let told = mut_Tells (named 0) κs.0 O m xs is in
-    let same = object_of (entry_members (tree k.text_of) m.now.entries) (tree k.text_of a.0.now) (ap (option_map (λ n. entry_members (tree k.text_of) n.now.entries)) (sym is_some) ∙ shown) in
+    let same = object_of (entry_members (document_tree k.text_of) m.now.entries) (document_tree k.text_of a.0.now) (ap (option_map (λ n. entry_members (document_tree k.text_of) n.now.entries)) (sym is_some) ∙ shown) in
     rewrite ! 0 (λ (vs : List Val). ‵ ((MutRef (named 0) κs.0 O).own_val m vs)) told refl $
-    rewrite ! 1 (λ (x : Option (MutBor (Map T.Denot))). ‵ (follows_so D O a.0.ghost_name (ghost_name_of x) (λ w n. OnSome x (tree k.text_of n ≡ obj (entry_members (tree k.text_of) w.entries))) (λ n. tree k.text_of n ≡ tree k.text_of a.0.now))) is_some refl $
+    rewrite ! 1 (λ (x : Option (MutBor (Map T.Denot))). ‵ (follows_so D O a.0.ghost_name (ghost_name_of x) (λ w n. OnSome x (document_tree k.text_of n ≡ obj (entry_members (document_tree k.text_of) w.entries))) (λ n. document_tree k.text_of n ≡ document_tree k.text_of a.0.now))) is_some refl $
     lands_as ! (ap only spelled ∙ ap (λ (vs : List Val). live 1 (of_list (vs ++ []))) told) refl (tt, (record { fits = lit< tt }, (tt, tt))) $
     first ! $ by_variants ! 12 (whole !) (get_tag ! (vrt ! refl (fld ! refl (stop !))) (whole !)) tt (
       (λ _. sets ! (of_opd ! (get_in ! (vrt ! refl (fld ! refl (stop !))) (in_variant ! 1 0 refl refl (whole !)))) refl (tt, tt) $
@@ -151,8 +151,8 @@ get_mut_spec 𝓤 𝓛 𝓜 𝓡 wired T L k kd e ed p pd mk me mp =
           move ! (2 ∷ []) $ option_out ! (MutRef (named 0) κs.0 D) r' (v' ∷ [])
           (λ is_none' spelled'.
           rewrite ! 0 (λ (x : Option (MutBor (Document T.Denot))). ‵ (follows_if O D m.ghost_name (ghost_name_of x) (with_value m.now a.1.0.now) m.now)) is_none' refl $
-          move ! (2 ∷ 0 ∷ []) $ use2 𝓛 (‵ (follows_so D D a.0.ghost_name maybe.none (λ w n. Unit {0}) (λ n. tree k.text_of n ≡ tree k.text_of a.0.now)))
-          (lent_then 𝓛 D O D a.0.ghost_name m.ghost_name _ _ maybe.none (with_value m.now a.1.0.now) m.now (λ w n. Unit {0}) (λ n. tree k.text_of n ≡ tree k.text_of a.0.now) (λ w n x. tt) (λ n x. x ∙ same)) $
+          move ! (2 ∷ 0 ∷ []) $ use2 𝓛 (‵ (follows_so D D a.0.ghost_name maybe.none (λ w n. Unit {0}) (λ n. document_tree k.text_of n ≡ document_tree k.text_of a.0.now)))
+          (lent_then 𝓛 D O D a.0.ghost_name m.ghost_name _ _ maybe.none (with_value m.now a.1.0.now) m.now (λ w n. Unit {0}) (λ n. document_tree k.text_of n ≡ document_tree k.text_of a.0.now) (λ w n x. tt) (λ n x. x ∙ same)) $
           lands_last ! refl (fits_as (spot_of 𝓤 𝓛.H (env (function T k kd e ed p pd).locals l) 6).0 (ap only spelled') (tt, (record { fits = lit< tt }, tt))) $
           exec ! 𝓣.C 𝓣.Λ (env (function T k kd e ed p pd).locals l) (after 3 (function T k kd e ed p pd).body) (at_ret _ (W.post y)) $
           sets ! (of_opd ! (get ! refl)) refl (fits_as (spot_of 𝓤 𝓛.H (env (function T k kd e ed p pd).locals l) 0).0 (ap only spelled') (tt, (record { fits = lit< tt }, tt))) $ returns ! (look_at ! 0 refl) $ free_all ! refl $
@@ -160,7 +160,7 @@ get_mut_spec 𝓤 𝓛 𝓜 𝓡 wired T L k kd e ed p pd mk me mp =
           rewrite ! 0 (λ (vs : List Val). ‵ ((option.the_row (MutRef (named 0) κs.0 D)).own_val None vs)) (sym spelled') refl $
           suffices ! _ (ends_at 𝓛 End hs c y v' None (tt, (tt, tt)) (tt, (tt, tt))) $
           nothing ! $ nothing ! $ fjoin ! $ nothing ! $ fjoin ! $ join ! $ move ! (2 ∷ 0 ∷ []) $ join ! $ frame ! $
-          says ! (member_shown k.text_of a.1.0.now m.now (tree k.text_of a.0.now) same None (ap option_copied_mut (sym is_none') ∙ found)) $ done !)
+          says ! (member_shown k.text_of a.1.0.now m.now (document_tree k.text_of a.0.now) same None (ap option_copied_mut (sym is_none') ∙ found)) $ done !)
           (λ x xs' is_some' spelled'.
           peeks ! (MutRef (named 0) κs.0 D) _ (shows 𝓛 (MutRef (named 0) κs.0 D)) x xs' (λ is'.
           let told' = mut_Tells (named 0) κs.0 D x xs' is' in
@@ -170,14 +170,14 @@ get_mut_spec 𝓤 𝓛 𝓜 𝓡 wired T L k kd e ed p pd mk me mp =
           use1 𝓛 (‵ ((option.the_row (MutRef (named 0) κs.0 D)).own_val (Some x) (live 1 (of_list (word ∷ [])) ∷ []))) (some_in 𝓛 (MutRef (named 0) κs.0 D) x word) $
           rewrite ! 0 (λ (u : Val). ‵ ((option.the_row (MutRef (named 0) κs.0 D)).own_val (Some x) (u ∷ []))) (sym there) refl $
           rewrite ! 1 (λ (x : Option (MutBor (Document T.Denot))). ‵ (follows_if O D m.ghost_name (ghost_name_of x) (with_value m.now a.1.0.now) m.now)) is_some' refl $
-          move ! (3 ∷ 1 ∷ []) $ use2 𝓛 (‵ (follows_so D D a.0.ghost_name (maybe.some x.ghost_name) (λ w n. tree k.text_of n ≡ set_found (by_key a.1.0.now) (tree k.text_of w) (tree k.text_of a.0.now)) (λ n. tree k.text_of n ≡ tree k.text_of a.0.now)))
+          move ! (3 ∷ 1 ∷ []) $ use2 𝓛 (‵ (follows_so D D a.0.ghost_name (maybe.some x.ghost_name) (λ w n. document_tree k.text_of n ≡ set_found (by_key a.1.0.now) (document_tree k.text_of w) (document_tree k.text_of a.0.now)) (λ n. document_tree k.text_of n ≡ document_tree k.text_of a.0.now)))
           (lent_then 𝓛 D O D a.0.ghost_name m.ghost_name _ _ (maybe.some x.ghost_name) (with_value m.now a.1.0.now) m.now _ _
-          (λ w n. member_written k.text_of a.1.0.now m.now (tree k.text_of a.0.now) same x.now w n (ap option_copied_mut (sym is_some') ∙ found)) (λ n f. f ∙ same)) $
+          (λ w n. member_written k.text_of a.1.0.now m.now (document_tree k.text_of a.0.now) same x.now w n (ap option_copied_mut (sym is_some') ∙ found)) (λ n f. f ∙ same)) $
           lands_last ! refl (fits_as (spot_of 𝓤 𝓛.H (env (function T k kd e ed p pd).locals l) 6).0 there (tt, (record { fits = lit< tt }, (tt, tt)))) $
           exec ! 𝓣.C 𝓣.Λ (env (function T k kd e ed p pd).locals l) (after 3 (function T k kd e ed p pd).body) (at_ret _ (W.post y)) $
           sets ! (of_opd ! (get ! refl)) refl (fits_as (spot_of 𝓤 𝓛.H (env (function T k kd e ed p pd).locals l) 0).0 there (tt, (record { fits = lit< tt }, (tt, tt)))) $ returns ! (look_at ! 0 refl) $ free_all ! refl $
           suffices ! _ (ends_at 𝓛 End hs c y v' (Some x) (tt, (tt, tt)) (tt, (tt, tt))) $ move ! (1 ∷ []) $
           nothing ! $ nothing ! $ fjoin ! $ nothing ! $ fjoin ! $ join ! $ move ! (2 ∷ 0 ∷ []) $ join ! $ frame ! $
-          says ! (member_shown k.text_of a.1.0.now m.now (tree k.text_of a.0.now) same (Some x) (ap option_copied_mut (sym is_some') ∙ found)) $ done !))))))),
+          says ! (member_shown k.text_of a.1.0.now m.now (document_tree k.text_of a.0.now) same (Some x) (ap option_copied_mut (sym is_some') ∙ found)) $ done !))))))),
       ((λ one. absurd (suc-ne-zero 0 one)), tt),
     ))))))))))

@@ -1,5 +1,5 @@
 use Rattle.std.proofs.Common.{◌≡◌, ◌+◌, sym, ap, ◌∙◌, rules, arith, Box, Vec, Global}
-use Rattle.sj_document.specs.inner.Nodes.{nodes, nodes_of, nodes_in}
+use Rattle.sj_document.specs.inner.Nodes.{nodes, nodes_of, entry_nodes}
 use Rattle.sj_document.specs.declared.value.Document.{Document, Array, Object, the_lemmas}
 use Rattle.sj_document.proofs.Trees.{Map}
 use Rattle.sj_document.proofs.Nodes.{nodes-Array, nodes-Object, of_items, items_popped, none_popped, items_zero, still_none}
@@ -22,11 +22,11 @@ pub returns-in-Object-clause-fewer : goal.returns-in-Object-clause-fewer
 returns-in-Object-clause-fewer g c =
     let b : Box (Map g.row.T.Denot) Global = record c.in-Object.members { value = c.pop_value.new.members } in
     let same : c.deref_mut-in-Object.result.now ≡ c.in-Object.members.value = c.deref_mut-in-Object.ensures.value ∙ ap (λ b. b.value) c.in-Object.members-is in
-    ap nodes c.in-Object.is ∙ nodes-Object c.in-Object.members ∙ ap (λ m. nodes_in m.entries + 1) (sym same)
+    ap nodes c.in-Object.is ∙ nodes-Object c.in-Object.members ∙ ap (λ m. entry_nodes m.entries + 1) (sym same)
     ∙ omega (arith, c.pop_value.ensures.fewer)
     ∙ ap (λ n. n + nodes_of c.pop_value.result) (sym (ap nodes (let e : _ ≡ Object b = search (rules, the_lemmas) in e) ∙ nodes-Object b))
 
 pub returns-in-Object-clause-none : goal.returns-in-Object-clause-none
 returns-in-Object-clause-none g c =
     let b : Box (Map g.row.T.Denot) Global = record c.in-Object.members { value = c.pop_value.new.members } in
-    still_none c.pop_value.result (nodes_in c.pop_value.new.members.entries) _ (λ z. ap nodes (let e : _ ≡ Object b = search (rules, the_lemmas) in e) ∙ nodes-Object b ∙ omega (arith, z)) c.pop_value.ensures.none
+    still_none c.pop_value.result (entry_nodes c.pop_value.new.members.entries) _ (λ z. ap nodes (let e : _ ≡ Object b = search (rules, the_lemmas) in e) ∙ nodes-Object b ∙ omega (arith, z)) c.pop_value.ensures.none

@@ -1,7 +1,7 @@
 use Rattle.std.proofs.Common.{◌≡◌, ◌<◌, ◌+◌, length, get_or, sym, ap, ◌∙◌, rules, arith, Some, Box, Vec, Global}
 use Rattle.std.specs.Vec.{with_item}
-use Rattle.sj_object.specs.Edits.{value_at, with_value_at}
-use Rattle.sj_document.specs.inner.Nodes.{nodes, nodes_in}
+use Rattle.sj_object.specs.Edits.{nth_value, with_value_at}
+use Rattle.sj_document.specs.inner.Nodes.{nodes, entry_nodes}
 use Rattle.sj_document.specs.declared.value.Document.{Document, Array, Object, the_lemmas}
 use Rattle.sj_document.proofs.Trees.{Map}
 use Rattle.sj_document.proofs.Nodes.{nodes-Array, nodes-Object, of_items, items_pos, items_swapped, items_below, members_swapped, members_below}
@@ -33,8 +33,8 @@ returns-in-Object-clause-same g c =
     let m = c.deref_mut-in-Object.result.now in
     let b : Box (Map g.row.T.Denot) Global = record c.in-Object.members { value = with_value_at m 0 c.replace-in-Object.new.dest } in
     let same : m ≡ c.in-Object.members.value = c.deref_mut-in-Object.ensures.value ∙ ap (λ b. b.value) c.in-Object.members-is in
-    let n : nodes c.args.self.now ≡ nodes_in m.entries + 1 = ap nodes c.in-Object.is ∙ nodes-Object c.in-Object.members ∙ ap (λ m. nodes_in m.entries + 1) (sym same) in
-    let d : value_at 0 m.entries ≡ Some c.replace-in-Object.result = c.value_at_mut.ensures.value ∙ ap (λ v. Some v) (sym c.replace-in-Object.ensures.value) in
+    let n : nodes c.args.self.now ≡ entry_nodes m.entries + 1 = ap nodes c.in-Object.is ∙ nodes-Object c.in-Object.members ∙ ap (λ m. entry_nodes m.entries + 1) (sym same) in
+    let d : nth_value 0 m.entries ≡ Some c.replace-in-Object.result = c.value_at_mut.ensures.value ∙ ap (λ v. Some v) (sym c.replace-in-Object.ensures.value) in
     let x : nodes c.replace-in-Object.new.dest ≡ nodes c.args.other = ap nodes c.replace-in-Object.ensures.after in
     ap (λ n. n + nodes c.replace-in-Object.result) (ap nodes (let e : _ ≡ Object b = search (rules, the_lemmas) in e) ∙ nodes-Object b)
     ∙ members_swapped m.entries c.replace-in-Object.result c.replace-in-Object.new.dest d ∙ (λ i. sym n i + x i)
@@ -43,6 +43,6 @@ pub returns-in-Object-clause-part : goal.returns-in-Object-clause-part
 returns-in-Object-clause-part g c =
     let m = c.deref_mut-in-Object.result.now in
     let same : m ≡ c.in-Object.members.value = c.deref_mut-in-Object.ensures.value ∙ ap (λ b. b.value) c.in-Object.members-is in
-    let n : nodes c.args.self.now ≡ nodes_in m.entries + 1 = ap nodes c.in-Object.is ∙ nodes-Object c.in-Object.members ∙ ap (λ m. nodes_in m.entries + 1) (sym same) in
-    let d : value_at 0 m.entries ≡ Some c.replace-in-Object.result = c.value_at_mut.ensures.value ∙ ap (λ v. Some v) (sym c.replace-in-Object.ensures.value) in
+    let n : nodes c.args.self.now ≡ entry_nodes m.entries + 1 = ap nodes c.in-Object.is ∙ nodes-Object c.in-Object.members ∙ ap (λ m. entry_nodes m.entries + 1) (sym same) in
+    let d : nth_value 0 m.entries ≡ Some c.replace-in-Object.result = c.value_at_mut.ensures.value ∙ ap (λ v. Some v) (sym c.replace-in-Object.ensures.value) in
     omega (arith, n, members_below m.entries c.replace-in-Object.result d)

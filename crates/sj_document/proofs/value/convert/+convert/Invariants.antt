@@ -4,7 +4,7 @@ use Rattle.sj_text_core.specs.Tree.{depth, items_depth, members_depth, items_fro
 use Rattle.sj_object.specs.Entries.{entries_of}
 use Rattle.sj_object.specs.Members.{entry_members}
 use Rattle.sj_object.proofs.Walks.{put_all}
-use Rattle.sj_document.specs.Document.{tree}
+use Rattle.sj_document.specs.Document.{document_tree}
 use Rattle.sj_document.proofs.value.convert.+convert.Given as goal
 
 abbrev pub invariant-convert_items-loop-item : goal.invariant-convert_items-loop-item
@@ -13,8 +13,8 @@ invariant-convert_items-loop-item g l =
     let u = g.U.KeyText.text_of in
     let rest = into_iter_items l.item-iterator in
     record {
-      made : map (tree u) l.made.items ++ map (tree t) rest ≡ map (tree t) l.fn.items.items;
-      within : items_depth (items_from (map (tree t) rest)) ≤ items_depth (items_from (map (tree t) l.fn.items.items));
+      made : map (document_tree u) l.made.items ++ map (document_tree t) rest ≡ map (document_tree t) l.fn.items.items;
+      within : items_depth (items_from (map (document_tree t) rest)) ≤ items_depth (items_from (map (document_tree t) l.fn.items.items));
     }
 
 abbrev pub invariant-convert_members-loop-key : goal.invariant-convert_members-loop-key
@@ -23,15 +23,15 @@ invariant-convert_members-loop-key g l =
     let u = g.U.KeyText.text_of in
     let rest = entries_of t l.key-iterator in
     record {
-      made : put_all (tree t) (entry_members (tree u) l.made.entries) rest ≡ entry_members (tree t) l.fn.members.entries;
-      within : members_depth (entry_members (tree t) rest) ≤ members_depth (entry_members (tree t) l.fn.members.entries);
+      made : put_all (document_tree t) (entry_members (document_tree u) l.made.entries) rest ≡ entry_members (document_tree t) l.fn.members.entries;
+      within : members_depth (entry_members (document_tree t) rest) ≤ members_depth (entry_members (document_tree t) l.fn.members.entries);
     }
 
 abbrev pub decreases-convert_within : goal.decreases-convert_within
-decreases-convert_within g l = 2 * depth (tree g.T.KeyText.text_of l.value)
+decreases-convert_within g l = 2 * depth (document_tree g.T.KeyText.text_of l.value)
 
 abbrev pub decreases-convert_items : goal.decreases-convert_items
-decreases-convert_items g l = 2 * items_depth (items_from (map (tree g.T.KeyText.text_of) l.items.items)) + 1
+decreases-convert_items g l = 2 * items_depth (items_from (map (document_tree g.T.KeyText.text_of) l.items.items)) + 1
 
 abbrev pub decreases-convert_members : goal.decreases-convert_members
-decreases-convert_members g l = 2 * members_depth (entry_members (tree g.T.KeyText.text_of) l.members.entries) + 1
+decreases-convert_members g l = 2 * members_depth (entry_members (document_tree g.T.KeyText.text_of) l.members.entries) + 1

@@ -1,5 +1,5 @@
 use Rattle.std.proofs.Common.{ap}
-use Rattle.sj_document.specs.inner.Nodes.{nodes_in}
+use Rattle.sj_document.specs.inner.Nodes.{entry_nodes}
 use Rattle.sj_document.proofs.Nodes.{members_popped, members_rest}
 use Rattle.sj_document.proofs.value.drops.pop_value.Goals as goal
 
@@ -12,4 +12,4 @@ returns-clause-fewer g c =
     members_rest c.args.members.now.entries c.pop.new.self.entries c.in-None.ensures.entries
 
 pub returns-clause-none : goal.returns-clause-none
-returns-clause-none g c = ap nodes_in c.in-None.ensures.none
+returns-clause-none g c = ap entry_nodes c.in-None.ensures.none

@@ -1,5 +1,5 @@
 use Rattle.std.proofs.Common.{◌≡◌, ◌≤◌, length, map}
-use Rattle.sj_document.specs.Document.{tree}
+use Rattle.sj_document.specs.Document.{document_tree}
 use Rattle.sj_document.specs.inner.Descents.{plug, IsSpine}
 use Rattle.sj_document.proofs.value.path.climb.Given as goal
 
@@ -9,8 +9,8 @@ invariant-loop-left g l =
     let p = map g.W.Leads.step_of l.path in
     record {
       within : l.left ≤ length l.path;
-      spine : IsSpine p l.left (tree t l.up);
-      whole : plug p l.left (tree t l.up) (tree t l.value) ≡ plug p l.fn.depth (tree t l.fn.up) (tree t l.fn.value);
+      spine : IsSpine p l.left (document_tree t l.up);
+      whole : plug p l.left (document_tree t l.up) (document_tree t l.value) ≡ plug p l.fn.depth (document_tree t l.fn.up) (document_tree t l.fn.value);
     }
 
 abbrev pub decreases-loop-left : goal.decreases-loop-left

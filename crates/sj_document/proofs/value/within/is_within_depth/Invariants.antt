@@ -1,6 +1,6 @@
 use Rattle.std.proofs.Common.{◌↔◌, ◌≤◌, length}
 use Rattle.sj_text_core.specs.Tree.{depth}
-use Rattle.sj_document.specs.inner.Reach.{reach, left}
+use Rattle.sj_document.specs.inner.Reach.{reach, ahead_left}
 use Rattle.sj_document.proofs.value.within.is_within_depth.Given as goal
 
 abbrev pub invariant-loop-ahead : goal.invariant-loop-ahead
@@ -10,4 +10,4 @@ invariant-loop-ahead g l = record {
 }
 
 abbrev pub decreases-loop-ahead : goal.decreases-loop-ahead
-decreases-loop-ahead g l = left g.P.Parts.items_left g.P.Parts.members_left l.pile.items
+decreases-loop-ahead g l = ahead_left g.P.Parts.items_left g.P.Parts.members_left l.pile.items

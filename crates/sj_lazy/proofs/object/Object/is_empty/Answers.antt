@@ -1,6 +1,6 @@
-use Rattle.sj_lazy.specs.Object.{members}
+use Rattle.sj_lazy.specs.Object.{lazy_members}
 use Rattle.sj_lazy.proofs.Lists.{no_members-empty}
 use Rattle.sj_lazy.proofs.object.Object.is_empty.Goals as goal
 
 pub returns : goal.returns
-returns c = rw c.len.ensures (no_members-empty (members c.args.self.now))
+returns c = rw c.len.ensures (no_members-empty (lazy_members c.args.self.now))

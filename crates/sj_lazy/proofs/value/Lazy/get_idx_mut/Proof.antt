@@ -47,7 +47,7 @@ use Rattle.std.specs.contracts.alloc.Global as heap
 use Rattle.std.proofs.alloc.Global.TheLaws as heap_laws
 use Rattle.sj_text_core.specs.Find.{nth}
 use Rattle.sj_text_core.specs.Paths.{by_place, set_found}
-use Rattle.sj_document.specs.Document.{tree}
+use Rattle.sj_document.specs.Document.{document_tree}
 use Rattle.sj_document.specs.declared.value.Document.{Document}
 use Rattle.sj_document.specs.Rows.{document_row}
 use Rattle.sj_lazy.specs.Value.{lazy_kept, owned}
@@ -116,17 +116,17 @@ get_idx_mut_spec 𝓤 𝓛 𝓜 𝓡 wired P B T LP LB LT u ud n nd k kd e ed p 
     nothing ! $ use0 𝓛 (given (κs.1.1.1.0 ⊑ T.lives) (‵ ftrue)) (fact_i 𝓤 _ (emp 𝓤) livesT) $ join ! $ use0 𝓛 (given (κs.1.1.0 ⊑ B.lives) (‵ ftrue)) (fact_i 𝓤 _ (emp 𝓤) livesB) $ join ! $ use0 𝓛 (given (κs.1.0 ⊑ P.lives) (‵ ftrue)) (fact_i 𝓤 _ (emp 𝓤) livesP) $ join ! $ move ! (1 ∷ 0 ∷ []) $ use2 𝓛 (raw (G.pre z)) (id⊢ 𝓤 _) $
     calls_at ! (framed 𝓤 𝓛.H 𝓜 𝓣) G (g-met.met 𝓤 𝓛 𝓜 𝓡 (code.calls-sj_lazy::value::Lazy::as_mut 𝓡.env wired) P B T LP LB LT u ud n nd k kd e ed p pd Pd Bd Td mu mn mk me mp mP mB mT) z (and_then ! (get ! refl) (and_then ! (get ! refl) (no_more !))) (λ v.
     use1 𝓛 (later (some (λ (r : Result (MutBor D.Denot) AllocError). ((‵ (flft κs.0 qs.0) ⊛ ‵ (flft κs.1.0 qs.1.0) ⊛ ‵ (flft κs.1.1.0 qs.1.1.0) ⊛ ‵ (flft κs.1.1.1.0 qs.1.1.1.0) ⊛ ‵ ftrue) ⊛ ‵ ((result.the_row (MutRef (named 0) κs.0 D) E).own_val r (v ∷ []))) ⊛
-    some (λ (ends : Unit {0} × (Unit {0} × Unit {0})). ‵ (lasts (g.ended P B T u ud n nd k kd e ed p pd Pd Bd Td) z.0.0 z.0.3 ends) ⊛ (‵ (follows_so S D a.0.ghost_name (name_if_ok (λ x. x.ghost_name) r) (λ w n. IsOk r → owned t n ≡ Some (tree t w)) (λ n. OnErr r (n ≡ old)))
-    ⊛ raw (fact 𝓤 (IfOk r (λ v. tree t v.now ≡ kept))) ⊛ raw (fact 𝓤 (IsSome (owned t old) → IsOk r))))))) (id⊢ 𝓤 _) $
+    some (λ (ends : Unit {0} × (Unit {0} × Unit {0})). ‵ (lasts (g.ended P B T u ud n nd k kd e ed p pd Pd Bd Td) z.0.0 z.0.3 ends) ⊛ (‵ (follows_so S D a.0.ghost_name (name_if_ok (λ x. x.ghost_name) r) (λ w n. IsOk r → owned t n ≡ Some (document_tree t w)) (λ n. OnErr r (n ≡ old)))
+    ⊛ raw (fact 𝓤 (IfOk r (λ v. document_tree t v.now ≡ kept))) ⊛ raw (fact 𝓤 (IsSome (owned t old) → IsOk r))))))) (id⊢ 𝓤 _) $
     await ! tt $ pick ! (λ r. split ! $ split ! $ move ! (2 ∷ []) $ pick ! (λ ends. split ! $ drop ! $ split ! $ move ! (1 ∷ []) $ split ! $ heard ! _ (λ shown. heard ! _ (λ succeeds. move ! (2 ∷ []) $
     -- [what r owns; what the call says; the tokens; the place]
     result_out ! (MutRef (named 0) κs.0 D) E r (v ∷ [])
     (λ x xs is_ok spelled.
     peeks ! (MutRef (named 0) κs.0 D) _ (shows 𝓛 (MutRef (named 0) κs.0 D)) x xs (λ is.
     let told = mut_Tells (named 0) κs.0 D x xs is in
-    let same : tree t x.now ≡ kept = subst (λ (r : Result (MutBor D.Denot) AllocError). IfOk r (λ v. tree t v.now ≡ kept)) is_ok shown in
+    let same : document_tree t x.now ≡ kept = subst (λ (r : Result (MutBor D.Denot) AllocError). IfOk r (λ v. document_tree t v.now ≡ kept)) is_ok shown in
     rewrite ! 0 (λ (vs : List Val). ‵ ((MutRef (named 0) κs.0 D).own_val x vs)) told refl $
-    rewrite ! 1 (λ (r : Result (MutBor D.Denot) AllocError). ‵ (follows_so S D a.0.ghost_name (name_if_ok (λ x. x.ghost_name) r) (λ w n. IsOk r → owned t n ≡ Some (tree t w)) (λ n. OnErr r (n ≡ old)))) is_ok refl $
+    rewrite ! 1 (λ (r : Result (MutBor D.Denot) AllocError). ‵ (follows_so S D a.0.ghost_name (name_if_ok (λ x. x.ghost_name) r) (λ w n. IsOk r → owned t n ≡ Some (document_tree t w)) (λ n. OnErr r (n ≡ old)))) is_ok refl $
     lands_as ! (ap only spelled ∙ ap (λ (vs : List Val). live 0 (of_list (vs ++ []))) told) refl (tt, (record { fits = lit< tt }, (tt, tt))) $
     first ! $ by_variants ! 12 (whole !) (get_tag ! (vrt ! refl (fld ! refl (stop !))) (whole !)) tt (
       (λ _. sets ! (of_opd ! (get_in ! (vrt ! refl (fld ! refl (stop !))) (in_variant ! 0 0 refl refl (whole !)))) refl (tt, tt) $
@@ -139,8 +139,8 @@ get_idx_mut_spec 𝓤 𝓛 𝓜 𝓡 wired P B T LP LB LT u ud n nd k kd e ed p 
           nothing ! $ use0 𝓛 (given (κs.1.1.1.0 ⊑ T.lives) (‵ ftrue)) (fact_i 𝓤 _ (emp 𝓤) livesT) $ join ! $ move ! (1 ∷ 0 ∷ []) $ use2 𝓛 (raw (G'.pre z')) (id⊢ 𝓤 _) $
           calls_at ! (framed 𝓤 𝓛.H 𝓜 𝓣) G' (h-met.met 𝓤 𝓛 𝓜 𝓡 (code.calls-sj_document::value::Document::get_idx_mut 𝓡.env wired) T LT k kd e ed p pd mk me mp) z' (and_then ! (get ! refl) (and_then ! (get ! refl) (no_more !))) (λ v'.
           use1 𝓛 (later (some (λ (r' : Option (MutBor X.Denot)). ((‵ (flft κs.0 qs.0) ⊛ ‵ (flft κs.1.1.1.0 qs.1.1.1.0) ⊛ ‵ ftrue) ⊛ ‵ (Found.own_val r' (v' ∷ []))) ⊛
-          some (λ (ends : Unit {0} × (Unit {0} × (Unit {0}))). ‵ (lasts (h.ended T k kd e ed p pd) z'.0.0 z'.0.3 ends) ⊛ (‵ (follows_so D X x.ghost_name (ghost_name_of r') (λ w s. OnSome r' (tree t s ≡ set_found (by_place a.1.1.0) (tree t w) (tree t x.now))) (λ s. tree t s ≡ tree t x.now))
-          ⊛ raw (fact 𝓤 (option_map (λ v. tree t v.now) r' ≡ nth a.1.1.0 (tree t x.now)))))))) (id⊢ 𝓤 _) $
+          some (λ (ends : Unit {0} × (Unit {0} × (Unit {0}))). ‵ (lasts (h.ended T k kd e ed p pd) z'.0.0 z'.0.3 ends) ⊛ (‵ (follows_so D X x.ghost_name (ghost_name_of r') (λ w s. OnSome r' (document_tree t s ≡ set_found (by_place a.1.1.0) (document_tree t w) (document_tree t x.now))) (λ s. document_tree t s ≡ document_tree t x.now))
+          ⊛ raw (fact 𝓤 (option_map (λ v. document_tree t v.now) r' ≡ nth a.1.1.0 (document_tree t x.now)))))))) (id⊢ 𝓤 _) $
           await ! tt $ pick ! (λ r'. split ! $ split ! $ move ! (2 ∷ []) $ pick ! (λ ends. split ! $ drop ! $ split ! $ move ! (1 ∷ []) $ heard ! _ (λ found.
           move ! (2 ∷ []) $ peeks ! Found _ (shows 𝓛 Found) r' (v' ∷ []) (λ is'.
           lands_as ! refl refl (((option_lawful 𝓛 (MutRef (named 0) κs.0 X) (mut_Lawful 𝓛 (named 0) κs.0 X)).typed r' (v' ∷ []) is').0) $
@@ -151,13 +151,13 @@ get_idx_mut_spec 𝓤 𝓛 𝓜 𝓡 wired P B T LP LB LT u ud n nd k kd e ed p 
           sets_last ! (agg ! (and_then ! (lit ! tt) (and_then ! (get ! refl) (no_more !)))) refl fits $
           exec ! 𝓣.C 𝓣.Λ (env (function P B T u ud n nd k kd e ed p pd Pd Bd Td).locals l) (after 3 (function P B T u ud n nd k kd e ed p pd Pd Bd Td).body) (at_ret _ (W.post y)) $
           sets ! (of_opd ! (get ! refl)) refl fits $ returns ! (look_at ! 0 refl) $ free_all ! refl $
-          move ! (6 ∷ 1 ∷ []) $ use2 𝓛 (‵ (follows_so S X a.0.ghost_name (ghost_name_of r') (λ w n. OnSome r' (owned t n ≡ Some (set_found (by_place a.1.1.0) (tree t w) kept))) (λ n. owned t n ≡ Some kept)))
-          (lent_so 𝓛 S D X a.0.ghost_name x.ghost_name _ _ (ghost_name_of r') (λ w s. OnSome r' (tree t s ≡ set_found (by_place a.1.1.0) (tree t w) (tree t x.now))) (λ s. tree t s ≡ tree t x.now) (λ w n. OnSome r' (owned t n ≡ Some (set_found (by_place a.1.1.0) (tree t w) kept))) (λ n. owned t n ≡ Some kept)
-          (λ w s n found lent. on_some r' (λ f. lent refl ∙ ap Some (f ∙ ap (set_found (by_place a.1.1.0) (tree t w)) same)) found) (λ s n stays lent. lent refl ∙ ap Some (stays ∙ same))) $
+          move ! (6 ∷ 1 ∷ []) $ use2 𝓛 (‵ (follows_so S X a.0.ghost_name (ghost_name_of r') (λ w n. OnSome r' (owned t n ≡ Some (set_found (by_place a.1.1.0) (document_tree t w) kept))) (λ n. owned t n ≡ Some kept)))
+          (lent_so 𝓛 S D X a.0.ghost_name x.ghost_name _ _ (ghost_name_of r') (λ w s. OnSome r' (document_tree t s ≡ set_found (by_place a.1.1.0) (document_tree t w) (document_tree t x.now))) (λ s. document_tree t s ≡ document_tree t x.now) (λ w n. OnSome r' (owned t n ≡ Some (set_found (by_place a.1.1.0) (document_tree t w) kept))) (λ n. owned t n ≡ Some kept)
+          (λ w s n found lent. on_some r' (λ f. lent refl ∙ ap Some (f ∙ ap (set_found (by_place a.1.1.0) (document_tree t w)) same)) found) (λ s n stays lent. lent refl ∙ ap Some (stays ∙ same))) $
           move ! (2 ∷ []) $ split ! $ move ! (1 ∷ []) $ split ! $ keep ! (4 ∷ 0 ∷ 6 ∷ 7 ∷ 2 ∷ 3 ∷ []) $
           suffices ! _ (ends_at 𝓛 End hs c y (live 0 (of_list (v' ∷ []))) ok (tt, (tt, (tt, tt))) (tt, (tt, (tt, tt)))) $
           nothing ! $ nothing ! $ fjoin ! $ nothing ! $ fjoin ! $ nothing ! $ fjoin ! $ join ! $ nothing ! $ move ! (2 ∷ 0 ∷ []) $ join ! $ move ! (2 ∷ 0 ∷ []) $ join ! $ move ! (2 ∷ 0 ∷ []) $ join ! $ move ! (2 ∷ 0 ∷ []) $ join ! $ join ! $ frame ! $
-          use0 𝓛 (raw (fact 𝓤 (IsSome (owned t old) → IsOk ok))) (fact_i 𝓤 _ (emp 𝓤) (λ h. refl)) $ use0 𝓛 (raw (fact 𝓤 (option_map (λ v. tree t v.now) r' ≡ nth a.1.1.0 kept))) (fact_i 𝓤 _ (emp 𝓤) (found ∙ ap (nth a.1.1.0) same)) $
+          use0 𝓛 (raw (fact 𝓤 (IsSome (owned t old) → IsOk ok))) (fact_i 𝓤 _ (emp 𝓤) (λ h. refl)) $ use0 𝓛 (raw (fact 𝓤 (option_map (λ v. document_tree t v.now) r' ≡ nth a.1.1.0 kept))) (fact_i 𝓤 _ (emp 𝓤) (found ∙ ap (nth a.1.1.0) same)) $
           join ! $ move ! (1 ∷ 0 ∷ []) $ join ! $ done !))))))),
       ((λ one. absurd (suc-ne-zero 0 (sym one))), tt),
     )))
@@ -167,7 +167,7 @@ get_idx_mut_spec 𝓤 𝓛 𝓜 𝓡 wired P B T LP LB LT u ud n nd k kd e ed p 
     let word = struct.val fault.the_type fault_laws.the_laws why in
     let failed : Result (Option (MutBor X.Denot)) AllocError = Err why in
     rewrite ! 0 (λ (vs : List Val). ‵ (E.own_val why vs)) told refl $
-    rewrite ! 1 (λ (r : Result (MutBor D.Denot) AllocError). ‵ (follows_so S D a.0.ghost_name (name_if_ok (λ x. x.ghost_name) r) (λ w n. IsOk r → owned t n ≡ Some (tree t w)) (λ n. OnErr r (n ≡ old)))) is_err refl $
+    rewrite ! 1 (λ (r : Result (MutBor D.Denot) AllocError). ‵ (follows_so S D a.0.ghost_name (name_if_ok (λ x. x.ghost_name) r) (λ w n. IsOk r → owned t n ≡ Some (document_tree t w)) (λ n. OnErr r (n ≡ old)))) is_err refl $
     lands_as ! (ap only spelled ∙ ap (λ (vs : List Val). live 1 (of_list (vs ++ []))) told) refl (tt, (record { fits = lit< tt }, (tt, tt))) $
     first ! $ by_variants ! 12 (whole !) (get_tag ! (vrt ! refl (fld ! refl (stop !))) (whole !)) tt (
       (λ zero. absurd (suc-ne-zero 0 zero)),

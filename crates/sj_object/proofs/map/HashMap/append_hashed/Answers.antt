@@ -1,7 +1,7 @@
 use Rattle.std.proofs.Common.{◌+◌, ◌++◌, ◌∷◌, [], true, length, sym, ap, ◌∙◌, subst}
 use Rattle.std.proofs.lemmas.List.{length_push}
 use Rattle.sj_text_core.specs.Keep.{is_seen}
-use Rattle.sj_object.specs.Entries.{texts, entries_of}
+use Rattle.sj_object.specs.Entries.{entry_texts, entries_of}
 use Rattle.sj_object.specs.HashMap.{same_contents}
 use Rattle.sj_object.specs.Index.{NeedsHash}
 use Rattle.sj_object.specs.Stored.{pairs_of, IsIndexOf}
@@ -17,7 +17,7 @@ invariant_of-self-inside g c =
     let H = g.S.KeyHasher.hash_of c.self.inside.hasher in
     let ps = (pairs_of c.self.inside.store) in
     let n = length_push (hashes t H ps) c.args.hash ∙ ap (λ m. m + 1) (hashes-length t H ps) ∙ sym (ap length e ∙ length_push ps (c.args.key, c.args.value)) in (
-      no_repeats-push t (pairs_of c.self.inside.store) (pairs_of c.push_reserved.new.self) true c.args.key c.args.value c.self.inside.distinct (ap (λ m. is_seen (t c.args.key) (texts m.entries)) c.self.view_is ∙ unseen_where_none (g.K.KeyText.text_of c.args.key) c.args.self.now.entries c.requires.absent) e,
+      no_repeats-push t (pairs_of c.self.inside.store) (pairs_of c.push_reserved.new.self) true c.args.key c.args.value c.self.inside.distinct (ap (λ m. is_seen (t c.args.key) (entry_texts m.entries)) c.self.view_is ∙ unseen_where_none (g.K.KeyText.text_of c.args.key) c.args.self.now.entries c.requires.absent) e,
       (room_of t (pairs_of c.push_reserved.new.self) _ c.push_reserved.new.self (c.push_reserved.ensures.index _ c.in-Ok.ensures.ok) n, tt),
     )
 

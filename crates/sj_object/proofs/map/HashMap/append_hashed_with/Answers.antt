@@ -1,9 +1,9 @@
 use Rattle.std.proofs.Common.{◌≡◌, ◌+◌, ◌-◌, ◌++◌, ◌∷◌, [], true, length, sym, ap, ◌∙◌, arith, subst, inr}
 use Rattle.std.proofs.lemmas.List.{length_push}
 use Rattle.sj_text_core.specs.Keep.{is_seen}
-use Rattle.sj_object.specs.Entries.{entries_of, texts}
+use Rattle.sj_object.specs.Entries.{entries_of, entry_texts}
 use Rattle.sj_object.specs.HashMap.{same_contents}
-use Rattle.sj_object.specs.Edits.{put}
+use Rattle.sj_object.specs.Edits.{put_entry}
 use Rattle.sj_object.specs.Index.{NeedsHash, buckets_for}
 use Rattle.sj_object.specs.Stored.{pairs_of, IsIndexOf, buckets_of}
 use Rattle.sj_object.proofs.Repeats.{no_repeats-push}
@@ -24,7 +24,7 @@ returns-in-Err g c =
 pub invariant_of-self-inside-2 : goal.invariant_of-self-inside-2
 invariant_of-self-inside-2 g c =
     let t = g.K.KeyText.text_of in
-    let a = absent_at t (t c.args.key) (pairs_of c.self.inside.store) (ap (λ m. is_seen (t c.args.key) (texts m.entries)) c.self.view_is ∙ unseen_where_none (g.K.KeyText.text_of c.args.key) c.args.self.now.entries c.requires.absent) in
+    let a = absent_at t (t c.args.key) (pairs_of c.self.inside.store) (ap (λ m. is_seen (t c.args.key) (entry_texts m.entries)) c.self.view_is ∙ unseen_where_none (g.K.KeyText.text_of c.args.key) c.args.self.now.entries c.requires.absent) in
     let e = c.push_reserved.ensures.pairs ∙ ap (λ l. l ++ (c.args.key, c.with-value.result) ∷ []) c.make_room.ensures.pairs in
     let H = g.S.KeyHasher.hash_of c.self.inside.hasher in
     let ps = (pairs_of c.self.inside.store) in
@@ -52,12 +52,12 @@ returns g c =
     let ps = (pairs_of c.self.inside.store) in
     let qs = (pairs_of c.push_reserved.new.self) in
     let n = c.len-last.result - 1 in
-    let a = absent_at t (t k) ps (ap (λ m. is_seen (t k) (texts m.entries)) c.self.view_is ∙ unseen_where_none (g.K.KeyText.text_of c.args.key) c.args.self.now.entries c.requires.absent) in
+    let a = absent_at t (t k) ps (ap (λ m. is_seen (t k) (entry_texts m.entries)) c.self.view_is ∙ unseen_where_none (g.K.KeyText.text_of c.args.key) c.args.self.now.entries c.requires.absent) in
     let e : qs ≡ ps ++ (k, v) ∷ [] = c.push_reserved.ensures.pairs ∙ ap (λ l. l ++ (k, v) ∷ []) c.make_room.ensures.pairs in
     let q : n ≡ length ps = omega (arith, c.len-last.ensures, ap length e, length_push ps (k, v)) in (
       lent_same _ _ _ (λ w. same_contents _ _ (λ j. (
-        (made_entries t ps qs k v n e q w a ∙ ap (λ x. put (k, t k) w x.entries) c.self.view_is) j,
-        ((ap (λ x. x.hasher) c.self.view_is) j, (c.push_reserved.ensures.buckets ∙ c.in_default.ensures.buckets ∙ ap (λ l. buckets_for l (buckets_of m.store)) (made_length t ps k w a) ∙ ap (λ x. buckets_for (length (put (k, t k) w x.entries)) x.buckets) c.self.view_is) j),
+        (made_entries t ps qs k v n e q w a ∙ ap (λ x. put_entry (k, t k) w x.entries) c.self.view_is) j,
+        ((ap (λ x. x.hasher) c.self.view_is) j, (c.push_reserved.ensures.buckets ∙ c.in_default.ensures.buckets ∙ ap (λ l. buckets_for l (buckets_of m.store)) (made_length t ps k w a) ∙ ap (λ x. buckets_for (length (put_entry (k, t k) w x.entries)) x.buckets) c.self.view_is) j),
       ))),
       record { writes_back = tt; made = subst (λ y. g.F.FnOnce.post c.args.with tt y) (made_value t ps qs k v n e q c.value_at_mut.result.now c.value_at_mut.ensures.value) c.with-value.ensures },
     )

@@ -1,7 +1,7 @@
 use Rattle.std.proofs.Common.{◌≡◌, sym, ap, ◌∙◌, refl, length, arith, subst, IsSome}
 use Rattle.sj_object.specs.Entries.{entries_of}
 use Rattle.sj_object.specs.HashMap.{same_contents}
-use Rattle.sj_object.specs.Edits.{lookup, value_at, set_value, set_value_at}
+use Rattle.sj_object.specs.Edits.{lookup, nth_value, set_value, set_value_at}
 use Rattle.sj_object.specs.Stored.{pairs_of}
 use Rattle.sj_object.proofs.Position.{found, absent}
 use Rattle.sj_object.proofs.Hashed.{entries-length, same_inside}
@@ -31,7 +31,7 @@ returns-in-Some g c =
         (ap (λ v. set_value_at i w v.entries) (sym c.self.view_is) ∙ f.set_there w ∙ ap (λ v. set_value k w v.entries) c.self.view_is) j,
         (c.args.self.now.hasher, c.args.self.now.buckets),
       ))),
-      sym c.value_at_mut.ensures.value ∙ ap (λ v. value_at i v.entries) (sym c.self.view_is) ∙ f.value_there ∙ ap (λ v. lookup k v.entries) c.self.view_is,
+      sym c.value_at_mut.ensures.value ∙ ap (λ v. nth_value i v.entries) (sym c.self.view_is) ∙ f.value_there ∙ ap (λ v. lookup k v.entries) c.self.view_is,
     )
 
 pub returns-in-None : goal.returns-in-None

@@ -1,7 +1,7 @@
 use Rattle.std.proofs.Common.{◌≡◌, Some, None, IsSome, length, refl, sym, ap, ◌∙◌, arith, subst, true≢false}
 use Rattle.sj_object.specs.Entries.{entries_of}
 use Rattle.sj_object.specs.HashMap.{same_contents}
-use Rattle.sj_object.specs.Edits.{lookup, put, value_at, set_value_at}
+use Rattle.sj_object.specs.Edits.{lookup, put_entry, nth_value, set_value_at}
 use Rattle.sj_object.specs.Index.{NeedsHash, buckets_for}
 use Rattle.sj_object.specs.Stored.{pairs_of, buckets_of}
 use Rattle.sj_object.proofs.Position.{found, absent}
@@ -36,10 +36,10 @@ returns-in-Some g c =
     let ps = (pairs_of c.self.inside.store) in
     let f = found t (t k) c.in-Some.is c.position_of.ensures c.text.ensures refl in
     let at : Some c.value_at_mut.result.now ≡ lookup (t k) c.args.self.now.entries =
-    sym c.value_at_mut.ensures.value ∙ ap (λ v. value_at i v.entries) (sym c.self.view_is) ∙ f.value_there ∙ ap (λ v. lookup (t k) v.entries) c.self.view_is in (
+    sym c.value_at_mut.ensures.value ∙ ap (λ v. nth_value i v.entries) (sym c.self.view_is) ∙ f.value_there ∙ ap (λ v. lookup (t k) v.entries) c.self.view_is in (
       lent_same _ _ _ (λ w. same_contents _ _ (λ j. (
-        (ap (λ v. set_value_at i w v.entries) (sym c.self.view_is) ∙ f.there w k refl ∙ ap (λ v. put (k, t k) w v.entries) c.self.view_is) j,
-        (c.args.self.now.hasher, (ap (λ v. v.buckets) (sym c.self.view_is) ∙ buckets_kept (length (entries_of t ps)) (length (put (k, t k) w (entries_of t ps))) (buckets_of m.store) (there_length t ps i k w f) m.room ∙ ap (λ v. buckets_for (length (put (k, t k) w v.entries)) v.buckets) c.self.view_is) j),
+        (ap (λ v. set_value_at i w v.entries) (sym c.self.view_is) ∙ f.there w k refl ∙ ap (λ v. put_entry (k, t k) w v.entries) c.self.view_is) j,
+        (c.args.self.now.hasher, (ap (λ v. v.buckets) (sym c.self.view_is) ∙ buckets_kept (length (entries_of t ps)) (length (put_entry (k, t k) w (entries_of t ps))) (buckets_of m.store) (there_length t ps i k w f) m.room ∙ ap (λ v. buckets_for (length (put_entry (k, t k) w v.entries)) v.buckets) c.self.view_is) j),
       ))),
       record { writes_back = tt; found = if_some _ _ c.value_at_mut.result.now at refl; made = λ e. absurd (not_both _ c.value_at_mut.result.now (sym at) e); succeeds = λ s. refl },
     )

@@ -1,7 +1,7 @@
 use Rattle.std.proofs.Common.{◌≡◌, ◌≤◌, ◌-◌, take, sym, ap, ◌∙◌, arith, subst, length}
 use Rattle.std.proofs.lemmas.List.{length-take-le}
 use Rattle.sj_object.specs.Texts.{no_repeats}
-use Rattle.sj_object.specs.Entries.{texts, entries_of}
+use Rattle.sj_object.specs.Entries.{entry_texts, entries_of}
 use Rattle.sj_object.specs.Index.{HasRoom}
 use Rattle.sj_object.specs.Stored.{pairs_of, buckets_of, IsIndexOf}
 use Rattle.sj_object.proofs.Hashed.{hashes, hashes-length, hashes-take, entries-length, room_fewer}
@@ -17,7 +17,7 @@ invariant_of-self-inside g c =
     let qs = pairs_of c.pop.new.self in
     let r : qs ≡ take (length ps - 1) ps = c.pop.ensures.rest in
     let n : length (entries_of t qs) ≤ length (entries_of t ps) = omega (arith, entries-length t qs, entries-length t ps, ap length r, length-take-le (length ps - 1) ps (omega arith)) in (
-      ap (λ l. no_repeats (texts (entries_of t l))) r ∙ ap no_repeats (texts-take t (length ps - 1) ps) ∙ no_repeats-take (length ps - 1) (texts (entries_of t ps)) m.distinct,
+      ap (λ l. no_repeats (entry_texts (entries_of t l))) r ∙ ap no_repeats (texts-take t (length ps - 1) ps) ∙ no_repeats-take (length ps - 1) (entry_texts (entries_of t ps)) m.distinct,
       (subst (HasRoom (length (entries_of t qs))) (sym c.pop.ensures.buckets) (room_fewer (length (entries_of t qs)) (length (entries_of t ps)) (buckets_of m.store) n m.room), tt),
     )
 

@@ -1,7 +1,7 @@
 use Rattle.std.proofs.Common.{◌≡◌, get_or, ◌++◌, ◌∷◌, [], Some, sym, ap, ◌∙◌, refl, subst, length, true≢false, IsSome}
 use Rattle.std.proofs.lemmas.List.{get_or_default}
 use Rattle.sj_object.specs.Entries.{entries_of}
-use Rattle.sj_object.specs.Edits.{lookup, put}
+use Rattle.sj_object.specs.Edits.{lookup, put_entry}
 use Rattle.sj_object.proofs.Repeats.{entries_of-append}
 use Rattle.sj_object.specs.Index.{NeedsHash}
 use Rattle.sj_object.specs.Stored.{pairs_of, buckets_of}
@@ -29,7 +29,7 @@ returns-in_ok-append_hashed-in-None-clause-entries g c =
     let v = c.args.value in
     let a = absent t k c.in-None.is c.position_of.ensures c.text.ensures refl in
     c.in_ok-append_hashed-in-None.ensures.entries ∙ ap (λ m. m.entries ++ ((c.args.key, k), v) ∷ []) (sym c.self.view_is)
-    ∙ sym (entries_of-append t (pairs_of c.self.inside.store) ((c.args.key, v) ∷ [])) ∙ a.put_last c.args.key v refl ∙ ap (λ m. put (c.args.key, k) v m.entries) c.self.view_is
+    ∙ sym (entries_of-append t (pairs_of c.self.inside.store) ((c.args.key, v) ∷ [])) ∙ a.put_last c.args.key v refl ∙ ap (λ m. put_entry (c.args.key, k) v m.entries) c.self.view_is
 
 pub returns-in_err-append_hashed-in-None-clause-succeeds : goal.returns-in_err-append_hashed-in-None-clause-succeeds
 returns-in_err-append_hashed-in-None-clause-succeeds g c =
@@ -88,4 +88,4 @@ returns-in-Some-clause-entries g c =
     let f = found t k c.in-Some.is c.position_of.ensures c.text.ensures refl in
     let x = get_or ps c.in-Some.i (c.args.key, c.args.value) in
     let q : x ≡ get_or ps c.in-Some.i x = get_or_default ps c.in-Some.i _ _ f.within in
-    ap (entries_of t) (c.replace.ensures.pairs x q) ∙ f.put_at x c.args.key c.args.value q refl ∙ ap (λ m. put (c.args.key, k) c.args.value m.entries) c.self.view_is
+    ap (entries_of t) (c.replace.ensures.pairs x q) ∙ f.put_at x c.args.key c.args.value q refl ∙ ap (λ m. put_entry (c.args.key, k) c.args.value m.entries) c.self.view_is

@@ -3,7 +3,7 @@ use Rattle.std.specs.List.{insert}
 use Rattle.std.proofs.lemmas.List.Edits.{length-insert}
 use Rattle.sj_text_core.specs.Keep.{is_seen}
 use Rattle.sj_object.specs.Texts.{no_repeats}
-use Rattle.sj_object.specs.Entries.{texts, entries_of}
+use Rattle.sj_object.specs.Entries.{entry_texts, entries_of}
 use Rattle.sj_object.specs.Stored.{pairs_of}
 use Rattle.sj_object.proofs.Position.{unseen_where_none}
 use Rattle.sj_object.proofs.Hashed.{hashes, hashes-length, entries-length, room_of}
@@ -31,8 +31,8 @@ invariant_of-self-inside g c =
     let store = c.take.new.self in
     let put = inserted c.move_into.new.pairs.items c.insert.new.self.items place pair c.insert.result c.unwrap.result c.insert.ensures.items c.unwrap.ensures in
     let whole : pairs_of store ≡ insert ps place pair = c.take.ensures.pairs ∙ put ∙ ap (λ l. insert l place pair) c.move_into.ensures.pairs in
-    let absent : is_seen (t c.args.key) (texts (entries_of t ps)) ≡ false = ap (λ m. is_seen (t c.args.key) (texts m.entries)) c.self.view_is ∙ unseen_where_none (t c.args.key) c.args.self.now.entries c.requires.absent in (
-      ap (λ l. no_repeats (texts (entries_of t l))) whole ∙ distinct-insert t ps place pair c.self.inside.distinct absent,
+    let absent : is_seen (t c.args.key) (entry_texts (entries_of t ps)) ≡ false = ap (λ m. is_seen (t c.args.key) (entry_texts m.entries)) c.self.view_is ∙ unseen_where_none (t c.args.key) c.args.self.now.entries c.requires.absent in (
+      ap (λ l. no_repeats (entry_texts (entries_of t l))) whole ∙ distinct-insert t ps place pair c.self.inside.distinct absent,
       (room_of t (pairs_of store) (hashes t H (pairs_of store)) store c.take.ensures.index (hashes-length t H (pairs_of store)), tt),
     )
 

@@ -1,6 +1,6 @@
 use Rattle.std.proofs.Common.{◌≡◌, ◌≤◌, true, length, sym, ap, ◌∙◌, arith}
 use Rattle.sj_object.specs.Texts.{no_repeats}
-use Rattle.sj_object.specs.Entries.{texts, entries_of}
+use Rattle.sj_object.specs.Entries.{entry_texts, entries_of}
 use Rattle.sj_object.specs.Rooms.{places}
 use Rattle.sj_object.specs.Stored.{pairs_of}
 use Rattle.sj_object.proofs.Hashed.{hashes, hashes-length, entries-length, room_of}
@@ -29,8 +29,8 @@ invariant_of-self-inside g c =
     let H = g.S.KeyHasher.hash_of c.self.inside.hasher in
     let ps = c.move_into.new.pairs.items in
     let store = c.take.new.self in
-    let before : no_repeats (texts (entries_of t ps)) ≡ true = ap (λ l. no_repeats (texts (entries_of t l))) c.move_into.ensures.pairs ∙ c.self.inside.distinct in
+    let before : no_repeats (entry_texts (entries_of t ps)) ≡ true = ap (λ l. no_repeats (entry_texts (entries_of t l))) c.move_into.ensures.pairs ∙ c.self.inside.distinct in
     let after = restored_all-distinct t c.places-most.result c.args.taken.items (entries_of t ps) before in (
-      ap (λ l. no_repeats (texts (entries_of t l))) c.take.ensures.pairs ∙ ap (λ es. no_repeats (texts es)) c.put_back.ensures ∙ after,
+      ap (λ l. no_repeats (entry_texts (entries_of t l))) c.take.ensures.pairs ∙ ap (λ es. no_repeats (entry_texts es)) c.put_back.ensures ∙ after,
       (room_of t (pairs_of store) (hashes t H (pairs_of store)) store c.take.ensures.index (hashes-length t H (pairs_of store)), tt),
     )

@@ -3,7 +3,7 @@ use Rattle.std.specs.List.{insert}
 use Rattle.std.proofs.lemmas.List.Edits.{length-insert}
 use Rattle.sj_text_core.specs.Keep.{is_seen}
 use Rattle.sj_object.specs.Texts.{no_repeats}
-use Rattle.sj_object.specs.Entries.{texts, entries_of}
+use Rattle.sj_object.specs.Entries.{entry_texts, entries_of}
 use Rattle.sj_object.specs.HashMap.{same_contents}
 use Rattle.sj_object.specs.Index.{NeedsHash}
 use Rattle.sj_object.specs.Stored.{pairs_of, buckets_of, IsIndexOf}
@@ -26,13 +26,13 @@ invariant_of-self-inside g c =
     let pair : g.row.K.Denot × g.row.V.Denot = (c.args.key, c.args.value) in
     let qs = pairs_of c.insert_reserved.new.self in
     let e : qs ≡ insert ps place pair = c.insert_reserved.ensures.pairs ∙ ap (λ l. insert l place pair) c.in-Ok.ensures.pairs in
-    let u : is_seen (t c.args.key) (texts (entries_of t ps)) ≡ false = ap (λ m. is_seen (t c.args.key) (texts m.entries)) c.self.view_is ∙ unseen_where_none (t c.args.key) c.args.self.now.entries c.requires.absent in
+    let u : is_seen (t c.args.key) (entry_texts (entries_of t ps)) ≡ false = ap (λ m. is_seen (t c.args.key) (entry_texts m.entries)) c.self.view_is ∙ unseen_where_none (t c.args.key) c.args.self.now.entries c.requires.absent in
     let within : place ≤ length ps = omega (arith, c.requires.within, ap (λ m. length m.entries) c.self.view_is, entries-length t ps) in
     let size : length (hashes t H ps) ≡ length (pairs_of c.make_room.new.store) = hashes-length t H ps ∙ sym (ap length c.in-Ok.ensures.pairs) in
     let index = c.insert_reserved.ensures.index (hashes t H ps) c.hash_for-hash.result size c.in-Ok.ensures.ok in
     let n : length (insert (hashes t H ps) place c.hash_for-hash.result) ≡ length qs =
     omega (arith, length-insert (hashes t H ps) place c.hash_for-hash.result (omega (arith, within, hashes-length t H ps)), hashes-length t H ps, ap length e, length-insert ps place pair within) in (
-      ap (λ l. no_repeats (texts (entries_of t l))) e ∙ distinct-insert t ps place pair c.self.inside.distinct u,
+      ap (λ l. no_repeats (entry_texts (entries_of t l))) e ∙ distinct-insert t ps place pair c.self.inside.distinct u,
       (room_of t qs _ c.insert_reserved.new.self index n, tt),
     )
 

@@ -1,8 +1,8 @@
 use Rattle.std.proofs.Common.{◌≡◌, ◌≤◌, ℕ, None, option_map, sym, ap, ◌∙◌, refl, arith, rules, subst, length}
 use Rattle.std.specs.List.{insert, remove}
 use Rattle.sj_object.specs.Texts.{no_repeats}
-use Rattle.sj_object.specs.Entries.{texts, entries_of}
-use Rattle.sj_object.specs.Edits.{lookup, position, cut}
+use Rattle.sj_object.specs.Entries.{entry_texts, entries_of}
+use Rattle.sj_object.specs.Edits.{lookup, position, cut_entry}
 use Rattle.sj_object.specs.Index.{HasRoom}
 use Rattle.sj_object.specs.Stored.{pairs_of, IsIndexOf, buckets_of}
 use Rattle.sj_object.proofs.Hashed.{hashes, hashes-length, hashes-remove, same_inside, entries-length, room_fewer}
@@ -31,7 +31,7 @@ invariant_of-self-inside-2 g c =
     let ps = pairs_of c.self.inside.store in
     let qs = pairs_of c.remove.new.self in
     let n : length (entries_of t qs) ≤ length (entries_of t ps) = omega (arith, entries-length t qs, entries-length t ps, ap length c.remove.ensures.pairs, length-remove ps c.in_ok-i.i f.within) in (
-      ap (λ es. no_repeats (texts es)) (ap (entries_of t) c.remove.ensures.pairs ∙ f.cut_at) ∙ no_repeats-cut k (entries_of t (pairs_of c.self.inside.store)) c.self.inside.distinct,
+      ap (λ es. no_repeats (entry_texts es)) (ap (entries_of t) c.remove.ensures.pairs ∙ f.cut_at) ∙ no_repeats-cut k (entries_of t (pairs_of c.self.inside.store)) c.self.inside.distinct,
       (subst (HasRoom (length (entries_of t qs))) (sym c.remove.ensures.buckets) (room_fewer (length (entries_of t qs)) (length (entries_of t ps)) (buckets_of m.store) n m.room), tt),
     )
 
@@ -44,7 +44,7 @@ pub returns-clause-entries : goal.returns-clause-entries
 returns-clause-entries g c =
     let t = g.K.KeyText.text_of in
     let f = found t c.args.key.now c.in_ok-i.was c.position_of.ensures refl refl in
-    ap (entries_of t) c.remove.ensures.pairs ∙ f.cut_at ∙ ap (λ m. cut c.args.key.now m.entries) c.self.view_is
+    ap (entries_of t) c.remove.ensures.pairs ∙ f.cut_at ∙ ap (λ m. cut_entry c.args.key.now m.entries) c.self.view_is
 
 pub returns-clause-index : goal.returns-clause-index
 returns-clause-index g c =
@@ -85,7 +85,7 @@ returns-in_err-i-clause-answer g c =
 pub returns-in_err-i-clause-entries : goal.returns-in_err-i-clause-entries
 returns-in_err-i-clause-entries g c =
     let a = absent g.K.KeyText.text_of c.args.key.now c.in_err-i.was c.position_of.ensures refl refl in
-    ap (λ m. m.entries) (sym c.self.view_is) ∙ sym a.cut_none ∙ ap (λ m. cut c.args.key.now m.entries) c.self.view_is
+    ap (λ m. m.entries) (sym c.self.view_is) ∙ sym a.cut_none ∙ ap (λ m. cut_entry c.args.key.now m.entries) c.self.view_is
 
 pub same-self : goal.same-self
 same-self g c = same_inside c.self.inside _ _

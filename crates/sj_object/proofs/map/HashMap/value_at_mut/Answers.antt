@@ -4,8 +4,8 @@ use Rattle.std.specs.Vec.{with_item}
 use Rattle.std.specs.VecDeque.{deque_with_item}
 use Rattle.sj_object.specs.Entries.{entries_of}
 use Rattle.sj_object.specs.HashMap.{same_contents}
-use Rattle.sj_object.specs.Edits.{value_at, set_value_at, with_value_at}
-use Rattle.sj_object.specs.Stored.{members_of, pairs_of, buckets_of, IsIndexOf}
+use Rattle.sj_object.specs.Edits.{nth_value, set_value_at, with_value_at}
+use Rattle.sj_object.specs.Stored.{stored_members, pairs_of, buckets_of, IsIndexOf}
 use Rattle.sj_object.specs.declared.map.store.Store.{Store}
 use Rattle.sj_object.specs.declared.map.store.Store.TheVariants.{Plain, Hashed}
 use Rattle.sj_object.specs.declared.map.members.Members.{Members}
@@ -28,7 +28,7 @@ module _ {K V : Type 0} (s : Store K V) (i : ℕ) (x : K × V) (w : V) where
   abbrev with_members : Box (Beside K V) Global → Beside K V → Members K V → Box (Beside K V) Global
   with_members b v m = record b { value = record { members = m; table = v.table } }
 
-  beside_changed : (b : Box (Beside K V) Global) (m : Members K V) (new : Store K V) → s ≡ Hashed b → members_of m ≡ slice_set (members_of b.value.members) i (x.0, w) → new ≡ Hashed (with_members b b.value m) → IsChanged s new i x w
+  beside_changed : (b : Box (Beside K V) Global) (m : Members K V) (new : Store K V) → s ≡ Hashed b → stored_members m ≡ slice_set (stored_members b.value.members) i (x.0, w) → new ≡ Hashed (with_members b b.value m) → IsChanged s new i x w
   beside_changed b m new is p e = record {
     pairs = ap pairs_of e ∙ p ∙ ap (λ o. slice_set (pairs_of o) i (x.0, w)) (sym is);
     buckets = ap buckets_of e ∙ sym (ap buckets_of is);
@@ -42,8 +42,8 @@ module _ {K V : Type 0} {s : Store K V} {x : K × V} (i : ℕ) where
   in_plain : {u v : Vec (K × V) Global} → x ≡ get_or u.items i x → u ≡ v → s ≡ Plain v → x ≡ get_or (pairs_of s) i x
   in_plain q e is = q ∙ ap (λ (u : Vec (K × V) Global). get_or u.items i x) e ∙ ap (λ o. get_or (pairs_of o) i x) (sym is)
 
-  in_beside : {m : Members K V} {b : Box (Beside K V) Global} → x ≡ get_or (members_of m) i x → b.value.members ≡ m → s ≡ Hashed b → x ≡ get_or (pairs_of s) i x
-  in_beside q e is = q ∙ ap (λ n. get_or (members_of n) i x) (sym e) ∙ ap (λ o. get_or (pairs_of o) i x) (sym is)
+  in_beside : {m : Members K V} {b : Box (Beside K V) Global} → x ≡ get_or (stored_members m) i x → b.value.members ≡ m → s ≡ Hashed b → x ≡ get_or (pairs_of s) i x
+  in_beside q e is = q ∙ ap (λ n. get_or (stored_members n) i x) (sym e) ∙ ap (λ o. get_or (pairs_of o) i x) (sym is)
 
 pub invariant_of-self-inside-lent : goal.invariant_of-self-inside-lent
 invariant_of-self-inside-lent g c w =
@@ -68,7 +68,7 @@ invariant_of-self-inside-lent-in-Listed g c w =
     let p : x ≡ get_or l.items i x = c.index_mut-pair-in-Listed.ensures.value ∙ ap (λ (u : Vec (g.row.K.Denot × g.row.V.Denot) Global). get_or u.items i x) c.in-Listed.pairs-is in
     let q = in_beside i p n c.in-Hashed.is in
     let e : _ ≡ Hashed (with_members m.store i x w b b.value (Listed (with_item l i (x.0, w)))) = rw c.in-Hashed.is (rw c.in-Listed.is (ap (λ v. Hashed (with_members m.store i x w b v (Listed (with_item l i (x.0, w))))) d)) in
-    let h = beside_changed m.store i x w b (Listed (with_item l i (x.0, w))) _ c.in-Hashed.is (ap (λ k. slice_set (members_of k) i (x.0, w)) (sym n)) e in
+    let h = beside_changed m.store i x w b (Listed (with_item l i (x.0, w))) _ c.in-Hashed.is (ap (λ k. slice_set (stored_members k) i (x.0, w)) (sym n)) e in
     (distinct_kept t h q m.distinct, (room_kept t h q m.room, tt))
 
 pub invariant_of-self-lent-in-Listed : goal.invariant_of-self-lent-in-Listed
@@ -84,7 +84,7 @@ invariant_of-self-lent-in-Listed g c w =
     let p : x ≡ get_or l.items i x = c.index_mut-pair-in-Listed.ensures.value ∙ ap (λ (u : Vec (g.row.K.Denot × g.row.V.Denot) Global). get_or u.items i x) c.in-Listed.pairs-is in
     let q = in_beside i p n c.in-Hashed.is in
     let e : _ ≡ Hashed (with_members m.store i x w b b.value (Listed (with_item l i (x.0, w)))) = rw c.in-Hashed.is (rw c.in-Listed.is (ap (λ v. Hashed (with_members m.store i x w b v (Listed (with_item l i (x.0, w))))) d)) in
-    let h = beside_changed m.store i x w b (Listed (with_item l i (x.0, w))) _ c.in-Hashed.is (ap (λ k. slice_set (members_of k) i (x.0, w)) (sym n)) e in
+    let h = beside_changed m.store i x w b (Listed (with_item l i (x.0, w))) _ c.in-Hashed.is (ap (λ k. slice_set (stored_members k) i (x.0, w)) (sym n)) e in
     index_kept t h q (g.S.KeyHasher.hash_of m.hasher) c.self.invariant
 
 pub invariant_of-self-inside-lent-in-Ring : goal.invariant_of-self-inside-lent-in-Ring
@@ -100,7 +100,7 @@ invariant_of-self-inside-lent-in-Ring g c w =
     let p : x ≡ get_or l.items i x = c.index_mut-pair-in-Ring.ensures.value ∙ ap (λ (u : VecDeque (g.row.K.Denot × g.row.V.Denot) Global). get_or u.items i x) c.in-Ring.pairs-is in
     let q = in_beside i p n c.in-Hashed.is in
     let e : _ ≡ Hashed (with_members m.store i x w b b.value (Ring (deque_with_item l i (x.0, w)))) = rw c.in-Hashed.is (rw c.in-Ring.is (ap (λ v. Hashed (with_members m.store i x w b v (Ring (deque_with_item l i (x.0, w))))) d)) in
-    let h = beside_changed m.store i x w b (Ring (deque_with_item l i (x.0, w))) _ c.in-Hashed.is (ap (λ k. slice_set (members_of k) i (x.0, w)) (sym n)) e in
+    let h = beside_changed m.store i x w b (Ring (deque_with_item l i (x.0, w))) _ c.in-Hashed.is (ap (λ k. slice_set (stored_members k) i (x.0, w)) (sym n)) e in
     (distinct_kept t h q m.distinct, (room_kept t h q m.room, tt))
 
 pub invariant_of-self-lent-in-Ring : goal.invariant_of-self-lent-in-Ring
@@ -116,7 +116,7 @@ invariant_of-self-lent-in-Ring g c w =
     let p : x ≡ get_or l.items i x = c.index_mut-pair-in-Ring.ensures.value ∙ ap (λ (u : VecDeque (g.row.K.Denot × g.row.V.Denot) Global). get_or u.items i x) c.in-Ring.pairs-is in
     let q = in_beside i p n c.in-Hashed.is in
     let e : _ ≡ Hashed (with_members m.store i x w b b.value (Ring (deque_with_item l i (x.0, w)))) = rw c.in-Hashed.is (rw c.in-Ring.is (ap (λ v. Hashed (with_members m.store i x w b v (Ring (deque_with_item l i (x.0, w))))) d)) in
-    let h = beside_changed m.store i x w b (Ring (deque_with_item l i (x.0, w))) _ c.in-Hashed.is (ap (λ k. slice_set (members_of k) i (x.0, w)) (sym n)) e in
+    let h = beside_changed m.store i x w b (Ring (deque_with_item l i (x.0, w))) _ c.in-Hashed.is (ap (λ k. slice_set (stored_members k) i (x.0, w)) (sym n)) e in
     index_kept t h q (g.S.KeyHasher.hash_of m.hasher) c.self.invariant
 
 pub returns-in-Plain : goal.returns-in-Plain
@@ -134,7 +134,7 @@ returns-in-Plain g c =
         λ w.
             after (ap (λ v. with_value_at v i w) c.self.view_is) (same_contents _ _ (rw c.in-Plain.is (λ j. (entries-set_value_at t c.in-Plain.pairs.items i x w p j, (m.hasher, None))))),
       ),
-      record { writes_back = tt; value = ap (λ v. value_at i v.entries) (sym c.self.view_is) ∙ value_at-get t (pairs_of m.store) i x l q },
+      record { writes_back = tt; value = ap (λ v. nth_value i v.entries) (sym c.self.view_is) ∙ value_at-get t (pairs_of m.store) i x l q },
     )
 
 pub returns-in-Listed : goal.returns-in-Listed
@@ -155,11 +155,11 @@ returns-in-Listed g c =
         refl,
         λ w.
             after (ap (λ v. with_value_at v i w) c.self.view_is) (same_contents _ _ (rw c.in-Hashed.is (rw c.in-Listed.is (λ j. (
-              (entries-set_value_at t l.items i x w p ∙ ap (λ k. set_value_at i w (entries_of t (members_of k))) (sym n)) j,
+              (entries-set_value_at t l.items i x w p ∙ ap (λ k. set_value_at i w (entries_of t (stored_members k))) (sym n)) j,
               (m.hasher, Some (length (d j).table.heads.items)),
             ))))),
       ),
-      record { writes_back = tt; value = ap (λ v. value_at i v.entries) (sym c.self.view_is) ∙ value_at-get t (pairs_of m.store) i x within q },
+      record { writes_back = tt; value = ap (λ v. nth_value i v.entries) (sym c.self.view_is) ∙ value_at-get t (pairs_of m.store) i x within q },
     )
 
 pub returns-in-Ring : goal.returns-in-Ring
@@ -180,9 +180,9 @@ returns-in-Ring g c =
         refl,
         λ w.
             after (ap (λ v. with_value_at v i w) c.self.view_is) (same_contents _ _ (rw c.in-Hashed.is (rw c.in-Ring.is (λ j. (
-              (entries-set_value_at t l.items i x w p ∙ ap (λ k. set_value_at i w (entries_of t (members_of k))) (sym n)) j,
+              (entries-set_value_at t l.items i x w p ∙ ap (λ k. set_value_at i w (entries_of t (stored_members k))) (sym n)) j,
               (m.hasher, Some (length (d j).table.heads.items)),
             ))))),
       ),
-      record { writes_back = tt; value = ap (λ v. value_at i v.entries) (sym c.self.view_is) ∙ value_at-get t (pairs_of m.store) i x within q },
+      record { writes_back = tt; value = ap (λ v. nth_value i v.entries) (sym c.self.view_is) ∙ value_at-get t (pairs_of m.store) i x within q },
     )

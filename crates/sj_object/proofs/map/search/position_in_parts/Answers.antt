@@ -3,7 +3,7 @@ use Rattle.std.proofs.lemmas.Bool.Decides.{nat_tests}
 use Rattle.std.proofs.lemmas.List.{get_or_default, get_or-drop, length-drop}
 use Rattle.std.proofs.lemmas.Nat.{pow_pos}
 use Rattle.sj_text_core.specs.Keep.{is_seen}
-use Rattle.sj_object.specs.Entries.{texts, entries_of}
+use Rattle.sj_object.specs.Entries.{entry_texts, entries_of}
 use Rattle.sj_object.specs.Steps.{walk}
 use Rattle.sj_object.specs.Index.{hashes_beside, hashes_in, IsTable}
 use Rattle.sj_object.specs.declared.map.index.Table.{Table}
@@ -93,7 +93,7 @@ loop-place-init g c =
     let a = agrees g.K.KeyText.text_of (g.S.KeyHasher.hash_of c.args._hasher.now) c.args.text.now (c.args.front.now ++ c.args.back.now) hs x c.requires.table.same c.requires.hash in
     let l : x % 2 ^ T.bits < 2 ^ T.bits = omega (arith, pow_pos T.bits) in
     let e = begins T c.requires.table.table (x % 2 ^ T.bits) p l (c.index-place.ensures ∙ ap (λ b. get_or T.heads.items b p) c.bucket_of.ensures) in
-    let s = at_start (2 ^ T.bits) x c.args.text.now hs (texts (entries_of g.K.KeyText.text_of (c.args.front.now ++ c.args.back.now))) a (lowered_by T.holes.items p - T.gone) e.1 in
+    let s = at_start (2 ^ T.bits) x c.args.text.now hs (entry_texts (entries_of g.K.KeyText.text_of (c.args.front.now ++ c.args.back.now))) a (lowered_by T.holes.items p - T.gone) e.1 in
     record { within = e.0.0; passed = omega arith; beside = λ o m. refl; there = e.0.1; stands = s.0; counted = omega (arith, s.1) }
 
 -- the position of the member at the place of a walk
@@ -172,7 +172,7 @@ returns-then-is_key-clause-exact g c =
     let l : i < length ps = omega (arith, y, z, texts-length t ps, v.stands.within) in
     let f = found_at t k ps i r c.requires.distinct l there (sym c.is_key.ensures.answer ∙ c.if-is_key.true) in
     let w = ap (λ m. walk H m k (entries_of t ps)) c.requires.table.table.linked.count ∙ walk_found t H k n i x ps hs f d c.requires.hash in
-    let m = at_member n x k hs (texts (entries_of t ps)) a (p - T.gone) i (omega (arith, y, z)) v.stands in
+    let m = at_member n x k hs (entry_texts (entries_of t ps)) a (p - T.gone) i (omega (arith, y, z)) v.stands in
     omega (arith, w, m, c.is_key.ensures.step, v.counted)
 
 -- a test that can't be true
@@ -208,7 +208,7 @@ loop-place-preserved g c =
     let n = 2 ^ T.bits in
     let x = c.args.hash in
     let hs = hashes_in T in
-    let ts = texts (entries_of t ps) in
+    let ts = entry_texts (entries_of t ps) in
     let a = agrees t H k ps hs x c.requires.table.same c.requires.hash in
     let e = place T q o (v.within, v.there) c.loop-place-test.true in
     let l : i < length hs = omega (arith, a.size, v.stands.within, e) in
@@ -232,7 +232,7 @@ pub returns-clause-found : goal.returns-clause-found
 returns-clause-found g c =
     let T = c.args.table.now in
     let v = c.loop-place.invariant in
-    let ts = texts (entries_of g.K.KeyText.text_of (c.args.front.now ++ c.args.back.now)) in
+    let ts = entry_texts (entries_of g.K.KeyText.text_of (c.args.front.now ++ c.args.back.now)) in
     let z = past T c.requires.table.table c.loop-place.place (v.within, v.there) (omega (arith, c.loop-place-test.false)) in
     let u : is_seen c.args.text.now ts ≡ false = subst (λ m. is_seen c.args.text.now (drop m ts) ≡ false) z v.stands.unseen in
     sym ((absent_at g.K.KeyText.text_of c.args.text.now (c.args.front.now ++ c.args.back.now) u).placeless 0)
@@ -249,7 +249,7 @@ returns-clause-exact g c =
     let x = c.args.hash in
     let hs = hashes_in T in
     let z = past T c.requires.table.table c.loop-place.place (v.within, v.there) (omega (arith, c.loop-place-test.false)) in
-    let u : is_seen k (texts (entries_of t ps)) ≡ false = subst (λ m. is_seen k (drop m (texts (entries_of t ps))) ≡ false) z v.stands.unseen in
+    let u : is_seen k (entry_texts (entries_of t ps)) ≡ false = subst (λ m. is_seen k (drop m (entry_texts (entries_of t ps))) ≡ false) z v.stands.unseen in
     let w = ap (λ m. walk H m k (entries_of t ps)) c.requires.table.table.linked.count ∙ walk_absent t H k n x ps hs u c.requires.table.same c.requires.hash in
     let d : count n (x % n) hs (lowered_by T.holes.items c.loop-place.place - T.gone) ≡ count n (x % n) hs 0 = ap (count n (x % n) hs) z in
     omega (arith, w, d, v.counted)

@@ -1,5 +1,5 @@
 use Rattle.std.proofs.Common.{◌≡◌, ◌+◌, ◌-◌, ◌%◌, ◌≤◌, ◌^◌, ◌++◌, ℕ, drop, length}
-use Rattle.sj_object.specs.Entries.{texts, entries_of}
+use Rattle.sj_object.specs.Entries.{entry_texts, entries_of}
 use Rattle.sj_object.specs.Holes.{raised_by}
 use Rattle.sj_object.specs.inner.Holes.{lowered_by}
 use Rattle.sj_object.specs.Index.{hashes_in}
@@ -13,7 +13,7 @@ invariant-loop-place g l = record {
   passed : l.passed ≤ length l.table.holes.items;
   beside : (p : ℕ) → p ≤ l.place → lowered_by (drop l.passed l.table.holes.items) p ≡ lowered_by l.table.holes.items p;
   there : l.place ≡ raised_by l.table.holes.items (lowered_by l.table.holes.items l.place);
-  stands : IsAt (2 ^ l.table.bits) (l.hash % 2 ^ l.table.bits) l.text (hashes_in l.table) (texts (entries_of g.K.KeyText.text_of (l.front ++ l.back))) (lowered_by l.table.holes.items l.place - l.table.gone);
+  stands : IsAt (2 ^ l.table.bits) (l.hash % 2 ^ l.table.bits) l.text (hashes_in l.table) (entry_texts (entries_of g.K.KeyText.text_of (l.front ++ l.back))) (lowered_by l.table.holes.items l.place - l.table.gone);
   counted : l.steps ≡ l.fn.steps + count (2 ^ l.table.bits) (l.hash % 2 ^ l.table.bits) (hashes_in l.table) (lowered_by l.table.holes.items l.place - l.table.gone);
 }
 

@@ -1,31 +1,31 @@
 use Rattle.std.proofs.Common.{◌≡◌, ◌+◌, ◌*◌, map}
 use Rattle.sj_object.specs.Entries.{entries_of}
-use Rattle.sj_document.specs.Document.{tree}
+use Rattle.sj_document.specs.Document.{document_tree}
 use Rattle.sj_document.proofs.Compared.{EachThere}
-use Rattle.sj_patch.specs.inner.Noted.{place_of, noted_by, Notes, array, between}
+use Rattle.sj_patch.specs.inner.Noted.{noted_path, noted_by, Notes, array, between}
 use Rattle.sj_patch.proofs.NotedMembers.{Compares, pairs, left}
 use Rattle.sj_patch.proofs.differences.Differences.+compare.Given as goal
 
 abbrev pub invariant-compare_members-loop-key : goal.invariant-compare_members-loop-key
 invariant-compare_members-loop-key g l =
     let t = g.T.KeyText.text_of in
-    let f = tree t in
+    let f = document_tree t in
     record {
       can : (goal.iterator-compare_members-loop-key g).can_next l.key-iterator;
       ends : (goal.iterator-compare_members-loop-key g).is_finite l.key-iterator;
       near : EachThere (entries_of t l.others) l.fn.new.entries;
       place : l.self.place.items ≡ l.fn.self.place.items;
-      compares : Compares (place_of l.fn.self) (noted_by t l.fn.self) (noted_by t l.self) (pairs f l.fn.old.entries) (pairs f l.fn.new.entries) (left f t l.key-iterator);
+      compares : Compares (noted_path l.fn.self) (noted_by t l.fn.self) (noted_by t l.self) (pairs f l.fn.old.entries) (pairs f l.fn.new.entries) (left f t l.key-iterator);
     }
 
 abbrev pub invariant-compare_pairs-loop-i : goal.invariant-compare_pairs-loop-i
 invariant-compare_pairs-loop-i g l =
     let t = g.T.KeyText.text_of in
-    let xs = map (tree t) l.old in
-    let ys = map (tree t) l.new in
+    let xs = map (document_tree t) l.old in
+    let ys = map (document_tree t) l.new in
     record {
       place : l.self.place.items ≡ l.fn.self.place.items;
-      notes : Notes (place_of l.fn.self) (noted_by t l.fn.self) (noted_by t l.self) (array xs) (array ys) (array (between l.first l.i xs ys));
+      notes : Notes (noted_path l.fn.self) (noted_by t l.fn.self) (noted_by t l.self) (array xs) (array ys) (array (between l.first l.i xs ys));
     }
 
 abbrev pub decreases-compare : goal.decreases-compare

@@ -2,7 +2,7 @@ use Rattle.std.proofs.Common.{Some, refl, ap, ◌∙◌, option_and_then}
 use Rattle.std.proofs.lemmas.Result.{on_ok_weaker}
 use Rattle.sj_text_core.specs.Reads.{as_members}
 use Rattle.sj_text_core.specs.declared.error.AccessError.TheVariants.{NotAnObject}
-use Rattle.sj_document.specs.Document.{tree, why_of, with_member}
+use Rattle.sj_document.specs.Document.{document_tree, edit_fault, with_member}
 use Rattle.sj_pointer.specs.Pointed.{pointed}
 use Rattle.sj_lazy.proofs.Lefts.{left_by}
 use Rattle.sj_path.specs.Changes.{changed_at}
@@ -11,9 +11,9 @@ use Rattle.sj_path.proofs.lazy.edits.insert.Goals as goal
 pub returns-in-Ok-clause-after : goal.returns-in-Ok-clause-after
 returns-in-Ok-clause-after g c =
     let left = rw c.in-Ok.is at (c.as_mut.follows.holds c.insert.new.value) in
-    on_ok_weaker c.insert.result (λ e. left refl ∙ ap Some (e ∙ ap (changed_at c.args.pointer.now (with_member (g.T.KeyText.text_of c.args.key) (tree g.T.KeyText.text_of c.args.new))) c.in-Ok.ensures.value)) c.insert.ensures.after
+    on_ok_weaker c.insert.result (λ e. left refl ∙ ap Some (e ∙ ap (changed_at c.args.pointer.now (with_member (g.T.KeyText.text_of c.args.key) (document_tree g.T.KeyText.text_of c.args.new))) c.in-Ok.ensures.value)) c.insert.ensures.after
 
 pub returns-in-Ok-clause-refused : goal.returns-in-Ok-clause-refused
 returns-in-Ok-clause-refused g c =
     let left = rw c.in-Ok.is at (c.as_mut.follows.holds c.insert.new.value) in
-    left_by _ _ _ _ _ _ c.insert.result _ _ _ (left refl) c.in-Ok.ensures.value c.insert.ensures.refused (λ r e. e ∙ ap (λ v. why_of NotAnObject (option_and_then as_members (pointed c.args.pointer.now v))) c.in-Ok.ensures.value) c.insert.ensures.kind
+    left_by _ _ _ _ _ _ c.insert.result _ _ _ (left refl) c.in-Ok.ensures.value c.insert.ensures.refused (λ r e. e ∙ ap (λ v. edit_fault NotAnObject (option_and_then as_members (pointed c.args.pointer.now v))) c.in-Ok.ensures.value) c.insert.ensures.kind

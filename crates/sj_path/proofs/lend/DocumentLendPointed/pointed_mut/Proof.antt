@@ -29,7 +29,7 @@ use Rattle.std.specs.contracts.option.Option as option
 use Rattle.std.specs.declared.cmp.Eq as total
 use Rattle.std.specs.declared.cmp.PartialEq as eq
 use Rattle.sj_pointer.specs.Pointed.{pointed, set_pointed}
-use Rattle.sj_document.specs.Document.{tree}
+use Rattle.sj_document.specs.Document.{document_tree}
 use Rattle.sj_document.specs.declared.value.Document.{Document}
 use Rattle.sj_object.specs.declared.key.KeyText as key
 use Rattle.sj_document.specs.contracts.value.Document.{the_row}
@@ -69,7 +69,7 @@ pointed_mut_spec 𝓤 𝓛 𝓜 𝓡 wired T L k kd e ed p pd mk me mp =
     proved 𝓛 End hs c 𝓜 𝓡 (Goes-spent_ref 𝓛 3 (0 ∷ []) tt (plain (λ _. D)), (Goes-dropped 𝓛 3 (shr_ref_to (1 ∷ []) tt (plain (λ _. pointer_row))) yes (λ κs x w. refl), tt))
     (f.Key.name (args T k kd e ed p pd)) (function T k kd e ed p pd) (code.unfolded 𝓤 𝓛.H 𝓜 𝓡 wired (T, tt) kd ed pd)
     (λ κs. (mut_vals, (shr_vals, tt))) (λ κs. (mut_Tells (named 0) κs.0 D, (shr_Tells (named 1) κs.1.0 pointer_row, tt))) (λ κs qs bounds a _ are.
-    let us = mut_vals a.0 in let ws = shr_vals a.1.0 in let old = tree k.text_of a.0.now in
+    let us = mut_vals a.0 in let ws = shr_vals a.1.0 in let old = document_tree k.text_of a.0.now in
     let Found = option.the_row (MutRef (named 0) κs.0 D) in
     let y : W.Ghost = ((κs, qs, bounds, a, (us, (ws, tt))), tt) in
     let G = triple_of 𝓛 (g.signature T k kd e ed p pd) (g.spec T k kd e ed p pd 𝓛 𝓜.mem 𝓡.returns) in
@@ -82,8 +82,8 @@ pointed_mut_spec 𝓤 𝓛 𝓜 𝓡 wired T L k kd e ed p pd mk me mp =
     nothing ! $ use0 𝓛 (given (κs.1.1.0 ⊑ T.lives) (‵ ftrue)) (fact_i 𝓤 _ (emp 𝓤) lives) $ join ! $ move ! (1 ∷ 0 ∷ []) $ use2 𝓛 (raw (G.pre z)) (id⊢ 𝓤 _) $
     calls_at ! (framed 𝓤 𝓛.H 𝓜 𝓣) G (g-met.met 𝓤 𝓛 𝓜 𝓡 (code.calls-sj_path::walk::find_mut 𝓡.env wired) T L k kd e ed p pd mk me mp) z (and_then ! (get ! refl) (and_then ! (get ! refl) (no_more !))) (λ v.
     use1 𝓛 (later (some (λ (r : Option (MutBor (Document T.Denot))). ((‵ (flft κs.0 qs.0) ⊛ ‵ (flft κs.1.0 qs.1.0) ⊛ ‵ (flft κs.1.1.0 qs.1.1.0) ⊛ ‵ ftrue) ⊛ ‵ (Found.own_val r (v ∷ []))) ⊛
-    some (λ (ends : Unit {0} × (Unit {0} × Unit {0})). ‵ (lasts (g.ended T k kd e ed p pd) z.0.0 z.0.3 ends) ⊛ (‵ (follows_so D D a.0.ghost_name (ghost_name_of r) (λ w n. OnSome r (tree k.text_of n ≡ set_pointed a.1.0.now (tree k.text_of w) old)) (λ n. tree k.text_of n ≡ old))
-    ⊛ raw (fact 𝓤 (option_map (λ v. tree k.text_of v.now) r ≡ pointed a.1.0.now old))))))) (id⊢ 𝓤 _) $
+    some (λ (ends : Unit {0} × (Unit {0} × Unit {0})). ‵ (lasts (g.ended T k kd e ed p pd) z.0.0 z.0.3 ends) ⊛ (‵ (follows_so D D a.0.ghost_name (ghost_name_of r) (λ w n. OnSome r (document_tree k.text_of n ≡ set_pointed a.1.0.now (document_tree k.text_of w) old)) (λ n. document_tree k.text_of n ≡ old))
+    ⊛ raw (fact 𝓤 (option_map (λ v. document_tree k.text_of v.now) r ≡ pointed a.1.0.now old))))))) (id⊢ 𝓤 _) $
     await ! tt $ pick ! (λ r. split ! $ split ! $ move ! (2 ∷ []) $ pick ! (λ ends. split ! $ drop ! $ split ! $ move ! (1 ∷ []) $ heard ! _ (λ shown.
     -- [what r owns; what the call says; the tokens]
     move ! (2 ∷ []) $ peeks ! Found _ (shows 𝓛 Found) r (v ∷ []) (λ is.

@@ -3,7 +3,7 @@ use Rattle.sj_text_core.specs.Find.{find_member}
 use Rattle.sj_text_core.specs.Tree.{Tree, members_from}
 use Rattle.sj_text_core.proofs.Shapes.{members_from-paired}
 use Rattle.sj_tape.specs.Members.{members, members_ahead}
-use Rattle.sj_tape.specs.Value.{tree, part}
+use Rattle.sj_tape.specs.Value.{tape_tree, tape_part}
 use Rattle.sj_tape.proofs.Chosen.{member_step, members_end}
 use Rattle.sj_tape.proofs.object.Object.first.Goals as goal
 
@@ -22,13 +22,13 @@ loop-name-init c =
 
 pub returns-then-are_same_texts : goal.returns-then-are_same_texts
 returns-then-are_same_texts c =
-    let step = member_step c.loop-name.name-iterator.repeats c.next.new.self.repeats c.in-Some.name.now (part c.in-Some.value) (members_ahead c.loop-name.name-iterator) (members_ahead c.next.new.self) c.in-Some.ensures.steps in
-    by_first c.args.key.now c.in-Some.name.now (tree c.in-Some.value) _ _ _ _ _ c.loop-name.invariant step c.are_same_texts.ensures c.if-are_same_texts.true
+    let step = member_step c.loop-name.name-iterator.repeats c.next.new.self.repeats c.in-Some.name.now (tape_part c.in-Some.value) (members_ahead c.loop-name.name-iterator) (members_ahead c.next.new.self) c.in-Some.ensures.steps in
+    by_first c.args.key.now c.in-Some.name.now (tape_tree c.in-Some.value) _ _ _ _ _ c.loop-name.invariant step c.are_same_texts.ensures c.if-are_same_texts.true
 
 pub loop-name-preserved : goal.loop-name-preserved
 loop-name-preserved c =
-    let step = member_step c.loop-name.name-iterator.repeats c.next.new.self.repeats c.in-Some.name.now (part c.in-Some.value) (members_ahead c.loop-name.name-iterator) (members_ahead c.next.new.self) c.in-Some.ensures.steps in
-    by_first c.args.key.now c.in-Some.name.now (tree c.in-Some.value) _ _ _ _ _ c.loop-name.invariant step c.are_same_texts.ensures c.if-are_same_texts.false
+    let step = member_step c.loop-name.name-iterator.repeats c.next.new.self.repeats c.in-Some.name.now (tape_part c.in-Some.value) (members_ahead c.loop-name.name-iterator) (members_ahead c.next.new.self) c.in-Some.ensures.steps in
+    by_first c.args.key.now c.in-Some.name.now (tape_tree c.in-Some.value) _ _ _ _ _ c.loop-name.invariant step c.are_same_texts.ensures c.if-are_same_texts.false
 
 pub returns : goal.returns
 returns c =

@@ -1,6 +1,6 @@
 use Rattle.std.proofs.Common.{◌≡◌, ℕ, suc, ◌+◌, ◌-◌, Bool, false, ◌||◌, List, ◌∷◌, take, sym, ap, ◌∙◌, arith, bytes_eq}
 use Rattle.std.proofs.lemmas.List.{take-map}
-use Rattle.sj_text_core.specs.Agree.{texts}
+use Rattle.sj_text_core.specs.Agree.{pair_keys}
 use Rattle.sj_text_core.specs.Keep.{is_seen}
 use Rattle.sj_text_core.specs.Tree.{Tree, paired}
 use Rattle.sj_tape.specs.Members.{members, keys_ahead}
@@ -16,7 +16,7 @@ loop-name-init c = record {
   within = omega arith;
   ahead = ap (λ it. is_seen c.args.key.now (take (c.args.place - 0) (keys_ahead it))) c.into_iter-name-iterator.ensures.into_iter_gives
       ∙ ap (λ ks. is_seen c.args.key.now (take (c.args.place - 0) ks)) c.keys-name-items.ensures
-      ∙ (let none : c.args.place - 0 ≡ c.args.place = omega arith in ap (λ n. is_seen c.args.key.now (take n (texts (paired (members c.args.self.now))))) none)
+      ∙ (let none : c.args.place - 0 ≡ c.args.place = omega arith in ap (λ n. is_seen c.args.key.now (take n (pair_keys (paired (members c.args.self.now))))) none)
       ∙ ap (is_seen c.args.key.now) (take-map (λ (p : List ℕ × Tree). p.0) c.args.place (paired (members c.args.self.now)));
 }
 

@@ -3,7 +3,7 @@ use Rattle.std.proofs.lemmas.Result.{IfOk-weaker, err_from_is_err_and}
 use Rattle.sj_text_core.specs.Tree.{list, obj, items_from, members_from}
 use Rattle.sj_text_core.specs.Nodes.{flat, array, object}
 use Rattle.sj_tape.specs.Marks.{packed_marks}
-use Rattle.sj_text_core.specs.inner.Parse.{value_at, parts_at, list_at, obj_at, member_at}
+use Rattle.sj_text_core.specs.inner.Parse.{read_value, parts_at, list_at, obj_at, read_member}
 use Rattle.sj_tape.proofs.Gives.{ends_drop, behind_quote, gives_by, list_is, obj_is, member_by, member_gives, member_errs, filled, empty}
 use Rattle.sj_tape.proofs.Parts.{fails, parts_none, parts_unseparated, last_turn, next_turn, item_flats, member_flats, member_flat, item_flats-push, member_flats-push}
 use Rattle.sj_tape.proofs.Values.{value_at_end, value_too_deep, value_too_deep_2, value_in_list, value_in_obj, value_scalar, count_is, nodes_set, flat_list_is, flat_obj_is}
@@ -33,7 +33,7 @@ other_value-array-requires t c = (omega (arith, c.decreases), ends_drop c.args.r
 pub other_value-returns-then-byte-eq91-clause-ok : goal.other_value-returns-then-byte-eq91-clause-ok
 other_value-returns-then-byte-eq91-clause-ok t c =
     let e = value_in_list c.args.depth c.args.rest.now 0 c.requires.some c.if-byte-eq91.true c.if-depth-eq0.false in
-    let f = e ∙ ap (λ l. list_at (value_at (c.args.depth - 1)) l) (sym c.split_at_mut-inside.ensures.back) in
+    let f = e ∙ ap (λ l. list_at (read_value (c.args.depth - 1)) l) (sym c.split_at_mut-inside.ensures.back) in
     gives_by _ _ c.in_ok-left.left.now _ _ f c.in_ok-left.ensures.ok
 
 pub other_value-object-requires : goal.other_value-object-requires
@@ -42,7 +42,7 @@ other_value-object-requires t c = (omega (arith, c.decreases), ends_drop c.args.
 pub other_value-returns-then-byte-eq123-clause-ok : goal.other_value-returns-then-byte-eq123-clause-ok
 other_value-returns-then-byte-eq123-clause-ok t c =
     let e = value_in_obj c.args.depth c.args.rest.now 0 c.requires.some c.if-byte-eq123.true c.if-depth-eq0-2.false in
-    let f = e ∙ ap (λ l. obj_at (value_at (c.args.depth - 1)) l) (sym c.split_at_mut-inside-then-byte-eq123.ensures.back) in
+    let f = e ∙ ap (λ l. obj_at (read_value (c.args.depth - 1)) l) (sym c.split_at_mut-inside-then-byte-eq123.ensures.back) in
     gives_by _ _ c.in_ok-left-2.left.now _ _ f c.in_ok-left-2.ensures.ok
 
 pub other_value-returns-clause-ok : goal.other_value-returns-clause-ok
@@ -52,12 +52,12 @@ other_value-returns-clause-ok t c =
 pub other_value-returns-in_err-left-clause-err : goal.other_value-returns-in_err-left-clause-err
 other_value-returns-in_err-left-clause-err t c =
     let p = err_from_is_err_and c.from_residual.result c.from_residual.ensures.1 in
-    rw (p.1, p.2) (λ n. value_in_list c.args.depth c.args.rest.now 0 c.requires.some c.if-byte-eq91.true c.if-depth-eq0.false ∙ ap (λ l. list_at (value_at (c.args.depth - 1)) l) (sym c.split_at_mut-inside.ensures.back) ∙ c.in_err-left.ensures.err n)
+    rw (p.1, p.2) (λ n. value_in_list c.args.depth c.args.rest.now 0 c.requires.some c.if-byte-eq91.true c.if-depth-eq0.false ∙ ap (λ l. list_at (read_value (c.args.depth - 1)) l) (sym c.split_at_mut-inside.ensures.back) ∙ c.in_err-left.ensures.err n)
 
 pub other_value-returns-in_err-left-2-clause-err : goal.other_value-returns-in_err-left-2-clause-err
 other_value-returns-in_err-left-2-clause-err t c =
     let p = err_from_is_err_and c.from_residual-in_err-left-2.result c.from_residual-in_err-left-2.ensures.1 in
-    rw (p.1, p.2) (λ n. value_in_obj c.args.depth c.args.rest.now 0 c.requires.some c.if-byte-eq123.true c.if-depth-eq0-2.false ∙ ap (λ l. obj_at (value_at (c.args.depth - 1)) l) (sym c.split_at_mut-inside-then-byte-eq123.ensures.back) ∙ c.in_err-left-2.ensures.err n)
+    rw (p.1, p.2) (λ n. value_in_obj c.args.depth c.args.rest.now 0 c.requires.some c.if-byte-eq123.true c.if-depth-eq0-2.false ∙ ap (λ l. obj_at (read_value (c.args.depth - 1)) l) (sym c.split_at_mut-inside-then-byte-eq123.ensures.back) ∙ c.in_err-left-2.ensures.err n)
 
 pub other_value-returns-in_err-left-3-clause-err : goal.other_value-returns-in_err-left-3-clause-err
 other_value-returns-in_err-left-3-clause-err t c =
@@ -81,7 +81,7 @@ array-returns-clause-ok t c =
     let counted : inner ≡ length (item_flats k.trees) = omega (arith, c.count.ensures, at_end, count_is old new (array 0 0) (item_flats k.trees) nodes') in
     record {
       tree = list (items_from k.trees);
-      was = list_is (value_at c.args.depth) c.args.rest.now _ _ c.skip-first.result k.trees c.skip-first.ensures.rest (λ e. c.if-byte_at-eq93.false (c.byte_at.ensures ∙ e)) c.split_at_mut-inside.ensures.back k.was;
+      was = list_is (read_value c.args.depth) c.args.rest.now _ _ c.skip-first.result k.trees c.skip-first.ensures.rest (λ e. c.if-byte_at-eq93.false (c.byte_at.ensures ∙ e)) c.split_at_mut-inside.ensures.back k.was;
       nodes = c.set_node.ensures
           ∙ (ap (λ n. set new n (array c.in_ok-rest.len inner)) at_end
           ∙ (nodes_set old new (array 0 0) (array c.in_ok-rest.len inner) (item_flats k.trees) nodes' ∙ ap (λ m. old ++ m) (sym (flat_list_is k.trees c.in_ok-rest.len inner k.count counted))));
@@ -91,7 +91,7 @@ pub items-returns-in_err-after-clause-err : goal.items-returns-in_err-after-clau
 items-returns-in_err-after-clause-err t c =
     let p = err_from_is_err_and c.from_residual.result c.from_residual.ensures.1 in
     rw (p.1, p.2) (λ n. fails item_flats _ _ _ _ _ c.loop-after.invariant.progress
-    (parts_none 93 (value_at c.args.depth) (length c.args.bytes.now - c.loop-after.len) c.loop-after.rest.now (c.in_err-after.ensures.err n)))
+    (parts_none 93 (read_value c.args.depth) (length c.args.bytes.now - c.loop-after.len) c.loop-after.rest.now (c.in_err-after.ensures.err n)))
 
 pub items-loop-after-preserved : goal.items-loop-after-preserved
 items-loop-after-preserved t c =
@@ -101,9 +101,9 @@ items-loop-after-preserved t c =
     record {
       room = omega (arith, c.loop-after.invariant.room, a.shorter, k.back_len);
       ends = ends_drop c.in_ok-after.after.now _ c.separator-stop.result.next a.ends k.back;
-      progress = next_turn 93 (value_at c.args.depth) item_flats (λ t. flat t) item_flats-push (length c.args.bytes.now) c.loop-after.len c.loop-after.rest.now
+      progress = next_turn 93 (read_value c.args.depth) item_flats (λ t. flat t) item_flats-push (length c.args.bytes.now) c.loop-after.len c.loop-after.rest.now
           c.in_ok-after.after.now c.split_at_mut-next.result.1.now true
-          (parts_at 93 (value_at c.args.depth) (length c.args.bytes.now) c.args.bytes.now)
+          (parts_at 93 (read_value c.args.depth) (length c.args.bytes.now) c.args.bytes.now)
           (packed_marks c.args.nodes.now.items) (packed_marks c.loop-after.nodes.items) (packed_marks c.value.new.nodes.items)
           a.ok.tree (omega (arith, c.loop-after.invariant.room, a.shorter)) c.loop-after.invariant.progress a.ok.was (s.2 ∙ ap (λ l. Some (true, l)) (sym k.back)) refl a.ok.nodes;
     }
@@ -112,9 +112,9 @@ pub items-returns-in-Close-clause-ok : goal.items-returns-in-Close-clause-ok
 items-returns-in-Close-clause-ok t c =
     let s = c.separator-stop.ensures.close c.in-Close.is in
     let a = c.in_ok-after.ensures in
-    let d = last_turn 93 (value_at c.args.depth) item_flats (λ t. flat t) item_flats-push (length c.args.bytes.now) c.loop-after.len c.loop-after.rest.now
+    let d = last_turn 93 (read_value c.args.depth) item_flats (λ t. flat t) item_flats-push (length c.args.bytes.now) c.loop-after.len c.loop-after.rest.now
     c.in_ok-after.after.now c.split_at_mut-behind.result.1.now false
-    (parts_at 93 (value_at c.args.depth) (length c.args.bytes.now) c.args.bytes.now)
+    (parts_at 93 (read_value c.args.depth) (length c.args.bytes.now) c.args.bytes.now)
     (packed_marks c.args.nodes.now.items) (packed_marks c.loop-after.nodes.items) (packed_marks c.value.new.nodes.items)
     a.ok.tree (omega (arith, c.loop-after.invariant.room, a.shorter)) c.loop-after.invariant.progress a.ok.was (s.2 ∙ ap (λ l. Some (false, l)) (sym c.split_at_mut-behind.ensures.back)) refl a.ok.nodes in
     record { trees = d.parts; was = d.was; nodes = d.nodes; count = d.count }
@@ -124,7 +124,7 @@ items-returns-in-Close-clause-ends t c = ends_drop c.in_ok-after.after.now _ c.s
 
 pub items-returns-in-Other-clause-err : goal.items-returns-in-Other-clause-err
 items-returns-in-Other-clause-err t c = λ _. fails item_flats _ _ _ _ _ c.loop-after.invariant.progress
-    (parts_unseparated 93 (value_at c.args.depth) (length c.args.bytes.now - c.loop-after.len) c.loop-after.rest.now
+    (parts_unseparated 93 (read_value c.args.depth) (length c.args.bytes.now - c.loop-after.len) c.loop-after.rest.now
     c.in_ok-after.ensures.ok.tree c.in_ok-after.after.now c.in_ok-after.ensures.ok.was (c.separator-stop.ensures.other c.in-Other.is))
 
 pub object-returns-then-byte_at-eq125-clause-ends : goal.object-returns-then-byte_at-eq125-clause-ends
@@ -144,7 +144,7 @@ object-returns-clause-ok t c =
     let counted : inner ≡ length (member_flats k.pairs) = omega (arith, c.count.ensures, at_end, count_is old new (object 0 0) (member_flats k.pairs) nodes') in
     record {
       tree = obj (members_from k.pairs);
-      was = obj_is (value_at c.args.depth) c.args.rest.now _ _ c.skip-first.result k.pairs c.skip-first.ensures.rest (λ e. c.if-byte_at-eq125.false (c.byte_at.ensures ∙ e)) c.split_at_mut-inside.ensures.back k.was;
+      was = obj_is (read_value c.args.depth) c.args.rest.now _ _ c.skip-first.result k.pairs c.skip-first.ensures.rest (λ e. c.if-byte_at-eq125.false (c.byte_at.ensures ∙ e)) c.split_at_mut-inside.ensures.back k.was;
       nodes = c.set_node.ensures
           ∙ (ap (λ n. set new n (object c.in_ok-rest.len inner)) at_end
           ∙ (nodes_set old new (object 0 0) (object c.in_ok-rest.len inner) (member_flats k.pairs) nodes' ∙ ap (λ m. old ++ m) (sym (flat_obj_is k.pairs c.in_ok-rest.len inner k.count counted))));
@@ -154,7 +154,7 @@ pub members-returns-in_err-after-clause-err : goal.members-returns-in_err-after-
 members-returns-in_err-after-clause-err t c =
     let p = err_from_is_err_and c.from_residual.result c.from_residual.ensures.1 in
     rw (p.1, p.2) (λ n. fails member_flats _ _ _ _ _ c.loop-after.invariant.progress
-    (parts_none 125 (member_at (value_at c.args.depth)) (length c.args.bytes.now - c.loop-after.len) c.loop-after.rest.now (c.in_err-after.ensures.err n)))
+    (parts_none 125 (read_member (read_value c.args.depth)) (length c.args.bytes.now - c.loop-after.len) c.loop-after.rest.now (c.in_err-after.ensures.err n)))
 
 pub members-loop-after-preserved : goal.members-loop-after-preserved
 members-loop-after-preserved t c =
@@ -164,9 +164,9 @@ members-loop-after-preserved t c =
     record {
       room = omega (arith, c.loop-after.invariant.room, a.shorter, k.back_len);
       ends = ends_drop c.in_ok-after.after.now _ c.separator-stop.result.next a.ends k.back;
-      progress = next_turn 125 (member_at (value_at c.args.depth)) member_flats member_flat member_flats-push (length c.args.bytes.now) c.loop-after.len c.loop-after.rest.now
+      progress = next_turn 125 (read_member (read_value c.args.depth)) member_flats member_flat member_flats-push (length c.args.bytes.now) c.loop-after.len c.loop-after.rest.now
           c.in_ok-after.after.now c.split_at_mut-next.result.1.now true
-          (parts_at 125 (member_at (value_at c.args.depth)) (length c.args.bytes.now) c.args.bytes.now)
+          (parts_at 125 (read_member (read_value c.args.depth)) (length c.args.bytes.now) c.args.bytes.now)
           (packed_marks c.args.nodes.now.items) (packed_marks c.loop-after.nodes.items) (packed_marks c.member.new.nodes.items)
           (a.ok.key, a.ok.tree) (omega (arith, c.loop-after.invariant.room, a.shorter)) c.loop-after.invariant.progress a.ok.was (s.2 ∙ ap (λ l. Some (true, l)) (sym k.back)) refl a.ok.nodes;
     }
@@ -175,9 +175,9 @@ pub members-returns-in-Close-clause-ok : goal.members-returns-in-Close-clause-ok
 members-returns-in-Close-clause-ok t c =
     let s = c.separator-stop.ensures.close c.in-Close.is in
     let a = c.in_ok-after.ensures in
-    let d = last_turn 125 (member_at (value_at c.args.depth)) member_flats member_flat member_flats-push (length c.args.bytes.now) c.loop-after.len c.loop-after.rest.now
+    let d = last_turn 125 (read_member (read_value c.args.depth)) member_flats member_flat member_flats-push (length c.args.bytes.now) c.loop-after.len c.loop-after.rest.now
     c.in_ok-after.after.now c.split_at_mut-behind.result.1.now false
-    (parts_at 125 (member_at (value_at c.args.depth)) (length c.args.bytes.now) c.args.bytes.now)
+    (parts_at 125 (read_member (read_value c.args.depth)) (length c.args.bytes.now) c.args.bytes.now)
     (packed_marks c.args.nodes.now.items) (packed_marks c.loop-after.nodes.items) (packed_marks c.member.new.nodes.items)
     (a.ok.key, a.ok.tree) (omega (arith, c.loop-after.invariant.room, a.shorter)) c.loop-after.invariant.progress a.ok.was (s.2 ∙ ap (λ l. Some (false, l)) (sym c.split_at_mut-behind.ensures.back)) refl a.ok.nodes in
     record { pairs = d.parts; was = d.was; nodes = d.nodes; count = d.count }
@@ -187,7 +187,7 @@ members-returns-in-Close-clause-ends t c = ends_drop c.in_ok-after.after.now _ c
 
 pub members-returns-in-Other-clause-err : goal.members-returns-in-Other-clause-err
 members-returns-in-Other-clause-err t c = λ _. fails member_flats _ _ _ _ _ c.loop-after.invariant.progress
-    (parts_unseparated 125 (member_at (value_at c.args.depth)) (length c.args.bytes.now - c.loop-after.len) c.loop-after.rest.now
+    (parts_unseparated 125 (read_member (read_value c.args.depth)) (length c.args.bytes.now - c.loop-after.len) c.loop-after.rest.now
     (c.in_ok-after.ensures.ok.key, c.in_ok-after.ensures.ok.tree) c.in_ok-after.after.now c.in_ok-after.ensures.ok.was (c.separator-stop.ensures.other c.in-Other.is))
 
 pub member-text-requires : goal.member-text-requires
@@ -199,13 +199,13 @@ member-value-requires t c = (omega (arith, c.decreases), ends_drop c.in_ok-behin
 pub member-returns-clause-ok : goal.member-returns-clause-ok
 member-returns-clause-ok t c =
     let k = c.in_ok-behind.ensures.ok in
-    let e = member_by (value_at c.args.depth) c.args.rest.now _ c.in_ok-behind.behind.now _ c.skip-colon.result c.skip-place.result k.text (sym c.byte_at.ensures ∙ c.if-byte_at-ne34.false) c.split_at_mut-inside.ensures.back k.was
+    let e = member_by (read_value c.args.depth) c.args.rest.now _ c.in_ok-behind.behind.now _ c.skip-colon.result c.skip-place.result k.text (sym c.byte_at.ensures ∙ c.if-byte_at-ne34.false) c.split_at_mut-inside.ensures.back k.was
     c.skip-colon.ensures.rest (sym c.byte_at-2.ensures ∙ c.if-byte_at-ne58.false) c.skip-place.ensures.rest c.split_at_mut-next.ensures.back in
     IfOk-weaker {X = MutBor (List ℕ)} _ _ _ (λ r h. member_gives _ _ _ c.in_ok-behind.behind.now r.now _ _ _ k e h) c.value.ensures.ok
 
 pub member-returns-clause-err : goal.member-returns-clause-err
 member-returns-clause-err t c =
     let k = c.in_ok-behind.ensures.ok in
-    let e = member_by (value_at c.args.depth) c.args.rest.now _ c.in_ok-behind.behind.now _ c.skip-colon.result c.skip-place.result k.text (sym c.byte_at.ensures ∙ c.if-byte_at-ne34.false) c.split_at_mut-inside.ensures.back k.was
+    let e = member_by (read_value c.args.depth) c.args.rest.now _ c.in_ok-behind.behind.now _ c.skip-colon.result c.skip-place.result k.text (sym c.byte_at.ensures ∙ c.if-byte_at-ne34.false) c.split_at_mut-inside.ensures.back k.was
     c.skip-colon.ensures.rest (sym c.byte_at-2.ensures ∙ c.if-byte_at-ne58.false) c.skip-place.ensures.rest c.split_at_mut-next.ensures.back in
     member_errs _ _ _ _ k.text e c.value.ensures.err

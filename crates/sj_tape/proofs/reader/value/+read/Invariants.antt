@@ -1,7 +1,7 @@
 use Rattle.std.proofs.Common.{◌*◌, ◌+◌, ◌-◌, ◌≤◌, length}
 use Rattle.sj_tape.specs.inner.Gives.{EndsUtf8}
 use Rattle.sj_tape.specs.Marks.{packed_marks}
-use Rattle.sj_text_core.specs.inner.Parse.{parts_at, value_at, member_at}
+use Rattle.sj_text_core.specs.inner.Parse.{parts_at, read_value, read_member}
 use Rattle.sj_tape.proofs.Parts.{Progress, item_flats, member_flats}
 use Rattle.sj_tape.proofs.reader.value.+read.Given as goal
 
@@ -30,8 +30,8 @@ abbrev pub invariant-items-loop-after : goal.invariant-items-loop-after
 invariant-items-loop-after l = record {
   room : length l.rest + l.len ≤ length l.fn.bytes;
   ends : EndsUtf8 l.rest;
-  progress : Progress item_flats (parts_at 93 (value_at l.depth) (length l.fn.bytes - l.len) l.rest)
-      (parts_at 93 (value_at l.depth) (length l.fn.bytes) l.fn.bytes)
+  progress : Progress item_flats (parts_at 93 (read_value l.depth) (length l.fn.bytes - l.len) l.rest)
+      (parts_at 93 (read_value l.depth) (length l.fn.bytes) l.fn.bytes)
       (packed_marks l.initial.nodes.items) (packed_marks l.nodes.items) l.len;
 }
 
@@ -42,8 +42,8 @@ abbrev pub invariant-members-loop-after : goal.invariant-members-loop-after
 invariant-members-loop-after l = record {
   room : length l.rest + l.len ≤ length l.fn.bytes;
   ends : EndsUtf8 l.rest;
-  progress : Progress member_flats (parts_at 125 (member_at (value_at l.depth)) (length l.fn.bytes - l.len) l.rest)
-      (parts_at 125 (member_at (value_at l.depth)) (length l.fn.bytes) l.fn.bytes)
+  progress : Progress member_flats (parts_at 125 (read_member (read_value l.depth)) (length l.fn.bytes - l.len) l.rest)
+      (parts_at 125 (read_member (read_value l.depth)) (length l.fn.bytes) l.fn.bytes)
       (packed_marks l.initial.nodes.items) (packed_marks l.nodes.items) l.len;
 }
 

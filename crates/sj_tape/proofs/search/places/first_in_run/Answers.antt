@@ -4,7 +4,7 @@ use Rattle.std.proofs.lemmas.Bool.{cases_lt}
 use Rattle.sj_text_core.specs.Nodes.{nothing, width}
 use Rattle.sj_text_core.specs.Find.{find_member}
 use Rattle.sj_text_core.specs.Repeats.{visited}
-use Rattle.sj_tape.specs.inner.Ahead.{MembersAhead, members_from}
+use Rattle.sj_tape.specs.inner.Ahead.{MembersAhead, members_at}
 use Rattle.sj_tape.specs.Marks.{packed_mark, packed_marks}
 use Rattle.sj_tape.proofs.Ahead.{NextAhead, next_ahead, one_text, find_pass, visit_pass, find_hit, visit_hit}
 use Rattle.sj_tape.proofs.search.places.first_in_run.Given.{Over}
@@ -67,6 +67,6 @@ loop-at-preserved g c =
     record {
       ahead = subst (MembersAhead ns) there next.next;
       on = omega (arith, c.loop-at.invariant.on);
-      found = ap (λ p. find_member k (members_from ns p)) (sym there) ∙ sym (find_pass k next.key _ _ _ next.members other) ∙ c.loop-at.invariant.found;
-      exact = omega (arith, ap (λ p. visited k (members_from ns p)) there, visit_pass k next.key _ _ _ next.members other, c.loop-at.invariant.exact, c.is_key.ensures.step);
+      found = ap (λ p. find_member k (members_at ns p)) (sym there) ∙ sym (find_pass k next.key _ _ _ next.members other) ∙ c.loop-at.invariant.found;
+      exact = omega (arith, ap (λ p. visited k (members_at ns p)) there, visit_pass k next.key _ _ _ next.members other, c.loop-at.invariant.exact, c.is_key.ensures.step);
     }

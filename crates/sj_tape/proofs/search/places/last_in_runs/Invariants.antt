@@ -2,7 +2,7 @@ use Rattle.std.proofs.Common.{◌≡◌, ◌+◌, ◌-◌, drop, length, option_
 use Rattle.std.specs.Option.{option_or}
 use Rattle.sj_text_core.specs.Repeats.{find_last_member}
 use Rattle.sj_text_core.specs.Tree.{members_len}
-use Rattle.sj_tape.specs.inner.Ahead.{MembersAhead, members_from, tree_from}
+use Rattle.sj_tape.specs.inner.Ahead.{MembersAhead, members_at, tree_from}
 use Rattle.sj_tape.specs.inner.Fronts.{BeginsTree}
 use Rattle.sj_tape.specs.Marks.{packed_marks}
 use Rattle.sj_tape.proofs.search.places.last_in_runs.Given as goal
@@ -11,8 +11,8 @@ abbrev pub invariant-loop-at : goal.invariant-loop-at
 invariant-loop-at g l = record {
   ahead : MembersAhead (packed_marks l.nodes) l.at;
   begins : IfSome l.last (λ p. BeginsTree (drop p (packed_marks l.nodes)));
-  value : option_or (find_last_member l.key (members_from (packed_marks l.nodes) l.at)) (option_map (tree_from (packed_marks l.nodes)) l.last) ≡ option_or (find_last_member l.key (members_from (packed_marks l.nodes) 0)) (option_map (tree_from (packed_marks l.nodes)) l.initial.last);
-  exact : l.steps + members_len (members_from (packed_marks l.nodes) l.at) ≡ l.fn.steps + members_len (members_from (packed_marks l.nodes) 0);
+  value : option_or (find_last_member l.key (members_at (packed_marks l.nodes) l.at)) (option_map (tree_from (packed_marks l.nodes)) l.last) ≡ option_or (find_last_member l.key (members_at (packed_marks l.nodes) 0)) (option_map (tree_from (packed_marks l.nodes)) l.initial.last);
+  exact : l.steps + members_len (members_at (packed_marks l.nodes) l.at) ≡ l.fn.steps + members_len (members_at (packed_marks l.nodes) 0);
 }
 
 abbrev pub decreases-loop-at : goal.decreases-loop-at

@@ -3,7 +3,7 @@ use Rattle.std.proofs.lemmas.List.{length-map}
 use Rattle.sj_text_core.specs.Nodes.{nothing, width}
 use Rattle.sj_text_core.specs.Find.{find_member}
 use Rattle.sj_text_core.specs.Repeats.{visited}
-use Rattle.sj_tape.specs.inner.Ahead.{MembersAhead, members_from}
+use Rattle.sj_tape.specs.inner.Ahead.{MembersAhead, members_at}
 use Rattle.sj_tape.specs.Marks.{packed_mark, packed_marks}
 use Rattle.sj_tape.proofs.Ahead.{NextAhead, next_ahead, one_text, find_pass, visit_pass, find_hit, visit_hit}
 use Rattle.sj_tape.proofs.search.places.place_of_first.Given.{Over}
@@ -48,6 +48,6 @@ loop-at-preserved g c =
     let there : c.loop-at.at + 1 + width (get_or ns (c.loop-at.at + 1) nothing) ≡ c.loop-at.at + (1 + c.value_width.result) = omega (arith, c.value_width.ensures) in
     record {
       ahead = subst (MembersAhead ns) there next.next;
-      found = ap (λ p. find_member k (members_from ns p)) (sym there) ∙ sym (find_pass k next.key _ _ _ next.members other) ∙ c.loop-at.invariant.found;
-      exact = omega (arith, ap (λ p. visited k (members_from ns p)) there, visit_pass k next.key _ _ _ next.members other, c.loop-at.invariant.exact, c.is_key.ensures.step);
+      found = ap (λ p. find_member k (members_at ns p)) (sym there) ∙ sym (find_pass k next.key _ _ _ next.members other) ∙ c.loop-at.invariant.found;
+      exact = omega (arith, ap (λ p. visited k (members_at ns p)) there, visit_pass k next.key _ _ _ next.members other, c.loop-at.invariant.exact, c.is_key.ensures.step);
     }

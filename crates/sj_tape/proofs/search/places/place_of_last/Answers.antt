@@ -4,7 +4,7 @@ use Rattle.std.proofs.lemmas.List.{length-map}
 use Rattle.sj_text_core.specs.Nodes.{nothing, width}
 use Rattle.sj_text_core.specs.Repeats.{find_last_member}
 use Rattle.sj_text_core.specs.Tree.{members_len}
-use Rattle.sj_tape.specs.inner.Ahead.{MembersAhead, members_from, tree_from}
+use Rattle.sj_tape.specs.inner.Ahead.{MembersAhead, members_at, tree_from}
 use Rattle.sj_tape.specs.inner.Fronts.{BeginsTree}
 use Rattle.sj_tape.specs.Marks.{packed_mark, packed_marks}
 use Rattle.sj_tape.proofs.Ahead.{next_ahead, one_text, last_pass, later_holds}
@@ -36,8 +36,8 @@ loop-at-preserved g c =
       ahead = subst (MembersAhead ns) there next.next;
       begins = later_holds c.later-last.result c.is_key-is_met.result (c.loop-at.at + 1) c.loop-at.last (λ (p : ℕ). BeginsTree (drop p ns)) chosen next.begins c.loop-at.invariant.begins;
       value =
-          ap (λ p. option_or (find_last_member k (members_from ns p)) (option_map (tree_from ns) c.later-last.result)) (sym there)
-          ∙ ap (λ o. option_or (find_last_member k (members_from ns (c.loop-at.at + 1 + width (get_or ns (c.loop-at.at + 1) nothing)))) (option_map (tree_from ns) o)) chosen
+          ap (λ p. option_or (find_last_member k (members_at ns p)) (option_map (tree_from ns) c.later-last.result)) (sym there)
+          ∙ ap (λ o. option_or (find_last_member k (members_at ns (c.loop-at.at + 1 + width (get_or ns (c.loop-at.at + 1) nothing)))) (option_map (tree_from ns) o)) chosen
           ∙ last_pass k next.key _ _ _ c.is_key-is_met.result (tree_from ns) (c.loop-at.at + 1) c.loop-at.last next.members is refl ∙ c.loop-at.invariant.value;
-      exact = omega (arith, ap (λ p. members_len (members_from ns p)) there, ap members_len next.members, c.loop-at.invariant.exact, c.is_key-is_met.ensures.step);
+      exact = omega (arith, ap (λ p. members_len (members_at ns p)) there, ap members_len next.members, c.loop-at.invariant.exact, c.is_key-is_met.ensures.step);
     }

@@ -5,13 +5,13 @@ use Rattle.sj_text_core.specs.inner.Nodes.{AreMembers}
 use Rattle.sj_text_core.specs.Find.{find_member}
 use Rattle.sj_text_core.specs.Repeats.{visited}
 use Rattle.sj_text_core.specs.Tree.{members_len}
-use Rattle.sj_tape.specs.inner.Ahead.{MembersAhead, members_from}
+use Rattle.sj_tape.specs.inner.Ahead.{MembersAhead, members_at}
 use Rattle.sj_tape.specs.Marks.{packed_mark, packed_marks}
-use Rattle.sj_tape.specs.inner.Tags.{member_at}
+use Rattle.sj_tape.specs.inner.Tags.{member_node}
 use Rattle.sj_tape.proofs.Ahead.{NextAhead, at_ahead, at_more, next_at, at_next, one_text, find_pass, visit_pass, find_hit, visit_hit}
 use Rattle.sj_tape.proofs.search.tagged.first_among.Goals as goal
 
-here : (ns : List Mark) (are : AreMembers ns) (i p : ℕ) → p ≡ member_at ns i → i < members_len (members_in ns) → NextAhead ns p
+here : (ns : List Mark) (are : AreMembers ns) (i p : ℕ) → p ≡ member_node ns i → i < members_len (members_in ns) → NextAhead ns p
 here ns are i p e l = subst (NextAhead ns) (sym e) (next_at ns are i l)
 
 pub name_at-requires-clause-ahead : goal.name_at-requires-clause-ahead
@@ -70,6 +70,6 @@ loop-preserved g c =
     let there : c.loop.at + 1 + width (get_or ns (c.loop.at + 1) nothing) ≡ c.loop.at + (1 + c.value_width.result) = omega (arith, c.value_width.ensures) in
     record {
       there = sym there ∙ at_next ns c.loop.counter c.loop.at c.loop.invariant.there;
-      found = ap (λ p. find_member k (members_from ns p)) (sym there) ∙ sym (find_pass k next.key _ _ _ next.members other) ∙ c.loop.invariant.found;
-      exact = omega (arith, ap (λ p. visited k (members_from ns p)) there, visit_pass k next.key _ _ _ next.members other, c.loop.invariant.exact, c.is_key.ensures.step);
+      found = ap (λ p. find_member k (members_at ns p)) (sym there) ∙ sym (find_pass k next.key _ _ _ next.members other) ∙ c.loop.invariant.found;
+      exact = omega (arith, ap (λ p. visited k (members_at ns p)) there, visit_pass k next.key _ _ _ next.members other, c.loop.invariant.exact, c.is_key.ensures.step);
     }

@@ -1,9 +1,9 @@
 use Rattle.std.proofs.Common.{◌≡◌, ◌+◌, ◌-◌, take, drop, sym, ap, ◌∙◌, arith}
 use Rattle.sj_text_core.specs.Find.{find_member}
 use Rattle.sj_text_core.specs.Repeats.{visited}
-use Rattle.sj_tape.specs.inner.Ahead.{members_from}
+use Rattle.sj_tape.specs.inner.Ahead.{members_at}
 use Rattle.sj_tape.specs.Marks.{packed_marks}
-use Rattle.sj_tape.specs.inner.Tags.{member_at, has_tag}
+use Rattle.sj_tape.specs.inner.Tags.{member_node, has_tag}
 use Rattle.sj_tape.proofs.Tagged.{pass_some}
 use Rattle.sj_tape.proofs.Tagged.{Passes}
 use Rattle.sj_tape.proofs.search.tagged.first_in_block.Given.{Over}
@@ -21,11 +21,11 @@ returns-then-not-is_among-clause-passed g c =
     let ns = packed_marks c.args.nodes.now in
     let k = c.args.key.now in
     let end : c.args.next ≡ c.args.from + (c.args.next - c.args.from) = omega (arith, c.requires.order) in
-    ap (λ i. find_member k (members_from ns (member_at ns i))) end ∙ (passes g c).found ∙ ap (λ p. find_member k (members_from ns p)) (sym c.requires.at)
+    ap (λ i. find_member k (members_at ns (member_node ns i))) end ∙ (passes g c).found ∙ ap (λ p. find_member k (members_at ns p)) (sym c.requires.at)
 
 pub returns-then-not-is_among-clause-passed_most : goal.returns-then-not-is_among-clause-passed_most
 returns-then-not-is_among-clause-passed_most g c =
     let ns = packed_marks c.args.nodes.now in
     let k = c.args.key.now in
     let end : c.args.next ≡ c.args.from + (c.args.next - c.args.from) = omega (arith, c.requires.order) in
-    omega (arith, ap (λ i. visited k (members_from ns (member_at ns i))) end, (passes g c).fewer, ap (λ p. visited k (members_from ns p)) c.requires.at)
+    omega (arith, ap (λ i. visited k (members_at ns (member_node ns i))) end, (passes g c).fewer, ap (λ p. visited k (members_at ns p)) c.requires.at)

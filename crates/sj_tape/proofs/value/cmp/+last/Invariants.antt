@@ -3,9 +3,9 @@ use Rattle.sj_text_core.specs.Tree.{depth, items_depth, members_depth, items_fro
 use Rattle.sj_text_core.specs.Same.{SameItems}
 use Rattle.sj_text_core.specs.Repeats.{by_first, keep_last}
 use Rattle.sj_text_core.specs.declared.repeats.Repeats.TheVariants.{Last}
-use Rattle.sj_tape.specs.Items.{items, items_ahead, parts_ahead, array_choice}
-use Rattle.sj_tape.specs.Members.{members, members_ahead, object_choice, chosen, parts_ahead as pairs_ahead}
-use Rattle.sj_tape.specs.Value.{tree}
+use Rattle.sj_tape.specs.Items.{items, items_ahead, items_parts_ahead, array_choice}
+use Rattle.sj_tape.specs.Members.{members, members_ahead, object_choice, chosen_pairs, members_parts_ahead}
+use Rattle.sj_tape.specs.Value.{tape_tree}
 use Rattle.sj_tape.proofs.Counted.{Counted, parts}
 use Rattle.sj_tape.proofs.value.cmp.+last.Given as goal
 
@@ -19,8 +19,8 @@ invariant-last_items-loop-item l =
           → SameItems (items_from (map keep_last (items_ahead l.item-iterator))) (items_from (map (by_first d) (items_ahead l.others)));
       lens : length (items_ahead l.item-iterator) ≡ length (items_ahead l.others);
       within : items_depth (items_from (items_ahead l.item-iterator)) ≤ items_depth (items l.fn.left);
-      mine : parts_ahead l.item-iterator ≡ parts Last (items_ahead l.item-iterator);
-      theirs : parts_ahead l.others ≡ parts d (items_ahead l.others);
+      mine : items_parts_ahead l.item-iterator ≡ parts Last (items_ahead l.item-iterator);
+      theirs : items_parts_ahead l.others ≡ parts d (items_ahead l.others);
     }
 
 abbrev pub invariant-last_members-loop-key : goal.invariant-last_members-loop-key
@@ -28,7 +28,7 @@ invariant-last_members-loop-key l =
     record {
       ahead : drop l.seen (paired (members l.fn.left)) ≡ members_ahead l.key-iterator;
       counted : Counted (object_choice l.fn.right) (members l.fn.left) (members l.fn.right) (members_ahead l.key-iterator);
-      mine : pairs_ahead l.key-iterator ≡ chosen Last (members_ahead l.key-iterator);
+      mine : members_parts_ahead l.key-iterator ≡ chosen_pairs Last (members_ahead l.key-iterator);
     }
 
 abbrev pub invariant-last_in_step-loop-key : goal.invariant-last_in_step-loop-key
@@ -39,12 +39,12 @@ invariant-last_in_step-loop-key l =
       ahead : drop l.seen (paired m) ≡ members_ahead l.key-iterator;
       others : drop l.seen (paired n) ≡ members_ahead l.others;
       counted : Counted Last m n (members_ahead l.key-iterator);
-      mine : pairs_ahead l.key-iterator ≡ chosen Last (members_ahead l.key-iterator);
-      theirs : pairs_ahead l.others ≡ chosen Last (members_ahead l.others);
+      mine : members_parts_ahead l.key-iterator ≡ chosen_pairs Last (members_ahead l.key-iterator);
+      theirs : members_parts_ahead l.others ≡ chosen_pairs Last (members_ahead l.others);
     }
 
 abbrev pub decreases-last_values : goal.decreases-last_values
-decreases-last_values l = 3 * depth (tree l.left)
+decreases-last_values l = 3 * depth (tape_tree l.left)
 
 abbrev pub decreases-last_items : goal.decreases-last_items
 decreases-last_items l = 3 * items_depth (items l.left) + 1

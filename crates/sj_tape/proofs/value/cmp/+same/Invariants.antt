@@ -1,11 +1,11 @@
 use Rattle.std.proofs.Common.{◌≡◌, ◌≤◌, ◌+◌, ◌*◌, length, drop, take}
 use Rattle.sj_text_core.specs.Tree.{depth, items_depth, members_depth, items_from, paired}
 use Rattle.sj_text_core.specs.Same.{SameItems}
-use Rattle.sj_text_core.specs.Agree.{texts}
+use Rattle.sj_text_core.specs.Agree.{pair_keys}
 use Rattle.sj_text_core.specs.inner.Agree.{Agree}
 use Rattle.sj_tape.specs.Items.{items, items_ahead}
 use Rattle.sj_tape.specs.Members.{members, members_ahead}
-use Rattle.sj_tape.specs.Value.{tree}
+use Rattle.sj_tape.specs.Value.{tape_tree}
 use Rattle.sj_tape.proofs.value.cmp.+same.Given as goal
 
 abbrev pub invariant-same_items-loop-item : goal.invariant-same_items-loop-item
@@ -22,7 +22,7 @@ invariant-same_members-loop-key l =
     record {
       ahead : drop l.place (paired (members l.fn.left)) ≡ members_ahead l.key-iterator;
       others : drop l.place (paired (members l.fn.right)) ≡ members_ahead l.others;
-      in_step : texts (take l.place (paired (members l.fn.left))) ≡ texts (take l.place (paired (members l.fn.right)));
+      in_step : pair_keys (take l.place (paired (members l.fn.left))) ≡ pair_keys (take l.place (paired (members l.fn.right)));
       agree : Agree l.place (paired (members l.fn.left)) (paired (members l.fn.right));
     }
 
@@ -34,7 +34,7 @@ invariant-same_rest-loop-key l =
     }
 
 abbrev pub decreases-same_values : goal.decreases-same_values
-decreases-same_values l = 3 * depth (tree l.left)
+decreases-same_values l = 3 * depth (tape_tree l.left)
 
 abbrev pub decreases-same_items : goal.decreases-same_items
 decreases-same_items l = 3 * items_depth (items l.left) + 1

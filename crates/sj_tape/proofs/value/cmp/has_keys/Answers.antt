@@ -2,7 +2,7 @@ use Rattle.std.proofs.Common.{◌≡◌, ℕ, suc, ◌-◌, ◌<◌, List, ◌�
 use Rattle.sj_text_core.specs.Keep.{is_seen}
 use Rattle.sj_tape.specs.Members.{members, keys_ahead}
 use Rattle.sj_text_core.specs.Tree.{paired}
-use Rattle.sj_tape.specs.Value.{tree}
+use Rattle.sj_tape.specs.Value.{tape_tree}
 use Rattle.sj_tape.proofs.Compared.{has_rest, has_not_key, has_key, key_there, key_ahead, seen_ahead, no_value, a_value}
 use Rattle.sj_tape.proofs.value.cmp.has_keys.Goals as goal
 
@@ -17,7 +17,7 @@ loop-key-init c =
 pub returns-then-is_none : goal.returns-then-is_none
 returns-then-is_none c =
     let k = c.in-Some.key.now in
-    let none = no_value tree c.first.result _ (c.is_none.ensures ∙ ap not c.if-is_none.true) c.first.ensures in
+    let none = no_value tape_tree c.first.result _ (c.is_none.ensures ∙ ap not c.if-is_none.true) c.first.ensures in
     (λ f. absurd (cc), λ h. absurd (has_not_key k (members c.args.left) none (h k (c.loop-key.invariant.own k (key_ahead k _ _ c.in-Some.ensures.steps)))))
 
 -- one less is to be dropped behind the first
@@ -36,7 +36,7 @@ loop-key-preserved-then-known-gt0 c =
 pub loop-key-preserved : goal.loop-key-preserved
 loop-key-preserved c =
     let k = c.in-Some.key.now in
-    let here = has_key k (members c.args.left) (a_value tree c.first.result _ (c.is_none.ensures ∙ ap not c.if-is_none.false) c.first.ensures) in
+    let here = has_key k (members c.args.left) (a_value tape_tree c.first.result _ (c.is_none.ensures ∙ ap not c.if-is_none.false) c.first.ensures) in
     record {
       rest = λ h. c.loop-key.invariant.rest (λ l s. key_there l k _ (keys_ahead c.next.new.self) c.loop-key.known (paired (members c.args.left)) c.in-Some.ensures.steps c.if-known-gt0.false here h s);
       own = λ l s. c.loop-key.invariant.own l (seen_ahead l k _ _ c.in-Some.ensures.steps s);

@@ -1,5 +1,5 @@
 use Rattle.std.proofs.Common.{◌≡◌}
-use Rattle.sj_text_core.specs.Agree.{texts}
+use Rattle.sj_text_core.specs.Agree.{pair_keys}
 use Rattle.sj_text_core.specs.Tree.{paired}
 use Rattle.sj_tape.specs.Members.{members, keys_ahead}
 use Rattle.sj_tape.proofs.value.cmp.has_same_keys.Given as goal
@@ -7,6 +7,6 @@ use Rattle.sj_tape.proofs.value.cmp.has_same_keys.Given as goal
 abbrev pub invariant-loop-key : goal.invariant-loop-key
 invariant-loop-key l =
     record {
-      on : keys_ahead l.key-iterator ≡ keys_ahead l.others → texts (paired (members l.fn.left)) ≡ texts (paired (members l.fn.right));
-      off : texts (paired (members l.fn.left)) ≡ texts (paired (members l.fn.right)) → keys_ahead l.key-iterator ≡ keys_ahead l.others;
+      on : keys_ahead l.key-iterator ≡ keys_ahead l.others → pair_keys (paired (members l.fn.left)) ≡ pair_keys (paired (members l.fn.right));
+      off : pair_keys (paired (members l.fn.left)) ≡ pair_keys (paired (members l.fn.right)) → keys_ahead l.key-iterator ≡ keys_ahead l.others;
     }

@@ -1,7 +1,7 @@
 use Rattle.std.proofs.Common.{ap, ◌∙◌}
 use Rattle.sj_text_core.specs.Tree.{obj}
 use Rattle.sj_object.specs.Members.{entry_members}
-use Rattle.sj_document.specs.Document.{tree}
+use Rattle.sj_document.specs.Document.{document_tree}
 use Rattle.sj_document.proofs.Trees.{tree-Object}
 use Rattle.sj_document.proofs.Passes.{passes-Object}
 use Rattle.sj_document.proofs.value.build.DocumentMade.from_map.Goals as goal
@@ -9,7 +9,7 @@ use Rattle.sj_document.proofs.value.build.DocumentMade.from_map.Goals as goal
 pub returns-clause-means : goal.returns-clause-means
 returns-clause-means g c =
     let t = g.T.KeyText.text_of in
-    tree-Object t c.in_ok-new.field-0 ∙ ap (λ m. obj (entry_members (tree t) m.entries)) c.in_ok-new.ensures.ok
+    tree-Object t c.in_ok-new.field-0 ∙ ap (λ m. obj (entry_members (document_tree t) m.entries)) c.in_ok-new.ensures.ok
 
 pub returns-clause-property : goal.returns-clause-property
 returns-clause-property g c = passes-Object g.T.KeyMade.is_made c.in_ok-new.field-0 c.args.members c.in_ok-new.ensures.ok

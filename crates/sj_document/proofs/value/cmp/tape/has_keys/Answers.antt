@@ -2,23 +2,23 @@ use Rattle.std.proofs.Common.{not, ◌∷◌, sym, ap, ◌∙◌}
 use Rattle.sj_text_core.specs.Keep.{is_seen}
 use Rattle.sj_tape.specs.Members.{members, object_choice}
 use Rattle.sj_text_core.specs.Tree.{paired}
-use Rattle.sj_tape.specs.Value.{tree as tape_tree}
+use Rattle.sj_tape.specs.Value.{tape_tree}
 use Rattle.sj_tape.proofs.Counted.{first_absent, absent_first}
 use Rattle.sj_tape.proofs.Compared.{has_rest, has_not_key, has_key, key_there, key_ahead, seen_ahead, no_value, a_value}
-use Rattle.sj_object.specs.Entries.{entries_of, texts as entry_texts}
+use Rattle.sj_object.specs.Entries.{entries_of, entry_texts}
 use Rattle.sj_object.specs.Members.{entry_members}
-use Rattle.sj_document.specs.Document.{tree}
+use Rattle.sj_document.specs.Document.{document_tree}
 use Rattle.sj_document.proofs.Mixed.{texts_paired, drop_less}
 use Rattle.sj_document.proofs.value.cmp.tape.has_keys.Goals as goal
 
 pub loop-key-init : goal.loop-key-init
 loop-key-init g c =
     let u = g.T.KeyText.text_of in
-    let all = ap (λ it. entry_texts (entries_of u it)) c.into_iter-key-iterator.ensures.into_iter_gives ∙ ap entry_texts c.iter-key-items.ensures ∙ sym (texts_paired (tree u) c.args.right.now.entries) in
+    let all = ap (λ it. entry_texts (entries_of u it)) c.into_iter-key-iterator.ensures.into_iter_gives ∙ ap entry_texts c.iter-key-items.ensures ∙ sym (texts_paired (document_tree u) c.args.right.now.entries) in
     record {
       can = tt;
       ends = tt;
-      rest = λ h. has_rest c.args.place (paired (members c.args.left)) (paired (entry_members (tree u) c.args.right.now.entries)) _ c.requires all h;
+      rest = λ h. has_rest c.args.place (paired (members c.args.left)) (paired (entry_members (document_tree u) c.args.right.now.entries)) _ c.requires all h;
       own = λ k s. ap (is_seen k) (sym all) ∙ s;
     }
 

@@ -1,10 +1,10 @@
 use Rattle.std.proofs.Common.{sym, ap, ◌∙◌}
 use Rattle.sj_text_core.specs.Tree.{obj, no_members}
-use Rattle.sj_object.specs.Entries.{entries_of, texts}
+use Rattle.sj_object.specs.Entries.{entries_of, entry_texts}
 use Rattle.sj_object.specs.Members.{entry_members}
 use Rattle.sj_object.specs.Texts.{no_repeats}
 use Rattle.sj_object.proofs.Walks.{put_all-distinct}
-use Rattle.sj_document.specs.Document.{tree}
+use Rattle.sj_document.specs.Document.{document_tree}
 use Rattle.sj_document.proofs.Trees.{tree-Object}
 use Rattle.sj_document.proofs.Levels.{members_seen}
 use Rattle.sj_document.proofs.Piled.{rest_all}
@@ -14,7 +14,7 @@ pub returns-in-Object : goal.returns-in-Object
 returns-in-Object g c =
     let t = g.T.KeyText.text_of in
     let ps = c.iter-in-Object.result in (
-      ap obj (members_seen t ps) ∙ ap (λ es. obj (entry_members (tree t) es)) c.iter-in-Object.ensures ∙ ap (λ m. obj (entry_members (tree t) m.entries)) c.deref-in-Object.ensures
-          ∙ sym (ap (tree t) c.in-Object.is ∙ tree-Object t c.in-Object.members),
-      rest_all t no_members ps ∙ put_all-distinct (tree t) (entries_of t ps) (ap (λ es. no_repeats (texts es)) c.iter-in-Object.ensures ∙ c.deref-in-Object.result.now.distinct) ∙ sym (members_seen t ps),
+      ap obj (members_seen t ps) ∙ ap (λ es. obj (entry_members (document_tree t) es)) c.iter-in-Object.ensures ∙ ap (λ m. obj (entry_members (document_tree t) m.entries)) c.deref-in-Object.ensures
+          ∙ sym (ap (document_tree t) c.in-Object.is ∙ tree-Object t c.in-Object.members),
+      rest_all t no_members ps ∙ put_all-distinct (document_tree t) (entries_of t ps) (ap (λ es. no_repeats (entry_texts es)) c.iter-in-Object.ensures ∙ c.deref-in-Object.result.now.distinct) ∙ sym (members_seen t ps),
     )

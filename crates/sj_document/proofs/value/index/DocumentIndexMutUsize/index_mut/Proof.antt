@@ -37,7 +37,7 @@ use Rattle.std.specs.Option.{ghost_name_of, OnSome, IsSome}
 use Rattle.std.specs.contracts.option.Option as option
 use Rattle.sj_text_core.specs.Find.{nth}
 use Rattle.sj_text_core.specs.Paths.{by_place, set_found}
-use Rattle.sj_document.specs.Document.{tree}
+use Rattle.sj_document.specs.Document.{document_tree}
 use Rattle.sj_document.specs.declared.value.Document.{Document}
 use Rattle.std.specs.declared.cmp.Eq as total
 use Rattle.std.specs.declared.cmp.PartialEq as eq
@@ -77,7 +77,7 @@ index_mut_spec 𝓤 𝓛 𝓜 𝓡 wired T L k kd e ed p pd mk me mp =
     proved 𝓛 End hs c 𝓜 𝓡 (Goes-spent_ref 𝓛 2 (0 ∷ []) tt (plain (λ _. D)), (Goes-dropped 𝓛 2 (plain (λ _. usize)) yes (λ κs x w. refl), tt))
     (f.Key.name (args T k kd e ed p pd)) (function T k kd e ed p pd) (code.unfolded 𝓤 𝓛.H 𝓜 𝓡 wired (T, tt) kd ed pd)
     (λ κs. (mut_vals, (uint_vals w64, tt))) (λ κs. (mut_Tells (named 0) κs.0 D, (uint_Tells w64, tt))) (λ κs qs bounds a _ are.
-    let us = mut_vals a.0 in let ws = uint_vals w64 a.1.0 in let old = tree k.text_of a.0.now in
+    let us = mut_vals a.0 in let ws = uint_vals w64 a.1.0 in let old = document_tree k.text_of a.0.now in
     let y : W.Ghost = ((κs, qs, bounds, a, (us, (ws, tt))), tt) in
     let G = triple_of 𝓛 (g.signature T k kd e ed p pd) (g.spec T k kd e ed p pd 𝓛 𝓜.mem 𝓡.returns) in
     let z : G.Ghost = ((κs, qs, bounds, a, (us, (ws, tt))), tt) in
@@ -92,18 +92,18 @@ index_mut_spec 𝓤 𝓛 𝓜 𝓡 wired T L k kd e ed p pd mk me mp =
     nothing ! $ use0 𝓛 (given (κs.1.0 ⊑ T.lives) (‵ ftrue)) (fact_i 𝓤 _ (emp 𝓤) lives) $ join ! $ move ! (1 ∷ 0 ∷ []) $ use2 𝓛 (raw (G.pre z)) (id⊢ 𝓤 _) $
     calls_at ! (framed 𝓤 𝓛.H 𝓜 𝓣) G (g-met.met 𝓤 𝓛 𝓜 𝓡 (code.calls-sj_document::value::Document::get_idx_mut 𝓡.env wired) T L k kd e ed p pd mk me mp) z (and_then ! (get ! refl) (and_then ! (get ! refl) (no_more !))) (λ v.
     use1 𝓛 (later (some (λ (r : Option (MutBor (Document T.Denot))). ((‵ (flft κs.0 qs.0) ⊛ ‵ (flft κs.1.0 qs.1.0) ⊛ ‵ ftrue) ⊛ ‵ ((option.the_row (MutRef (named 0) κs.0 D)).own_val r (v ∷ []))) ⊛
-    some (λ (ends : Unit {0} × (Unit {0} × Unit {0})). ‵ (lasts (g.ended T k kd e ed p pd) z.0.0 z.0.3 ends) ⊛ (‵ (follows_so D D a.0.ghost_name (ghost_name_of r) (λ w n. OnSome r (tree k.text_of n ≡ set_found (by_place a.1.0) (tree k.text_of w) old)) (λ n. tree k.text_of n ≡ old))
-    ⊛ raw (fact 𝓤 (option_map (λ v. tree k.text_of v.now) r ≡ nth a.1.0 old))))))) (id⊢ 𝓤 _) $
+    some (λ (ends : Unit {0} × (Unit {0} × Unit {0})). ‵ (lasts (g.ended T k kd e ed p pd) z.0.0 z.0.3 ends) ⊛ (‵ (follows_so D D a.0.ghost_name (ghost_name_of r) (λ w n. OnSome r (document_tree k.text_of n ≡ set_found (by_place a.1.0) (document_tree k.text_of w) old)) (λ n. document_tree k.text_of n ≡ old))
+    ⊛ raw (fact 𝓤 (option_map (λ v. document_tree k.text_of v.now) r ≡ nth a.1.0 old))))))) (id⊢ 𝓤 _) $
     await ! tt $ pick ! (λ r. split ! $ split ! $ move ! (2 ∷ []) $ pick ! (λ ends. split ! $ drop ! $ split ! $ move ! (1 ∷ []) $ heard ! _ (λ shown.
     -- [what r owns; what the call says; the tokens]
     move ! (2 ∷ []) $ option_out ! (MutRef (named 0) κs.0 D) r (v ∷ [])
-    (λ is_none spelled. absurd (none_there (nth a.1.0 old) (ap (option_map (λ v. tree k.text_of v.now)) (sym is_none) ∙ shown) there))
+    (λ is_none spelled. absurd (none_there (nth a.1.0 old) (ap (option_map (λ v. document_tree k.text_of v.now)) (sym is_none) ∙ shown) there))
     (λ x xs is_some spelled.
     peeks ! (MutRef (named 0) κs.0 D) _ (shows 𝓛 (MutRef (named 0) κs.0 D)) x xs (λ is.
     let told = mut_Tells (named 0) κs.0 D x xs is in
     rewrite ! 0 (λ (vs : List Val). ‵ ((MutRef (named 0) κs.0 D).own_val x vs)) told refl $
-    rewrite ! 1 (λ (x : Option (MutBor (Document T.Denot))). ‵ (follows_so D D a.0.ghost_name (ghost_name_of x) (λ w n. OnSome x (tree k.text_of n ≡ set_found (by_place a.1.0) (tree k.text_of w) old)) (λ n. tree k.text_of n ≡ old))) is_some refl $
-    move ! (1 ∷ []) $ use1 𝓛 (‵ (follows_so D D a.0.ghost_name (maybe.some x.ghost_name) (λ w n. tree k.text_of n ≡ set_found (by_place a.1.0) (tree k.text_of w) old) (λ n. Unit {0})))
+    rewrite ! 1 (λ (x : Option (MutBor (Document T.Denot))). ‵ (follows_so D D a.0.ghost_name (ghost_name_of x) (λ w n. OnSome x (document_tree k.text_of n ≡ set_found (by_place a.1.0) (document_tree k.text_of w) old)) (λ n. document_tree k.text_of n ≡ old))) is_some refl $
+    move ! (1 ∷ []) $ use1 𝓛 (‵ (follows_so D D a.0.ghost_name (maybe.some x.ghost_name) (λ w n. document_tree k.text_of n ≡ set_found (by_place a.1.0) (document_tree k.text_of w) old) (λ n. Unit {0})))
     (lent_weaker 𝓛 D D D a.0.ghost_name (maybe.some x.ghost_name) _ _ _ _ (λ w n f. f) (λ n f. tt)) $ move ! (1 ∷ []) $
     lands_as ! (ap only spelled ∙ ap (λ (vs : List Val). live 1 (of_list (vs ++ []))) told) refl (tt, (record { fits = lit< tt }, (tt, tt))) $
     first ! $ by_variants ! 9 (whole !) (get_tag ! (vrt ! refl (fld ! refl (stop !))) (whole !)) tt (
@@ -113,6 +113,6 @@ index_mut_spec 𝓤 𝓛 𝓜 𝓡 wired T L k kd e ed p pd mk me mp =
           sets ! (of_opd ! (get ! refl)) refl (tt, tt) $ returns ! (look_at ! 0 refl) $ free_all ! refl $
           suffices ! _ (ends_at 𝓛 End hs c y (vptr x.ref_ptr.0 x.ref_ptr.1) x (tt, (tt, tt)) (tt, (tt, tt))) $
           nothing ! $ nothing ! $ fjoin ! $ nothing ! $ fjoin ! $ join ! $ move ! (2 ∷ 0 ∷ []) $ join ! $ frame ! $
-          says ! (ap (option_map (λ v. tree k.text_of v.now)) (sym is_some) ∙ shown) $ done !),
+          says ! (ap (option_map (λ v. document_tree k.text_of v.now)) (sym is_some) ∙ shown) $ done !),
       ((λ one. absurd (suc-ne-zero 0 one)), tt),
     )))))))))))

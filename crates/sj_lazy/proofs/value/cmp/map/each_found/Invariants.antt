@@ -1,4 +1,4 @@
-use Rattle.sj_lazy.specs.Object.{members, object_choice}
+use Rattle.sj_lazy.specs.Object.{lazy_members, lazy_object_choice}
 use Rattle.sj_lazy.specs.SameMap.{counted}
 use Rattle.sj_lazy.specs.inner.SameMap.{EachFound}
 use Rattle.sj_lazy.proofs.value.cmp.map.each_found.Given as goal
@@ -7,8 +7,8 @@ abbrev pub invariant-loop-key : goal.invariant-loop-key
 invariant-loop-key g l =
     let R = g.X.SameAsLazy.same_lazy in
     let t = g.K.KeyText.text_of in
-    let c = object_choice l.object in
-    let f = counted c (members l.object) in
+    let c = lazy_object_choice l.object in
+    let f = counted c (lazy_members l.object) in
     record {
       can : (goal.iterator-loop-key g).can_next l.key-iterator;
       ends : (goal.iterator-loop-key g).is_finite l.key-iterator;
