@@ -16,9 +16,10 @@ use sj_text_core::{ErrorKind, Repeats};
 use std::alloc::Global;
 use std::borrow::CowStr;
 
-/// Reads one text (RFC 8259 without fractions and exponents) as a document whose texts and keys are lent from the bytes:
-/// of each key the first member stays, at every depth. It is refused as `to_tape` refuses, and as
-/// `OutOfMemory` where memory for the document was refused; nothing is then said of the bytes.
+/// Reads one text (RFC 8259 without fractions and exponents) as a document whose texts and keys are
+/// lent from the bytes: of each key the first member stays, at every depth. It is refused as
+/// `to_tape` refuses, and as `OutOfMemory` where memory for the document was refused; nothing is then
+/// said of the bytes.
 pub fn to_value<'v>(alloc: Global, bytes: &'v mut [u8]) -> Result<Value<'v>, ErrorKind>
     // What is read is spelled so, within the limit, and nothing else is.
     ensures means { IfOk result (λ v. (t : Tree) × Spells bytes.old t × IsWithin t × (document_tree cow_str_bytes v ≡ keep t)) }

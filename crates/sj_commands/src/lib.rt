@@ -1,4 +1,5 @@
-//! Commands at documents, as values and as lines of an input. What they answer is said by `sj_run`.
+//! Commands at documents, as values and as lines of an input. What they answer is said by `sj_run`,
+//! which users take.
 //!
 //! An input is a document and, behind its first line `---`, command lines. A line is an array of a
 //! name, a path and what the name takes; a path is an array of keys and places, or a pointer as a

@@ -26,16 +26,6 @@ pub trait MapOf<Key: KeyText, V>: Sized + Drop {
     fn with_capacity(alloc: Global, capacity: usize) -> Result<Self, AllocError>
         ensures { IfOk result (λ m. entries m ≡ []) };
 
-    /// Whether a member has the key.
-    fn has(&self, key: &str) -> bool
-        ensures { result ≡ is_seen key.now (entry_texts (entries self.now)) };
-
-    /// Puts a member last, whose key is not there. It is refused only for want of memory, and the
-    /// key and the value are then given up.
-    fn add(&mut self, key: Key, value: V) -> Result<(), AllocError>
-        requires { is_seen (Key.text_of key) (entry_texts (entries self.old)) ≡ false }
-        ensures { OnOk result (entries self.new ≡ entries self.old ++ ((key, Key.text_of key), value) ∷ []) };
-
     /// Holds of the numbers that the map takes as the hash of a text.
     ghost takes: { Self → ℕ → List ℕ → Type 0 };
 
@@ -43,12 +33,13 @@ pub trait MapOf<Key: KeyText, V>: Sized + Drop {
     fn hash_for(&self, key: &str) -> u64
         ensures { takes self.now result key.now };
 
-    /// The same as `has`, where the hash is known.
+    /// Whether a member has the key, whose hash is that.
     fn has_hashed(&self, hash: u64, key: &str) -> bool
         requires { takes self.now hash key.now }
         ensures { result ≡ is_seen key.now (entry_texts (entries self.now)) };
 
-    /// The same as `add`, where the hash is known.
+    /// Puts a member last, whose key is not there and has that hash. It is refused only for want of
+    /// memory, and the key and the value are then given up.
     fn add_hashed(&mut self, hash: u64, key: Key, value: V) -> Result<(), AllocError>
         requires absent { is_seen (Key.text_of key) (entry_texts (entries self.old)) ≡ false }
         requires hash { takes self.old hash (Key.text_of key) }
@@ -67,20 +58,6 @@ impl<K: KeyText + Drop, V: Drop> MapOf<K, V> for HashMap<K, V, ObjectHasher> {
         ensures { IfOk result (λ m. m.entries ≡ []) }
     {
         HashMap::with_capacity_and_hasher(alloc, capacity, ObjectHasher::default())
-    }
-
-    fn has(&self, key: &str) -> bool
-        ensures { result ≡ is_seen key.now (entry_texts self.now.entries) }
-    {
-        self.contains_key(key)
-    }
-
-    fn add(&mut self, key: K, value: V) -> Result<(), AllocError>
-        requires { is_seen (K.text_of key) (entry_texts self.old.entries) ≡ false }
-        ensures { OnOk result (self.new.entries ≡ self.old.entries ++ ((key, K.text_of key), value) ∷ []) }
-    {
-        let hash = HashMap::hash_for(self, key.text());
-        self.add_hashed(hash, key, value)
     }
 
     ghost takes = { λ m h k. NeedsHash (length m.entries) m.buckets → h ≡ hash_of_text k };

@@ -1,4 +1,5 @@
-//! Ordered maps from texts, and the keys and hashers that they take.
+//! Ordered maps from texts, and the keys and hashers that they take; and the reading of texts to
+//! documents of any type that says how it is made (`Builder`).
 //!
 //! ```
 //! let mut map = HashMap::new(alloc);

@@ -13,9 +13,10 @@ use sj_tape::Buffers;
 use sj_text_core::{ErrorKind, Repeats};
 use std::alloc::Global;
 
-/// Reads one text (RFC 8259 without fractions and exponents) as a document whose texts are copied out of the bytes:
-/// of each key the first member stays, at every depth. It is refused as `to_tape` refuses, and as
-/// `OutOfMemory` where memory for the document was refused; nothing is then said of the bytes.
+/// Reads one text (RFC 8259 without fractions and exponents) as a document whose texts are copied out
+/// of the bytes: of each key the first member stays, at every depth. It is refused as `to_tape`
+/// refuses, and as `OutOfMemory` where memory for the document was refused; nothing is then said of
+/// the bytes.
 pub fn to_value(alloc: Global, bytes: &mut [u8]) -> Result<Value, ErrorKind>
     // What is read is spelled so, within the limit, and nothing else is.
     ensures means { IfOk result (λ v. (t : Tree) × Spells bytes.old t × IsWithin t × (document_tree string_bytes v ≡ keep t)) }

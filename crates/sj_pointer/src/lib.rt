@@ -1,4 +1,5 @@
-//! JSON pointers (RFC 6901) as texts, whatever they lead into.
+//! JSON pointers (RFC 6901) as texts, whatever they lead into. Users take `sj_path`, which offers all of
+//! this again.
 //!
 //! A pointer is a text: empty, or tokens each begun by a slash. On an object a token is a key, on an
 //! array the position of an item.

@@ -106,8 +106,8 @@ impl<K: KeyText, V, S: KeyHasher> HashMap<K, V, S> {
     }
 
     /// Puts the key last, which is not there, with what `with` answers, and lends that value to write.
-    /// The hash is read only where there are buckets, or where there will be some. It is refused only for want of memory: then `with` is not called,
-    /// the key is given up, and the map is as it was.
+    /// The hash is read only where there are buckets, or where there will be some. It is refused only
+    /// for want of memory: then `with` is not called, the key is given up, and the map is as it was.
     pub fn append_hashed_with<F: FnOnce() -> V + Drop>(
         &mut self,
         hash: u64,

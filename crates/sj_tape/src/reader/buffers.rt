@@ -6,8 +6,8 @@ ghost use Rattle.sj_tape.specs.Room.{room};
 use std::alloc::{AllocError, Global};
 
 /// What readings share, one after another: for how many nodes the next one makes room at once, as
-/// many as the largest text had that was read. What a reading answers does not depend on what was read with the
-/// same buffers before, and they can be used again whatever it answered.
+/// many as the largest text had that was read. What a reading answers does not depend on what was
+/// read with the same buffers before, and they can be used again whatever it answered.
 #[repr(C)]
 #[derive(Drop)]
 pub struct Buffers {

@@ -56,6 +56,7 @@ fn str_of(bytes: &[u8]) -> &str
     requires { IsUtf8 bytes.now }
     ensures { result.now ≡ bytes.now }
 {
+    // SAFETY: the bytes are UTF-8, which is a condition of this function that each caller proves.
     unsafe { from_utf8_unchecked(bytes) }
 }
 

@@ -1,5 +1,4 @@
-//! Whether two documents are the same, and whether a document and a part of a tape are. Nothing
-//! is built, and no memory is taken.
+//! Whether two documents are the same. Nothing is built, and no memory is taken.
 
 ghost use Rattle.std.specs.Prelude.{◌≡◌, ◌↔◌, IsTrue, IfSome, Some, map};
 ghost use Rattle.std.specs.Option.{option_copied};
