@@ -8,6 +8,7 @@ ghost use Rattle.sj_text_core.specs.Repeats.{keep_by};
 ghost use Rattle.sj_text_core.specs.declared.repeats.Repeats.TheVariants.{First};
 
 mod access;
+mod access_mut;
 mod change;
 mod cmp;
 mod convert;
@@ -15,7 +16,6 @@ mod edit;
 mod from;
 mod items;
 mod known;
-mod loans;
 mod make;
 mod scalar;
 mod serialize;

@@ -17,11 +17,11 @@
 mod ends;
 pub mod laws;
 mod parse;
-mod place;
+mod positions;
 mod show;
 mod tokens;
 
 pub use parse::pointer;
-pub use place::position;
+pub use positions::position;
 pub use sj_text_core::PointerError;
 pub use tokens::Pointer;

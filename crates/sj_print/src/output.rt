@@ -6,12 +6,12 @@ ghost use Rattle.sj_text_core.specs.Scalars.{static_tree};
 ghost use Rattle.sj_print.specs.Layouts.{gap};
 ghost use Rattle.sj_print.specs.Outputs.{Appends, AppendsText, Lays};
 
+mod copies;
 mod count;
 mod decimal;
 mod filling;
 mod growing;
 mod line;
-mod place;
 mod plain;
 mod quote;
 

@@ -2,8 +2,8 @@
 use Rattle.std.specs.Prelude.{ℕ, List, [], ◌∷◌, take, drop}
 use Rattle.sj_text_core.specs.Nodes.{Mark, nothing}
 use Rattle.sj_tape.specs.Marks.{marks, packed_marks}
-use Rattle.sj_tape.specs.declared.list.List.{List as Whole}
-use Rattle.sj_tape.specs.declared.list.List.TheVariants.{Packed, Plain}
+use Rattle.sj_tape.specs.declared.node_list.List.{List as Whole}
+use Rattle.sj_tape.specs.declared.node_list.List.TheVariants.{Packed, Plain}
 
 abbrev pub list_nodes : Whole → List Mark
 list_nodes (Packed ns) = packed_marks ns.nodes.items

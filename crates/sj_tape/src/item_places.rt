@@ -8,9 +8,9 @@ ghost use Rattle.sj_tape.specs.Parts.{items_in};
 ghost use Rattle.sj_tape.specs.inner.Parts.{AreItemNodes, ItemsFrom};
 ghost use Rattle.sj_tape.specs.inner.Places.{AllPlaced, ArePlaces, IsArrayPlaced};
 
-use crate::kept::{Kept, between, kept_at, pass_run};
 use crate::landmarks::{Begins, FREE_CHANGES, MANY_ITEMS, PER_CHANGE, STEP, index_of};
 use crate::packed::Packed;
+use crate::stored_node::{StoredNode, between, kept_at, pass_run};
 use std::alloc::Global;
 
 /// How many nodes an item has on an average at least where places are kept. An array of narrower ones
@@ -66,7 +66,7 @@ pub(crate) fn place_before(
 
 /// The place of the item at that position, from the one at an earlier position on, and how many of the
 /// items behind that one differ in width from the one before.
-fn pass_block<'i, N: Kept<'i>>(
+fn pass_block<'i, N: StoredNode<'i>>(
     nodes: &[N],
     passed: usize,
     place: usize,
@@ -89,7 +89,7 @@ fn pass_block<'i, N: Kept<'i>>(
 
 /// The place of each item whose position is a multiple of `STEP`, up to where too many items differ in
 /// width from the one before. None where memory was refused.
-fn places_of<'i, N: Kept<'i>>(alloc: Global, nodes: &[N], len: usize) -> Option<Vec<usize>>
+fn places_of<'i, N: StoredNode<'i>>(alloc: Global, nodes: &[N], len: usize) -> Option<Vec<usize>>
     requires are { AreItemNodes (map N.mark_of nodes.now) }
     requires counted { len ≡ items_len (items_in (map N.mark_of nodes.now)) }
     requires fits { length nodes.now < 2 ^ 64 }

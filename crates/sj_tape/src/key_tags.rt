@@ -7,9 +7,9 @@ ghost use Rattle.sj_text_core.specs.Tree.{members_len};
 ghost use Rattle.sj_tape.specs.Marks.{packed_marks};
 ghost use Rattle.sj_tape.specs.inner.Tags.{AllTagged, AreTags, IsTagged, MembersFrom, key_tag};
 
-use crate::kept::{Kept, between, kept_at};
 use crate::landmarks::{Begins, FREE_CHANGES, MANY_MEMBERS, PER_CHANGE, STEP, index_of};
 use crate::packed::Packed;
+use crate::stored_node::{StoredNode, between, kept_at};
 use crate::tag::tag_of;
 use std::alloc::Global;
 

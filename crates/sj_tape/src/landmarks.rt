@@ -7,9 +7,9 @@ ghost use Rattle.sj_tape.specs.inner.Places.{AllPlaced};
 ghost use Rattle.sj_tape.specs.inner.Tags.{AllTagged};
 
 use crate::item_places::{ArrayPlaces, array_at};
-use crate::kept::{Kept, kept_at};
 use crate::key_tags::{KeyTags, object_at};
 use crate::packed::Packed;
+use crate::stored_node::{StoredNode, kept_at};
 use std::alloc::Global;
 
 /// How many items an array has at least of which places are kept.

@@ -20,18 +20,18 @@
 
 pub mod array;
 mod item_places;
-mod kept;
 mod key_tags;
 mod landmarks;
 pub mod laws;
-mod list;
 mod node;
+mod node_list;
 mod nodes;
 pub mod object;
 mod packed;
 mod preorder;
 mod reader;
 mod search;
+mod stored_node;
 mod tag;
 mod tape;
 mod value;

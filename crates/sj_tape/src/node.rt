@@ -4,7 +4,7 @@ ghost use Rattle.std.specs.Prelude.{◌≡◌, ◌^◌, ◌<◌, is_some};
 ghost use Rattle.sj_text_core.specs.Nodes.{width};
 ghost use Rattle.sj_tape.specs.Marks.{mark, text_in};
 
-use crate::kept::Kept;
+use crate::stored_node::StoredNode;
 use sj_text_core::StaticNode;
 
 /// One node of a tape.
@@ -49,7 +49,7 @@ impl<'i> Node<'i> {
 }
 
 // Few tapes keep such nodes: two calls keep these reads out of the way of packed nodes.
-impl<'i> Kept<'i> for Node<'i> {
+impl<'i> StoredNode<'i> for Node<'i> {
     ghost mark_of = { mark };
 
     #[inline(always)]

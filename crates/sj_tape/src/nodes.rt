@@ -4,11 +4,11 @@
 ghost use Rattle.std.specs.Prelude.{◌≤◌, ◌<◌, ◌^◌, length};
 ghost use Rattle.sj_tape.specs.Whole.{all_nodes};
 
-use crate::kept::{Kept, between, item_place, kept_at};
 use crate::key_tags::KeyTags;
-use crate::list::List;
 use crate::node::Node;
+use crate::node_list::List;
 use crate::packed::Packed;
+use crate::stored_node::{StoredNode, between, item_place, kept_at};
 use sj_text_core::StaticNode;
 use std::alloc::Global;
 use std::{fmt, slice};
@@ -169,7 +169,10 @@ impl<'t, 'i> Nodes<'t, 'i> {
     {
         match self.lists.first() {
             Some(List::Packed(list)) => kept_at(list.nodes().as_slice(), self.from + place).width(),
-            Some(List::Plain(nodes)) => Kept::width(kept_at(nodes.as_slice(), self.from + place)),
+            Some(List::Plain(nodes)) => StoredNode::width(kept_at(
+                nodes.as_slice(),
+                self.from + place,
+            )),
             None => 1,
         }
     }

@@ -8,11 +8,11 @@ ghost use Rattle.sj_text_core.specs.inner.Nodes.{AreMembers};
 ghost use Rattle.sj_text_core.specs.Tree.{members_len};
 ghost use Rattle.sj_tape.specs.Stretches.{nodes_in};
 
-use crate::kept::{Kept, kept_at};
 use crate::key_tags::KeyTags;
 use crate::landmarks::MANY_MEMBERS;
 use crate::nodes::Nodes;
 use crate::packed::Packed;
+use crate::stored_node::{StoredNode, kept_at};
 use crate::value::Value;
 use sj_text_core::{Repeats, are_same_texts};
 

@@ -4,8 +4,8 @@ ghost use Rattle.std.specs.Prelude.{◌≡◌, ◌<◌, ◌^◌, ◌*◌, ◌+�
 ghost use Rattle.sj_text_core.specs.Nodes.{string, width};
 ghost use Rattle.sj_tape.specs.Marks.{static_mark, mark, packed_mark, text_in};
 
-use crate::kept::Kept;
 use crate::node::Node;
+use crate::stored_node::StoredNode;
 use sj_print::PlainText;
 use sj_text_core::StaticNode;
 use std::fmt;
@@ -91,7 +91,7 @@ impl<'i> Packed<'i> {
     }
 }
 
-impl<'i> Kept<'i> for Packed<'i> {
+impl<'i> StoredNode<'i> for Packed<'i> {
     ghost mark_of = { packed_mark };
 
     #[inline(always)]

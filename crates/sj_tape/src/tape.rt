@@ -1,7 +1,7 @@
 //! Tapes.
 
-use crate::list::{List, PackedList};
 use crate::node::Node;
+use crate::node_list::{List, PackedList};
 use crate::nodes::Nodes;
 use crate::packed::Packed;
 use crate::preorder::is_preorder;

@@ -4,7 +4,7 @@ ghost use Rattle.std.specs.Prelude.{◌≡◌, ℕ, ◌+◌, ◌≤◌, List, �
 ghost use Rattle.std.specs.Borrow.{GName};
 
 use super::Output;
-use super::place::place;
+use super::copies::place;
 use sj_text_core::StaticNode;
 
 /// Bytes that are written over from `at` on. What has no room is left out.

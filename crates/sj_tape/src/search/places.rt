@@ -11,9 +11,9 @@ ghost use Rattle.sj_tape.specs.inner.Ahead.{MembersAhead, members_at, tree_from}
 ghost use Rattle.sj_tape.specs.inner.Fronts.{BeginsTree};
 ghost use Rattle.sj_tape.specs.Marks.{packed_marks};
 
-use crate::kept::{Kept, kept_at};
 use crate::packed::Packed;
 use crate::search::is_key;
+use crate::stored_node::{StoredNode, kept_at};
 use sj_text_core::Steps;
 use std::sync::ledger::Ledger;
 

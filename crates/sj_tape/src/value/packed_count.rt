@@ -9,9 +9,9 @@ ghost use Rattle.sj_tape.specs.Marks.{packed_mark, packed_marks};
 ghost use Rattle.sj_tape.specs.inner.PackedTree.{packed_tree};
 
 use super::packed_tree::PackedTree;
-use crate::kept::Kept;
 use crate::node::Node;
 use crate::packed::Packed;
+use crate::stored_node::StoredNode;
 use sj_print::{Count, Output, PlainText, count};
 use sj_text_core::WriteError;
 use std::alloc::Global;

@@ -11,9 +11,9 @@ ghost use Rattle.sj_tape.specs.inner.Parts.{AreItemNodes};
 
 use super::Value;
 use super::packed_key::{PackedKey, split_key};
-use crate::kept::Kept;
 use crate::node::Node;
 use crate::packed::Packed;
+use crate::stored_node::StoredNode;
 use sj_print::{Level, Parts, PlainText};
 
 /// The packed nodes of one tree.

@@ -4,7 +4,7 @@ use Rattle.sj_tape.proofs.item_places.pass_block.Given as goal
 
 abbrev pub invariant-loop-behind : goal.invariant-loop-behind
 invariant-loop-behind g l = record {
-  from : ItemsFrom (map g.N.Kept.mark_of l.nodes) l.behind.0 l.behind.1;
+  from : ItemsFrom (map g.N.StoredNode.mark_of l.nodes) l.behind.0 l.behind.1;
   within : l.behind.0 ≤ l.position;
 }
 

@@ -5,7 +5,7 @@ use Rattle.sj_tape.proofs.item_places.places_of.Goals as goal
 
 pub loop-passed-preserved : goal.loop-passed-preserved
 loop-passed-preserved g c =
-    let ns = map g.N.Kept.mark_of c.args.nodes.now in
+    let ns = map g.N.StoredNode.mark_of c.args.nodes.now in
     let l = c.loop-passed in
     let pushed : c.push.new.self.items ≡ l.places.items ++ l.at ∷ [] = search rules in
     let long : length c.push.new.self.items ≡ length l.places.items + 1 = ap length pushed ∙ length-append l.places.items (l.at ∷ []) in

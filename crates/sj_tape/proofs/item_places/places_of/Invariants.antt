@@ -5,9 +5,9 @@ use Rattle.sj_tape.proofs.item_places.places_of.Given as goal
 
 abbrev pub invariant-loop-passed : goal.invariant-loop-passed
 invariant-loop-passed g l = record {
-  from : ItemsFrom (map g.N.Kept.mark_of l.nodes) l.passed l.at;
+  from : ItemsFrom (map g.N.StoredNode.mark_of l.nodes) l.passed l.at;
   count : l.passed ≡ min (length l.places.items * 64) l.len;
-  there : ArePlaces (map g.N.Kept.mark_of l.nodes) l.places.items;
+  there : ArePlaces (map g.N.StoredNode.mark_of l.nodes) l.places.items;
 }
 
 abbrev pub decreases-loop-passed : goal.decreases-loop-passed

@@ -11,7 +11,7 @@ ghost use Rattle.sj_tape.specs.inner.Parts.{AreItemNodes, ItemsFrom};
 use crate::node::Node;
 
 /// A node in one of the forms that tapes keep.
-pub(crate) trait Kept<'i>: Copy {
+pub(crate) trait StoredNode<'i>: Copy {
     /// What it says.
     ghost mark_of: { Self → Mark };
 
@@ -40,7 +40,7 @@ pub(crate) trait Kept<'i>: Copy {
 /// The place of the item at that position, from the one at an earlier position on. Items of one width
 /// are passed in one run, in which the place of the next waits for no node.
 #[inline(always)]
-pub(crate) fn item_place<'i, N: Kept<'i>>(
+pub(crate) fn item_place<'i, N: StoredNode<'i>>(
     nodes: &[N],
     passed: usize,
     place: usize,
@@ -65,7 +65,7 @@ pub(crate) fn item_place<'i, N: Kept<'i>>(
 /// Passes the item at that place, and those behind it that are as wide, up to that position: how
 /// many items are passed then, and where the next one begins.
 #[inline(always)]
-pub(crate) fn pass_run<'i, N: Kept<'i>>(
+pub(crate) fn pass_run<'i, N: StoredNode<'i>>(
     nodes: &[N],
     passed: usize,
     place: usize,
@@ -92,7 +92,7 @@ pub(crate) fn pass_run<'i, N: Kept<'i>>(
 
 /// The nodes from one place on and before another.
 #[inline(always)]
-pub(crate) fn between<'t, 'i, N: Kept<'i>>(nodes: &'t [N], from: usize, end: usize) -> &'t [N]
+pub(crate) fn between<'t, 'i, N: StoredNode<'i>>(nodes: &'t [N], from: usize, end: usize) -> &'t [N]
     requires order { from ≤ end }
     requires within { end ≤ length (map N.mark_of nodes.now) }
     ensures { map N.mark_of result.now ≡ drop from (take end (map N.mark_of nodes.now)) }
@@ -102,7 +102,7 @@ pub(crate) fn between<'t, 'i, N: Kept<'i>>(nodes: &'t [N], from: usize, end: usi
 
 /// What is kept at a place.
 #[inline(always)]
-pub(crate) fn kept_at<'t, 'i, N: Kept<'i>>(nodes: &'t [N], place: usize) -> &'t N
+pub(crate) fn kept_at<'t, 'i, N: StoredNode<'i>>(nodes: &'t [N], place: usize) -> &'t N
     requires { place < length (map N.mark_of nodes.now) }
     ensures { N.mark_of result.now ≡ get_or (map N.mark_of nodes.now) place nothing }
 {

@@ -1,6 +1,6 @@
 use Rattle.std.proofs.Common.{◌-◌, length, arith}
 use Rattle.sj_print.proofs.Places.{overlap}
-use Rattle.sj_print.proofs.output.place.place_ends.Goals as goal
+use Rattle.sj_print.proofs.output.copies.place_ends.Goals as goal
 
 pub returns-clause-written : goal.returns-clause-written
 returns-clause-written g c =

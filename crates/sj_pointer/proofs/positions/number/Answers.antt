@@ -1,6 +1,6 @@
 use Rattle.std.proofs.Common.{◌∙◌, arith}
 use Rattle.sj_pointer.proofs.Numbers.{past, all_read}
-use Rattle.sj_pointer.proofs.place.number.Goals as goal
+use Rattle.sj_pointer.proofs.positions.number.Goals as goal
 
 pub returns-in_err-checked_mul : goal.returns-in_err-checked_mul
 returns-in_err-checked_mul c =

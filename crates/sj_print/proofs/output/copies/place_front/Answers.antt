@@ -1,6 +1,6 @@
 use Rattle.std.proofs.Common.{◌+◌, take, length-take-le, arith}
 use Rattle.std.proofs.lemmas.Simd.{take_more_put_chunk}
-use Rattle.sj_print.proofs.output.place.place_front.Goals as goal
+use Rattle.sj_print.proofs.output.copies.place_front.Goals as goal
 
 pub returns-clause-written : goal.returns-clause-written
 returns-clause-written g c =

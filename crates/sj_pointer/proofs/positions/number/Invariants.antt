@@ -3,7 +3,7 @@ use Rattle.std.specs.Char.{is_ascii_digit}
 use Rattle.std.specs.List.{list_all}
 use Rattle.sj_text_core.specs.Grammar.{value_of}
 use Rattle.sj_pointer.proofs.Numbers.{more}
-use Rattle.sj_pointer.proofs.place.number.Given as goal
+use Rattle.sj_pointer.proofs.positions.number.Given as goal
 
 abbrev pub invariant-loop-digit : goal.invariant-loop-digit
 invariant-loop-digit l = record {
