@@ -31,6 +31,7 @@ docs:
 check-docs:
 	tools/snippets.py
 	tools/links.py
+	tools/reasons.py
 	tools/clauses.py
 	tools/calling.py --check
 	tools/trusted.py --check README.md

@@ -55,6 +55,7 @@ fn show_at(document: &OwnedValue, path: &Pointer, found: &mut Found) -> u32
     }
 }
 
+// Why so: docs/REFUSED.md, "Reads take a handle as `&mut`".
 /// Says what stands at a pointer (RFC 6901). Where nothing does, it answers `MISSING`.
 #[unsafe(no_mangle)]
 pub extern "C" fn sj_find(alloc: Global, doc: &mut Doc, path: &[u8], found: &mut Found) -> u32

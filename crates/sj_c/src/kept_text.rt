@@ -9,6 +9,7 @@ use crate::unboxed::Unboxed;
 use std::alloc::Global;
 use std::marker::Model;
 
+// Why so: docs/REFUSED.md, "Each kind of handle".
 /// The place of a print, or null.
 #[repr(C)]
 #[derive(Drop)]

@@ -47,6 +47,7 @@ fn compare(alloc: Global, one: &OwnedValue, other: &OwnedValue, same: &mut bool)
     }
 }
 
+// Why so: docs/REFUSED.md, "Reads take a handle as `&mut`".
 /// Whether two documents are the same: members in any order, numbers by their value. Where more than
 /// 1,024 arrays and objects stand inside one another in both, it is refused as `TOO_DEEP`.
 #[unsafe(no_mangle)]

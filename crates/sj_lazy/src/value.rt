@@ -29,6 +29,7 @@ use sj_tape::Value as TapeValue;
 use sj_text_core::Repeats;
 use std::borrow::CowStr;
 
+// Why so: docs/REFUSED.md, "`lazy::Value` and `ValueCow` are names of generic enums".
 /// A document, lent or owned.
 #[derive(Debug, Drop)]
 pub enum Shared<B, T: KeyText> {

@@ -220,6 +220,7 @@ fn build<'de, V: Builder<'de, Key>, Key: KeyOf<'de>>(
 {
     let mut made = Vec::new(alloc);
     let mut at = nodes.len();
+    // Why so: docs/REFUSED.md, "A function under a bound that names a lifetime".
     while at > 0 {
         at -= 1;
         put::<V, Key>(alloc, &mut made, nodes.from(at), repeats)?;

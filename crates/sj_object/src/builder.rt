@@ -96,6 +96,7 @@ impl<K: KeyText + Drop, V: Drop> MapOf<K, V> for HashMap<K, V, ObjectHasher> {
     }
 }
 
+// Why so: docs/REFUSED.md, "`Builder` is split".
 /// A document type that is made of parts which lend nothing.
 pub trait Made<Key: KeyMade>: Sized + Drop {
     /// `HashMap<Key, Self, ObjectHasher>`.

@@ -21,6 +21,7 @@ pub trait KeyText: Eq {
     ghost equal_texts: { (a b : Self) → Decides (Self.PartialEq.eq a b) (text_of a ≡ text_of b) };
 }
 
+// Why so: docs/REFUSED.md, "`Builder` is split".
 /// A key that documents are made with.
 pub trait KeyMade: KeyText + Sized + Drop {
     /// What the keys that `KeyOf::of` makes pass.

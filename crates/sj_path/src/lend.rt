@@ -11,6 +11,7 @@ use sj_document::Document;
 use sj_object::KeyText;
 use sj_pointer::Pointer;
 
+// Why so: docs/REFUSED.md, "`LendPointed` has the loan of `find_mut`".
 /// What lends what a pointer finds to write: a document.
 pub trait LendPointed {
     /// Of a document its own type.

@@ -87,6 +87,7 @@ pub fn find_mut<'v, T: KeyText>(
 {
     let mut at = value;
     let mut depth = 0;
+    // Why so: docs/REFUSED.md, "What `find_mut` leaves".
     while let Some(token) = token_at(pointer, depth) {
         depth += 1;
         match step_mut(at, token) {

@@ -39,6 +39,7 @@ pub fn prints_spell<P: Parts>(value: &P)
     is_proper(value);
 }
 
+// Why so: docs/REFUSED.md, "That a value means a proper tree".
 /// The texts of a value are UTF-8, and its numbers lie in the ranges of their carriers.
 #[cycle(is_proper)]
 pub fn is_proper<P: Parts>(value: &P)

@@ -49,6 +49,7 @@ pub fn write_counted<P: Parts>(
     ensures err { OnErr result (out.new.items ≡ out.old.items) }
 {
     let at = out.len();
+    // Why so: docs/REFUSED.md, "A vector can't be lengthened".
     out.resize(end, 0)?;
     fill(value, pretty, out, at);
     Ok(())

@@ -38,6 +38,7 @@ pub(crate) fn member_mut<'m, K: KeyText, V>(
     ensures value { option_copied_mut result ≡ lookup key.now map.old.entries }
 {
     if let Way::ByKnownKey = way {
+        // Why so: docs/REFUSED.md, "The steps of a command's write by known key".
         return KnownKey::map_lookup_mut(map, &KnownKey::from(key));
     }
     map.get_mut(key)

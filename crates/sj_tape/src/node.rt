@@ -35,6 +35,7 @@ impl<'i> Node<'i> {
 }
 
 impl<'i> Node<'i> {
+    // Why so: docs/DECISIONS.md, "Few values of several words".
     /// Whether it is a text.
     #[cold]
     #[inline(never)]

@@ -13,6 +13,7 @@ use sj_text_core::StaticNode;
 use std::alloc::Global;
 use std::{fmt, slice};
 
+// Why so: docs/REFUSED.md, "A part of a tape refers to its list".
 /// A stretch of the nodes of a tape, whose list is the one in `lists`, or the one node of a null.
 #[derive(Clone, Copy)]
 pub struct Nodes<'t, 'i> {

@@ -13,6 +13,7 @@ use std::fmt;
 /// How many numbers 64 bits have.
 const WORD: u128 = 1 << 64;
 
+// Why so: docs/DECISIONS.md, "Texts stand first".
 /// A node as the reader puts it: 24 bytes, where a `Node` takes 48 for the sake of its numbers of
 /// 128 bits. The bits of such a number are `high * 2^64 + low` here. A text that was read without an
 /// escape is kept as one that is printed without one.

@@ -9,6 +9,7 @@ pub data Carrier : Type 0 where
   i128 : Carrier
   u128 : Carrier
 
+-- Why so: docs/REFUSED.md, "Three kinds of data".
 mutual
   pub data Tree : Type 0 where
     null : Tree

@@ -171,6 +171,7 @@ impl<T: Drop> From<AllocFailed<T>> for JsonError {
     }
 }
 
+// Why so: docs/REFUSED.md, "A refusal goes into `JsonError` by `Reason`".
 /// Why a call refused a value that it hands back, and which error for all calls stands for it.
 pub trait Reason {
     ghost use Rattle.std.specs.Prelude.{◌≡◌};

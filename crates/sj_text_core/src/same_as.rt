@@ -58,6 +58,7 @@ impl<V: ValueAsScalar> SameAs<String> for V {
     }
 }
 
+// Why so: docs/REFUSED.md, "One trait for the eleven integer types".
 /// Same exactly where the value is this number, whatever carries it.
 impl<V: ValueAsScalar> SameAs<i8> for V {
     ghost same = { λ v n. as_signed 8 (V.tree v) ≡ Some n };

@@ -5,6 +5,7 @@ ghost use Rattle.std.specs.Prelude.{◌≡◌, ◌+◌, ◌<◌};
 use std::marker::Model;
 use std::sync::ledger::{Blank, Book, Ledger, Share};
 
+// Why so: docs/REFUSED.md, "A plain ghost number".
 /// How many steps were taken. Contracts see the number; a running program neither keeps nor reads
 /// it.
 #[derive(Drop)]

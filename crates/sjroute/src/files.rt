@@ -8,6 +8,7 @@ use std::io::ErrorKind;
 use std::path::Path;
 use std::rt::Files;
 
+// Why so: docs/REFUSED.md, "The toolchain's files have no number".
 /// The file that a name stands for, by a name that is the same for all of its names: without links,
 /// dots and doubled slashes. None where no file is meant, but a device or a pipe. A file that is not
 /// there yet has the name that it would be made by.

@@ -10,6 +10,7 @@ use sj_stream::{Lines, Stream, Unread};
 use sj_tape::{ErrorKind, JsonError, Repeats};
 use std::alloc::Global;
 
+// Why so: docs/REFUSED.md, "A function can't be given `Lines`".
 /// Routes the lines of a piece behind so many lines: each text goes out as it came. The lines that are
 /// not read are put behind `broken`.
 pub fn route_piece(

@@ -24,6 +24,7 @@ impl<'k> KnownKey<'k> {
         target.at_hash(self.hash(), self.key().text())
     }
 
+    // Why so: docs/REFUSED.md, "The target stands first".
     /// The value of the key, to write. The target is then as it was, with what the reference last
     /// held in the place of that value.
     ///

@@ -53,6 +53,7 @@ fn place_or_put<'k: 'v, 'v, F: FnOnce() -> BorrowedValue<'v> + Drop>(
     ensures kind { IfErr result (λ why. why ≡ OutOfMemory) }
 {
     let hash = key.hash();
+    // Why so: docs/REFUSED.md, "A key's place is looked for once".
     if let Some(place) = members.position_hashed(hash, key.key().text()) {
         return Ok(place);
     }
@@ -61,6 +62,7 @@ fn place_or_put<'k: 'v, 'v, F: FnOnce() -> BorrowedValue<'v> + Drop>(
         Err(_) => return Err(Error::OutOfMemory),
     };
     let last = members.len();
+    // Why so: docs/REFUSED.md, "`lookup_or_insert_mut` puts a null".
     match members.append_hashed(hash, copy, Document::Static(StaticNode::Null)) {
         Ok(()) => {
             *members.value_at_mut(last) = with();

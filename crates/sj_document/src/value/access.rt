@@ -152,6 +152,7 @@ impl<T: KeyText> Document<T> {
         members.get_mut(key)
     }
 
+    // Why so: docs/REFUSED.md, "What `get_mut`, `get_idx_mut` and `IndexMut` leave".
     /// The value of the key, to write. The document is then as it was, with what the reference
     /// last held in the place of that value.
     pub fn get_mut(&mut self, key: &str) -> Option<&mut Document<T>>

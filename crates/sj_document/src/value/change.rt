@@ -5,6 +5,7 @@ ghost use Rattle.std.specs.Prelude.{◌≡◌, Some, None, IfOk, IfErr};
 use crate::value::lend::{LendItem, LendMember};
 use std::mem;
 
+// Why so: docs/REFUSED.md, "A change is handed in as a trait".
 /// A change of a value in its place.
 pub trait Change<V>: Sized {
     /// What it answers.

@@ -13,6 +13,7 @@ ghost use Rattle.sj_object.specs.Edits.{lookup, with_value};
 use crate::value::Document;
 use sj_object::{HashMap, KeyText, ObjectHasher};
 
+// Why so: docs/REFUSED.md, "Callers learn what is left".
 /// What lends the value of a key to write: a map, or a document.
 pub trait LendMember {
     /// The values of a map; of a document its own type.

@@ -32,6 +32,7 @@ impl<T: KeyText + Drop> Document<T> {
         Ok(Document::Array(Box::new(alloc, items)?))
     }
 
+    // Why so: docs/REFUSED.md, "`object_of` takes a vector of pairs".
     /// An object of the pairs, inserted in turn: a key that comes again takes the later value, in its
     /// first place. It is refused only for want of memory, and the values are then given up.
     pub fn object_of<'t>(

@@ -61,6 +61,7 @@ impl<P: Upgrade<T> + Drop, B: Lent<T> + Drop, T: KeyText + Drop> Lazy<P, B, T> {
         }
     }
 
+    // Why so: docs/REFUSED.md, "What a lazy value's `as_array_mut`, `as_object_mut`".
     /// The members, to write, where it is an object; it is owned first. What it is then is the
     /// object of what they last were. Refused for want of memory, it is as it was.
     pub fn as_object_mut(&mut self, alloc: Global) -> Result<Option<&mut Object<T>>, AllocError>

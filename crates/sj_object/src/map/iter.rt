@@ -99,6 +99,7 @@ impl<'a, K, V> Iterator for Keys<'a, K, V> {
     }
 }
 
+// Why so: docs/REFUSED.md, "A map has no `values_mut`".
 /// The values in order.
 pub struct Values<'a, K, V> {
     pairs: Pairs<'a, K, V>,

@@ -40,6 +40,7 @@ pub(crate) fn append_quoted(out: &mut Vec<u8>, text: &str) -> Result<(), AllocEr
     ensures err { OnErr result (out.new.items ≡ out.old.items) }
 {
     let start = out.len();
+    // Why so: docs/MEASURED.md, "To count a quoted text's length first".
     out.reserve(text.len() + 2)?;
     let growing = Growing {
         out,

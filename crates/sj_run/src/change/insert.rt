@@ -19,6 +19,7 @@ use std::mem;
 
 /// How a document of such texts takes a member by its key.
 pub(crate) trait Inserts<T: KeyText> {
+    // Why so: docs/REFUSED.md, "`Inserts` takes the new value by `&mut`".
     /// Sets the value of the key to the new one, which is taken out of its place.
     fn insert(
         self,
