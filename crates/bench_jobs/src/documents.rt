@@ -6,7 +6,7 @@ use crate::texts::{KINDS, put_event, text_of};
 use sj_document::Document;
 use sj_object::KeyText;
 use sj_tape::to_tape;
-use sj_text_core::{JsonError, StaticNode, ValueAsScalar, Writable};
+use sj_text_core::{JsonError, StaticNode, ValueAsScalar, ValueObjectAccessAsScalar, Writable};
 use std::alloc::Global;
 use std::borrow::CowStr;
 

@@ -7,7 +7,7 @@ use sj_borrowed::BorrowedValue;
 use sj_merge::merge;
 use sj_owned::{JsonError, Value, Writable, owned_from_tape};
 use sj_stream::{Lines, Repeats, Stream};
-use sj_text_core::{StaticNode, ValueAsScalar};
+use sj_text_core::{StaticNode, ValueAsScalar, ValueObjectAccessAsScalar};
 use std::alloc::{AllocError, Global};
 use std::borrow::CowStr;
 

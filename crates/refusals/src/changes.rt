@@ -4,7 +4,7 @@ use crate::maps::{Numbers, numbered};
 use refusals_common::{Fault, read, say, say_call, text_of};
 use sj_document::{LendItem, LendMember, OwnedValue, Replace, change_item, change_member};
 use sj_object::deserialize;
-use sj_text_core::{StaticNode, ValueAsScalar};
+use sj_text_core::{StaticNode, ValueAsScalar, ValueObjectAccessAsScalar};
 
 /// Changes parts of the first example, of a map and of a vector in their places, and looks at them.
 pub fn change(rt: &(impl Print + AllocGlobal)) -> Result<(), Fault> {

@@ -4,7 +4,8 @@ use refusals_common::{Fault, read, say, say_bytes, say_call, say_kept, text_of};
 use sj_document::{BorrowedValue, CopyText, Document, OwnedValue};
 use sj_object::{KeyText, deserialize};
 use sj_text_core::{
-    AccessError, Refused, SameAs, TypedValue, ValueAsScalar, ValueType, Writable, WriteError,
+    AccessError, Refused, SameAs, TypedValue, ValueAsScalar, ValueObjectAccessAsScalar, ValueType,
+    Writable, WriteError,
 };
 use std::alloc::{AllocError, Global};
 use std::borrow::CowStr;

@@ -4,7 +4,7 @@ use refusals_common::{Fault, say, say_call, text_of};
 use sj_pieces::Pieces;
 use sj_stream::{Place, Repeats, Stream, Unread, unread_lines};
 use sj_tape::{ErrorKind, Spare, Tape, to_tape_with_spare};
-use sj_text_core::Refused;
+use sj_text_core::{Refused, ValueObjectAccessAsScalar};
 use std::alloc::Global;
 use std::io;
 

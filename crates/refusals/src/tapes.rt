@@ -2,7 +2,7 @@
 
 use refusals_common::{Fault, say, say_call, text_of};
 use sj_tape::{ErrorKind, Node, Tape, Value, to_tape};
-use sj_text_core::StaticNode;
+use sj_text_core::{StaticNode, ValueObjectAccessAsScalar};
 
 /// Makes a tape of nodes, or reads one of a text.
 pub fn call(rt: &(impl Print + AllocGlobal), call: &str) -> Result<(), Fault> {

@@ -7,35 +7,10 @@ macro_rules! reads_member {
     };
 }
 
-/// Whether the typed reads of signed numbers find theirs.
-macro_rules! reads_signed {
-    ($value:expr) => {
-        reads_member!($value, get_i8, try_get_i8)
-            && reads_member!($value, get_i16, try_get_i16)
-            && reads_member!($value, get_i32, try_get_i32)
-            && reads_member!($value, get_i64, try_get_i64)
-            && reads_member!($value, get_i128, try_get_i128)
-    };
-}
-
-/// Whether those of unsigned numbers find theirs.
-macro_rules! reads_unsigned {
-    ($value:expr) => {
-        reads_member!($value, get_u8, try_get_u8)
-            && reads_member!($value, get_u16, try_get_u16)
-            && reads_member!($value, get_u32, try_get_u32)
-            && reads_member!($value, get_u64, try_get_u64)
-            && reads_member!($value, get_u128, try_get_u128)
-            && reads_member!($value, get_usize, try_get_usize)
-    };
-}
-
-/// Whether the other typed reads find a truth, a text, an array and an object.
+/// Whether the typed reads of a text, an array and an object find theirs.
 macro_rules! reads_others {
     ($value:expr) => {
-        $value.get_bool("bool") == Some(true)
-            && matches!($value.try_get_bool("bool"), Ok(Some(true)))
-            && $value.get_str("str") == Some("s")
+        $value.get_str("str") == Some("s")
             && $value.try_get_str("str").is_ok_and(|text| text == Some("s"))
             && $value.get_array("array").is_some_and(|items| items.len() == 1)
             && $value
@@ -67,6 +42,28 @@ use crate::scalars::{are_lazy_scalars, is_lazy_seven, is_nothing, is_seven, is_t
 use sj_document::Document;
 use sj_lazy::Value as LazyValue;
 use sj_object::KeyText;
+use sj_text_core::ValueObjectAccessAsScalar;
+
+/// Whether the typed reads of signed numbers, and of truths, find theirs.
+fn has_signed<V: ValueObjectAccessAsScalar>(value: &V) -> bool {
+    reads_member!(value, get_i8, try_get_i8)
+        && reads_member!(value, get_i16, try_get_i16)
+        && reads_member!(value, get_i32, try_get_i32)
+        && reads_member!(value, get_i64, try_get_i64)
+        && reads_member!(value, get_i128, try_get_i128)
+        && value.get_bool("bool") == Some(true)
+        && matches!(value.try_get_bool("bool"), Ok(Some(true)))
+}
+
+/// Whether those of unsigned numbers find theirs.
+fn has_unsigned<V: ValueObjectAccessAsScalar>(value: &V) -> bool {
+    reads_member!(value, get_u8, try_get_u8)
+        && reads_member!(value, get_u16, try_get_u16)
+        && reads_member!(value, get_u32, try_get_u32)
+        && reads_member!(value, get_u64, try_get_u64)
+        && reads_member!(value, get_u128, try_get_u128)
+        && reads_member!(value, get_usize, try_get_usize)
+}
 
 /// Whether a document has a member of each kind, by every read.
 pub fn is_document_of_kinds<T: KeyText>(value: &Document<T>, text: &String) -> bool {
@@ -80,14 +77,6 @@ pub fn is_document_of_kinds<T: KeyText>(value: &Document<T>, text: &String) -> b
         && value.get("str").is_some_and(|found| is_text(found, text))
 }
 
-fn has_signed<T: KeyText>(value: &Document<T>) -> bool {
-    reads_signed!(value)
-}
-
-fn has_unsigned<T: KeyText>(value: &Document<T>) -> bool {
-    reads_unsigned!(value)
-}
-
 fn has_others<T: KeyText>(value: &Document<T>) -> bool {
     reads_others!(value)
 }
@@ -98,20 +87,12 @@ fn has_parts<T: KeyText>(value: &Document<T>) -> bool {
 
 /// Whether a lazy value has a member of each kind, by every read.
 pub fn is_lazy_of_kinds(value: &LazyValue<'_, '_, '_>, text: &String) -> bool {
-    lazy_has_signed(value)
-        && lazy_has_unsigned(value)
+    has_signed(value)
+        && has_unsigned(value)
         && lazy_has_others(value)
         && lazy_has_parts(value)
         && is_lazy_seven(value.get("int"))
         && are_lazy_scalars(value.get("bool"), value.get("str"), text)
-}
-
-fn lazy_has_signed(value: &LazyValue<'_, '_, '_>) -> bool {
-    reads_signed!(value)
-}
-
-fn lazy_has_unsigned(value: &LazyValue<'_, '_, '_>) -> bool {
-    reads_unsigned!(value)
 }
 
 fn lazy_has_others(value: &LazyValue<'_, '_, '_>) -> bool {

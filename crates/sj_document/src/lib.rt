@@ -13,7 +13,7 @@ mod value;
 pub use sj_object::{Builder, HashMap, KeyText, Made, ObjectHasher};
 pub use sj_text_core::{
     AccessError, ExtendedValueType, JsonError, Refused, SameAs, StaticNode, TryMake, TryTypeError,
-    TypedValue, ValueAsScalar, ValueType, Writable, WriteError,
+    TypedValue, ValueAsScalar, ValueObjectAccessAsScalar, ValueType, Writable, WriteError,
 };
 pub use value::{
     BorrowedValue, Change, CopyText, Document, Leads, LendItem, LendMember, Object, OwnedValue,

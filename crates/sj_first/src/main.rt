@@ -1,6 +1,7 @@
 //! Reads settings, asks for one, sets another and prints them.
 #![tactic(auto)]
 
+use sj_owned::prelude::*;
 use sj_owned::{Value, to_value};
 
 fn main(rt: HostRuntime) -> anyhow::Result<()> {

@@ -30,7 +30,8 @@ pub use sj_document::{BorrowedValue, Document, OwnedValue};
 pub use sj_tape::{Buffers, Tape, to_tape, to_tape_with_buffers};
 pub use sj_text_core::{
     AccessError, ErrorKind, ExtendedValueType, JsonError, Refused, Repeats, SameAs, StaticNode,
-    TryMake, TryTypeError, TypedValue, ValueAsScalar, ValueType, Writable, WriteError,
+    TryMake, TryTypeError, TypedValue, ValueAsScalar, ValueObjectAccessAsScalar, ValueType,
+    Writable, WriteError,
 };
 pub use upgrade::{Lent, Upgrade};
 pub use value::{Lazy, Shared, Value, ValueCow};

@@ -36,7 +36,8 @@ pub use sj_object::{HashMap, ObjectHasher};
 pub use sj_tape::Buffers;
 pub use sj_text_core::{
     AccessError, ErrorKind, ExtendedValueType, JsonError, Refused, Repeats, SameAs, StaticNode,
-    TryMake, TryTypeError, TypedValue, ValueAsScalar, ValueType, Writable, WriteError,
+    TryMake, TryTypeError, TypedValue, ValueAsScalar, ValueObjectAccessAsScalar, ValueType,
+    Writable, WriteError,
 };
 
 /// A document that owns its texts.

@@ -1,5 +1,6 @@
 //! Each call of a known key.
 
+use sj_borrowed::prelude::*;
 use sj_borrowed::{JsonError, KnownKey, Object, ObjectHasher, Replace, Value};
 use std::alloc::Global;
 use std::borrow::CowStr;

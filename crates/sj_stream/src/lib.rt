@@ -25,6 +25,6 @@ mod unread;
 
 pub use line_reader::LineReader;
 pub use sj_lines::{Line, Lines};
-pub use sj_tape::{ErrorKind, Repeats, Value};
+pub use sj_tape::{ErrorKind, Repeats, Value, ValueObjectAccessAsScalar};
 pub use stream::{Stream, unread_lines};
 pub use unread::{Place, Unread};

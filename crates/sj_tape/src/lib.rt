@@ -50,7 +50,7 @@ pub use sj_print::{
 pub use sj_text_core::{
     AccessError, BadTape, ErrorKind, ExtendedValueType, JsonError, Meaning, Refused, Repeats,
     SameAs, SameWith, Scalar, StaticNode, Steps, TryMake, TryTypeError, TypedValue, ValueAsScalar,
-    ValueType, Writable, WriteError, are_same_bytes,
+    ValueObjectAccessAsScalar, ValueType, Writable, WriteError, are_same_bytes,
 };
 pub use tape::Tape;
 pub use value::Value;

@@ -9,6 +9,7 @@ ghost use Rattle.sj_text_core.specs.Reads.{member_as, as_unsigned};
 ghost use Rattle.sj_document.specs.Document.{document_tree};
 ghost use Rattle.sj_pointer.specs.Pointed.{set_pointed};
 
+use sj_owned::prelude::*;
 use sj_owned::{ErrorKind, Value, to_value};
 use sj_path::{Pointer, owned};
 use std::alloc::Global;

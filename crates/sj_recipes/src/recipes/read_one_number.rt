@@ -1,5 +1,6 @@
 //! A number of a known width.
 
+use sj_owned::prelude::*;
 use sj_owned::{TryTypeError, Value};
 
 pub fn port_of(settings: &Value) -> Result<Option<u16>, TryTypeError> {

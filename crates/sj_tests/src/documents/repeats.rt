@@ -7,7 +7,7 @@ use sj_document::{
 };
 use sj_object::deserialize;
 use sj_tape::{Node, Tape, Value, to_tape};
-use sj_text_core::{Repeats, StaticNode};
+use sj_text_core::{Repeats, StaticNode, ValueObjectAccessAsScalar};
 use std::alloc::Global;
 use std::borrow::CowStr;
 use std::test::Fail;

@@ -4,7 +4,7 @@ use super::{keys_of, prints};
 use sj_document::Document;
 use sj_lazy::{Shared, Value};
 use sj_tape::to_tape;
-use sj_text_core::{StaticNode, ValueAsScalar};
+use sj_text_core::{StaticNode, ValueAsScalar, ValueObjectAccessAsScalar};
 use std::alloc::Global;
 use std::borrow::CowStr;
 use std::test::Fail;

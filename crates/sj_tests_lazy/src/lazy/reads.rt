@@ -3,7 +3,9 @@
 use super::{keys_of, members, prints};
 use sj_lazy::{Array, Object, Value};
 use sj_tape::to_tape;
-use sj_text_core::{ExtendedValueType, TryTypeError, ValueAsScalar, ValueType};
+use sj_text_core::{
+    ExtendedValueType, TryTypeError, ValueAsScalar, ValueObjectAccessAsScalar, ValueType,
+};
 use std::test::Fail;
 
 /// The signed reads of `TYPED`.

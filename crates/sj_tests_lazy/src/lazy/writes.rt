@@ -3,7 +3,7 @@
 use super::{members, prints};
 use sj_lazy::Value;
 use sj_tape::to_tape;
-use sj_text_core::{AccessError, ValueAsScalar};
+use sj_text_core::{AccessError, ValueAsScalar, ValueObjectAccessAsScalar};
 use std::test::Fail;
 
 const REPEATED: &str = r#"{"a":1,"a":2}"#;

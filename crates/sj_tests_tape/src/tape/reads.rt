@@ -3,7 +3,7 @@
 use super::{has_items, has_members, lists_members, number_of};
 use sj_tape::{
     Array, ErrorKind, ExtendedValueType, Object, Repeats, TryTypeError, Value, ValueAsScalar,
-    ValueType, Writable, to_tape,
+    ValueObjectAccessAsScalar, ValueType, Writable, to_tape,
 };
 use std::alloc::Global;
 use std::test::Fail;
@@ -85,7 +85,7 @@ fn signed(v: Value<'_, '_>) -> [bool; 6] {
 }
 
 /// Whether members are read by unsigned types.
-fn unsigned(v: Value<'_, '_>) -> [bool; 7] {
+fn unsigned(v: Value<'_, '_>) -> [bool; 8] {
     [
         v.get_u8("m") == None,
         v.get_u16("m") == Some(300),
@@ -94,6 +94,7 @@ fn unsigned(v: Value<'_, '_>) -> [bool; 7] {
         v.get_u128("m") == Some(300),
         v.get_usize("m") == Some(300),
         v.get_usize("absent") == None,
+        v.get_scalar("m") == Some(300_u16),
     ]
 }
 
@@ -130,7 +131,7 @@ fn members_by_type(rt: HostRuntime) -> Result<(), Fail> {
     let v = tape.as_value();
     let last = lasts(tape.as_value_repeats(Repeats::Last));
     let told = (signed(v), unsigned(v), others(v), last);
-    assert_eq!(rt; told, ([true; 6], [true; 7], [true; 7], [true; 2]));
+    assert_eq!(rt; told, ([true; 6], [true; 8], [true; 7], [true; 2]));
     Ok(())
 }
 
@@ -150,7 +151,7 @@ fn signed_or_fault(v: Value<'_, '_>) -> [bool; 6] {
 }
 
 /// Whether unsigned types read members or name both kinds.
-fn unsigned_or_fault(v: Value<'_, '_>) -> [bool; 7] {
+fn unsigned_or_fault(v: Value<'_, '_>) -> [bool; 8] {
     let byte = narrow(ExtendedValueType::U8);
     let short = narrow(ExtendedValueType::U16);
     let word = narrow(ExtendedValueType::U32);
@@ -161,6 +162,7 @@ fn unsigned_or_fault(v: Value<'_, '_>) -> [bool; 7] {
         v.try_get_u32("n") == fault(word, ValueType::I64),
         v.try_get_u64("n") == fault(ValueType::U64, ValueType::I64),
         v.try_get_u128("m") == Ok(Some(300)),
+        v.try_get_scalar("m") == Ok(Some(300_u16)),
         v.try_get_usize("n") == fault(size, ValueType::I64),
         Value::null().try_get_u8("m") == fault(ValueType::Object, ValueType::Null),
     ]
@@ -194,7 +196,7 @@ fn members_by_type_with_faults(rt: HostRuntime) -> Result<(), Fail> {
     let v = tape.as_value();
     let numbers = (signed_or_fault(v), unsigned_or_fault(v));
     let told = (numbers, scalars_or_fault(v), parts_or_fault(v));
-    assert_eq!(rt; told, (([true; 6], [true; 7]), [true; 5], [true; 4]));
+    assert_eq!(rt; told, (([true; 6], [true; 8]), [true; 5], [true; 4]));
     Ok(())
 }
 

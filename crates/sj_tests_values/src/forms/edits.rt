@@ -2,7 +2,9 @@
 
 use sj_document::Document;
 use sj_object::{KeyMade, KeyOf};
-use sj_text_core::{AccessError, Refused, TryMake, ValueAsScalar, Writable};
+use sj_text_core::{
+    AccessError, Refused, TryMake, ValueAsScalar, ValueObjectAccessAsScalar, Writable,
+};
 use std::alloc::Global;
 use std::borrow::CowStr;
 use std::fmt::Debug;

@@ -3,7 +3,7 @@ use Rattle.sj_text_core.specs.Find.{find}
 use Rattle.sj_text_core.specs.Reads.{as_members, kind_of}
 use Rattle.sj_document.specs.Document.{document_tree}
 use Rattle.sj_tape.proofs.Read.{none_read, no_object, fault_is}
-use Rattle.sj_document.proofs.value.Document.try_read.Goals as goal
+use Rattle.sj_document.proofs.value.typed.DocumentValueObjectAccessAsScalar.try_get_scalar.Goals as goal
 
 pub returns-in-None : goal.returns-in-None
 returns-in-None g c =
