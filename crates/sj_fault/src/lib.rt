@@ -19,4 +19,5 @@ mod state;
 
 pub use checked::checked_fault_at;
 pub use fault::{Fault, fault_at};
+pub use place::{column, line};
 pub use sj_text_core::ErrorKind;

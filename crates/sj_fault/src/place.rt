@@ -3,8 +3,8 @@
 ghost use Rattle.std.specs.Prelude.{◌≡◌};
 ghost use Rattle.sj_fault.specs.Place.{line_of, column_of};
 
-/// The line behind the bytes, from 1 on.
-pub(crate) fn line(begin: &[u8]) -> usize
+/// The line behind the bytes, from 1 on: each line feed ends one.
+pub fn line(begin: &[u8]) -> usize
     ensures { result ≡ line_of begin.now }
 {
     let mut line = 1;
@@ -16,8 +16,8 @@ pub(crate) fn line(begin: &[u8]) -> usize
     line
 }
 
-/// The column behind the bytes, from 1 on.
-pub(crate) fn column(begin: &[u8]) -> usize
+/// The column behind the bytes, in bytes, from 1 on.
+pub fn column(begin: &[u8]) -> usize
     ensures { result ≡ column_of begin.now }
 {
     let mut column = 1;

@@ -12,7 +12,6 @@ mod flaw;
 mod input;
 mod key;
 mod layers;
-mod line;
 mod origin;
 mod output;
 mod report;
