@@ -25,5 +25,5 @@ pub use key::{KeyMade, KeyOf, KeyText};
 pub use map::{HashMap, IntoIter, Iter, Keys, Room, Values};
 pub use read::{deserialize, deserialize_repeats, deserialize_with_buffers};
 pub use sj_tape::Buffers;
-// Why so: docs/REFUSED.md, "`sj_object`, `sj_document` and `sj_run` do not offer `Repeats`".
+// Why so: docs/REFUSED.md, "`sj_object` and `sj_run` do not offer `Repeats`".
 pub use sj_text_core::{ErrorKind, JsonError, Refused, StaticNode};
