@@ -192,7 +192,8 @@ fn patch_to<T: CopyText + Drop>(
 /// The merge patch (RFC 7396) by which `from` becomes the same as `to`: a null for each member that
 /// goes, then each member that comes or changes, and nothing of what is the same in both. None says
 /// that no document is such a patch: in objects within objects `to` has a null where `from` hasn't,
-/// and no merge patch puts a null into an object; nulls within arrays are no trouble.
+/// and no merge patch puts a null into an object; nulls within arrays are no trouble. Refused only
+/// for want of memory.
 pub fn merge_diff<T: CopyText + Drop>(
     alloc: Global,
     from: &Document<T>,

@@ -1,4 +1,7 @@
 //! JSON Patch (RFC 6902) and JSON Merge Patch (RFC 7396) on documents of both forms.
+//!
+//! `operations_of` reads a patch document and `patch` does its operations; `diff` finds them and
+//! `document_of` lists them.
 #![tactic(auto)]
 
 mod apply;

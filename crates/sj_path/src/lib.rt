@@ -4,6 +4,10 @@
 //! array the position of an item. A pointer finds what its tokens find in the document's tree, one
 //! after another, and nothing where one of them finds nothing.
 //!
+//! `owned`, `borrowed` and `lazy` have the calls of each form: `find`, `find_mut`, `replace`,
+//! `update`, `insert`, `remove`, `push`, `pop`, `take`, and `set`, which makes the objects that are
+//! missing.
+//!
 //! ```
 //! let mut bytes = b"{\"foo\":[\"bar\",\"baz\"],\"m~n\":8}".to_vec(alloc)?;
 //! let mut value = sj_owned::to_value(alloc, bytes.as_mut_slice())?;

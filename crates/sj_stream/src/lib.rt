@@ -1,8 +1,8 @@
 //! Streams of documents: an input of many lines, each of which is one text (newline-delimited JSON).
 //!
-//! A line without a text is passed over. A line that is not read is answered by its number and why,
-//! and the next one is read all the same; a line of spaces alone is such a line. The memory of one
-//! document serves the next.
+//! An empty line is passed over. A line that is not read is answered by its number and why, and the
+//! next one is read all the same; a line of spaces alone is not read. The memory of one document
+//! serves the next.
 //!
 //! ```
 //! let mut input = b"{\"id\":1}\n{\"id\":}\n{\"id\":3}\n".to_vec(alloc)?;

@@ -8,7 +8,8 @@ use std::alloc::{AllocError, AllocFailed};
 use thiserror::Error;
 
 /// Why a call of the library gave nothing, whichever call it was. `?` makes it of each fault of the
-/// library, and of a refusal that hands a value back (`Refused`), which is then let go.
+/// library but a place of `sj_fault`, and of a refusal that hands a value back (`Refused`), which is
+/// then let go.
 #[derive(Clone, Copy, Debug, PartialEq, Eq, Error)]
 pub enum JsonError {
     /// A text was not read.

@@ -25,8 +25,9 @@ impl<'k> KnownKey<'k> {
     }
 
     // Why so: docs/REFUSED.md, "The target stands first".
-    /// The value of the key, to write. The target is then as it was, with what the reference last
-    /// held in the place of that value.
+    /// The value of the key, to write; None where it is absent, and on a document that is no
+    /// object. The target is then as it was, with what the reference last held in the place of that
+    /// value.
     ///
     /// ```
     /// if let Some(topic) = KnownKey::lookup_mut(&mut document, &key) {
@@ -45,7 +46,7 @@ impl<'k> KnownKey<'k> {
         target.at_hash_mut(hash, text)
     }
 
-    /// The value of the key in a map.
+    /// The value of the key in a map; None where it is absent.
     ///
     /// ```
     /// key.map_lookup(&members).is_some(); // whether the map has the key
@@ -59,8 +60,8 @@ impl<'k> KnownKey<'k> {
         map.get_hashed(self.hash(), self.key().text())
     }
 
-    /// The value of the key in a map, to write. The map is then as it was, with what the reference
-    /// last held in the place of that value.
+    /// The value of the key in a map, to write; None where it is absent. The map is then as it was,
+    /// with what the reference last held in the place of that value.
     ///
     /// ```
     /// if let Some(value) = KnownKey::map_lookup_mut(&mut members, &key) {

@@ -120,7 +120,8 @@ impl<T: KeyText> Document<T> {
         }
     }
 
-    /// The items of an array, to write. The document is then the array of what they last were.
+    /// The items, to write, where it is an array; else None. The document is then the array of what
+    /// they last were.
     pub fn as_array_mut(&mut self) -> Option<&mut Vec<Document<T>>>
         ensures* writes_back { sem 𝓛 (LendsSo (document_row T.row T.KeyText) (array_row T.row T.KeyText) self.entry result
             (λ n w. OnSome result (document_tree T.text_of n ≡ list (items_from (map (document_tree T.text_of) w.items)))) (λ n. document_tree T.text_of n ≡ document_tree T.text_of self.old)) }
@@ -132,7 +133,8 @@ impl<T: KeyText> Document<T> {
         }
     }
 
-    /// The map of an object, to write. The document is then the object of what it last was.
+    /// The map, to write, where it is an object; else None. The document is then the object of what
+    /// it last was.
     pub fn as_object_mut(&mut self) -> Option<&mut Object<T>>
         ensures* writes_back { sem 𝓛 (LendsSo (document_row T.row T.KeyText) (object_row T.row T.KeyText) self.entry result
             (λ n w. OnSome result (document_tree T.text_of n ≡ obj (entry_members (document_tree T.text_of) w.entries))) (λ n. document_tree T.text_of n ≡ document_tree T.text_of self.old)) }
@@ -153,8 +155,8 @@ impl<T: KeyText> Document<T> {
     }
 
     // Why so: docs/REFUSED.md, "What `get_mut`, `get_idx_mut` and `IndexMut` leave".
-    /// The value of the key, to write. The document is then as it was, with what the reference
-    /// last held in the place of that value.
+    /// The value of the key, to write; None where there is none, and on a non-object. The document
+    /// is then as it was, with what the reference last held in the place of that value.
     pub fn get_mut(&mut self, key: &str) -> Option<&mut Document<T>>
         ensures* writes_back { sem 𝓛 (LendsSo (document_row T.row T.KeyText) (document_row T.row T.KeyText) self.entry result
             (λ n w. OnSome result (document_tree T.text_of n ≡ set_found (by_key key.now) (document_tree T.text_of w) (document_tree T.text_of self.old))) (λ n. document_tree T.text_of n ≡ document_tree T.text_of self.old)) }
@@ -174,8 +176,8 @@ impl<T: KeyText> Document<T> {
         items.get_mut(index)
     }
 
-    /// The item at that position, to write. The document is then as it was, with what the
-    /// reference last held in the place of that item.
+    /// The item at that position, counted from 0, to write; None past the last, and on a non-array.
+    /// The document is then as it was, with what the reference last held in the place of that item.
     pub fn get_idx_mut(&mut self, index: usize) -> Option<&mut Document<T>>
         ensures* writes_back { sem 𝓛 (LendsSo (document_row T.row T.KeyText) (document_row T.row T.KeyText) self.entry result
             (λ n w. OnSome result (document_tree T.text_of n ≡ set_found (by_place index) (document_tree T.text_of w) (document_tree T.text_of self.old))) (λ n. document_tree T.text_of n ≡ document_tree T.text_of self.old)) }

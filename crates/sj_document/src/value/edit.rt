@@ -14,7 +14,7 @@ impl<T: KeyText + Drop> Document<T> {
 
     /// Sets the value of the key, and answers the one before. A key that is there keeps its place
     /// and is never refused; a new one goes last. On a non-object, and for want of memory, it is
-    /// refused: the value comes back, and the document is as it was.
+    /// refused: the value comes back, the key is let go, and the document is as it was.
     pub fn insert(
         &mut self,
         key: T,

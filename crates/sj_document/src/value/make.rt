@@ -172,7 +172,8 @@ impl<T: KeyText + Drop> Document<T> {
     ghost use Rattle.std.specs.Iterator.{IsFinite, Drains};
     ghost use Rattle.sj_text_core.specs.Tree.{list, items_from};
 
-    /// An array of what the iterator gives, in order.
+    /// An array of what the iterator gives, in order. Refused for want of memory, it gives up what
+    /// it took.
     pub fn try_from_items<I: Iterator<Item = Document<T>> + Drop>(
         alloc: Global,
         items: I,
@@ -189,7 +190,8 @@ impl<T: KeyText + Drop> Document<T> {
     }
 
     /// An object of the pairs that the iterator gives, inserted in turn: a key that comes again
-    /// takes the later value, in its first place.
+    /// takes the later value, in its first place. Refused for want of memory, it gives up what it
+    /// took.
     pub fn try_from_pairs<I: Iterator<Item = (T, Document<T>)> + Drop>(
         alloc: Global,
         pairs: I,

@@ -114,7 +114,8 @@ pub fn update_at<W: Leads<S>, S, T: KeyText + Drop, C: Change<Document<T>>>(
     Ok(answer)
 }
 
-/// Puts `new` in the place of what stands at the path of keys, if anything does.
+/// Puts `new` in the place of what stands at the path of keys, if anything does. Else `new` is let
+/// go, and the document is as it was.
 pub fn replace_at<T: KeyText + Drop>(value: &mut Document<T>, path: &[String], new: Document<T>)
     ensures { document_tree T.text_of value.new ≡ set_at (map (λ s. by_key (string_bytes s)) path.now) (document_tree T.text_of new) (document_tree T.text_of value.old) }
 {

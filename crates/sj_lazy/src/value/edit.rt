@@ -17,8 +17,10 @@ impl<P: Upgrade<T> + Drop, B: Lent<T> + Drop, T: KeyText + Drop> Lazy<P, B, T> {
     ghost use Rattle.sj_lazy.specs.Value.{lazy_kept, owned};
     ghost use Rattle.sj_lazy.specs.Edits.{IsLeft};
 
-    /// Sets the value of the key, and answers the one before. A key that is there keeps its place; a
-    /// new one goes last. Refused on a non-object and for want of memory: the value comes back.
+    /// Sets the value of the key, and answers the one before. A key that is there keeps its place;
+    /// a new one goes last. Refused on a non-object and for want of memory: the value comes back.
+    /// Refused, it is as it was where the upgrade was refused, and else a document of the tree that
+    /// it kept.
     pub fn insert(
         &mut self,
         alloc: Global,
@@ -61,8 +63,9 @@ impl<P: Upgrade<T> + Drop, B: Lent<T> + Drop, T: KeyText + Drop> Lazy<P, B, T> {
         }
     }
 
-    /// Takes the key's member out, and answers its value; the members behind it close up. Refused on
-    /// a non-object, and where the upgrade is.
+    /// Takes the key's member out, and answers its value; the members behind it close up. Refused
+    /// on a non-object, and where the upgrade is. Refused, it is as it was where the upgrade was
+    /// refused, and else a document of the tree that it kept.
     pub fn remove(&mut self, alloc: Global, key: &str) -> Result<Option<Document<T>>, AccessError>
         ensures answer { IfOk result (λ before. option_map (document_tree T.text_of) before ≡ find key.now (lazy_kept P.part_kept B.lent_tree T.text_of self.old)) }
         ensures after { OnOk result (owned T.text_of self.new ≡ Some (without_member key.now (lazy_kept P.part_kept B.lent_tree T.text_of self.old))) }
@@ -76,6 +79,8 @@ impl<P: Upgrade<T> + Drop, B: Lent<T> + Drop, T: KeyText + Drop> Lazy<P, B, T> {
     }
 
     /// Appends an item. Refused on a non-array and for want of memory: the value comes back.
+    /// Refused, it is as it was where the upgrade was refused, and else a document of the tree that
+    /// it kept.
     pub fn push(
         &mut self,
         alloc: Global,
@@ -96,7 +101,8 @@ impl<P: Upgrade<T> + Drop, B: Lent<T> + Drop, T: KeyText + Drop> Lazy<P, B, T> {
     }
 
     /// Takes the last item off; None where there is none. Refused on a non-array, and where the
-    /// upgrade is.
+    /// upgrade is. Refused, it is as it was where the upgrade was refused, and else a document of
+    /// the tree that it kept.
     pub fn pop(&mut self, alloc: Global) -> Result<Option<Document<T>>, AccessError>
         ensures answer { IfOk result (λ last. option_map (document_tree T.text_of) last ≡ last_item (lazy_kept P.part_kept B.lent_tree T.text_of self.old)) }
         ensures after { OnOk result (owned T.text_of self.new ≡ Some (without_last (lazy_kept P.part_kept B.lent_tree T.text_of self.old))) }

@@ -37,8 +37,9 @@ impl<P: Upgrade<T> + Drop, B: Lent<T> + Drop, T: KeyText + Drop> Lazy<P, B, T> {
     ghost use Rattle.sj_lazy.specs.Edits.{IsLeft};
 
     /// Inserts an item at that position, counted from 0: in front of the item that stands there, or
-    /// behind all where `index` is the `array_len`, which it may not pass. Refused on a non-array and
-    /// for want of memory: the value comes back.
+    /// behind all where `index` is the `array_len`, which it may not pass. Refused on a non-array
+    /// and for want of memory: the value comes back. Refused, it is as it was where the upgrade was
+    /// refused, and else a document of the tree that it kept.
     pub fn insert_idx(
         &mut self,
         alloc: Global,
@@ -60,9 +61,10 @@ impl<P: Upgrade<T> + Drop, B: Lent<T> + Drop, T: KeyText + Drop> Lazy<P, B, T> {
         }
     }
 
-    /// Takes the item at that position out, counted from 0, and answers it; the items behind it close
-    /// up. Past the last it answers None, and does nothing but the upgrade. Refused on a non-array,
-    /// and where the upgrade is.
+    /// Takes the item at that position out, counted from 0, and answers it; the items behind it
+    /// close up. Past the last it answers None, and does nothing but the upgrade. Refused on a
+    /// non-array, and where the upgrade is. Refused, it is as it was where the upgrade was refused,
+    /// and else a document of the tree that it kept.
     pub fn remove_idx(
         &mut self,
         alloc: Global,

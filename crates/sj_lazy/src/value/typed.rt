@@ -42,7 +42,7 @@ impl<'b, 't, 'i> Value<'b, 't, 'i> {
         }
     }
 
-    /// As `get_str`, with faults.
+    /// As `get_str`; of another member, and of a non-object, which kind it is.
     pub fn try_get_str(&self, key: &str) -> Result<Option<&str>, TryTypeError>
         ensures { result_map_both (option_map (λ s. s.now)) (λ e. e) result ≡ try_member_as as_text ValueType.String (value_tree self.now) (value_found self.now key.now) }
     {
@@ -63,7 +63,7 @@ impl<'b, 't, 'i> Value<'b, 't, 'i> {
         }
     }
 
-    /// As `get_array`, with faults.
+    /// As `get_array`; of another member, and of a non-object, which kind it is.
     pub fn try_get_array(&self, key: &str) -> Result<Option<Array<'_, 't, 'i>>, TryTypeError>
         ensures items { result_map_both (option_map lazy_items) (λ e. e) result ≡ try_member_as as_items ValueType.Array (value_tree self.now) (value_found self.now key.now) }
         ensures choice { IfOk result (λ value. IfSome value (λ a. lazy_array_choice a ≡ value_choice self.now)) }
@@ -91,7 +91,7 @@ impl<'b, 't, 'i> Value<'b, 't, 'i> {
         }
     }
 
-    /// As `get_object`, with faults.
+    /// As `get_object`; of another member, and of a non-object, which kind it is.
     pub fn try_get_object(&self, key: &str) -> Result<Option<Object<'_, 't, 'i>>, TryTypeError>
         ensures members { result_map_both (option_map lazy_members) (λ e. e) result ≡ try_member_as as_members ValueType.Object (value_tree self.now) (value_found self.now key.now) }
         ensures choice { IfOk result (λ value. IfSome value (λ o. lazy_object_choice o ≡ value_choice self.now)) }

@@ -41,14 +41,14 @@ impl<K: KeyText, V, S: KeyHasher> HashMap<K, V, S> {
         }
     }
 
-    /// The value of the key.
+    /// The value of the key; None where it is absent.
     pub fn get(&self, key: &str) -> Option<&V>
         ensures { option_copied result ≡ lookup key.now self.now.entries }
     {
         self.find(self.hash_in(key), key)
     }
 
-    /// The value of the key, which hashes to `hash`.
+    /// The value of the key, which hashes to `hash`; None where it is absent.
     pub fn get_hashed(&self, hash: u64, key: &str) -> Option<&V>
         requires { hash ≡ S.hash_of self.now.hasher key.now }
         ensures { option_copied result ≡ lookup key.now self.now.entries }
@@ -134,8 +134,8 @@ impl<K: KeyText, V, S: KeyHasher> HashMap<K, V, S> {
         }
     }
 
-    /// The value of the key, to write. The map is then as it was, with what the reference last
-    /// held in the place of that value.
+    /// The value of the key, to write; None where it is absent. The map is then as it was, with
+    /// what the reference last held in the place of that value.
     pub fn get_mut(&mut self, key: &str) -> Option<&mut V>
         ensures* writes_back { sem 𝓛 (LendsValue K.row V.row S.row K.KeyText S.KeyHasher self.entry key.now result) }
         ensures value { option_copied_mut result ≡ lookup key.now self.old.entries }

@@ -10,7 +10,8 @@ impl<K: KeyText, V, S: KeyHasher> HashMap<K, V, S> {
     ghost use Rattle.sj_object.specs.Edits.{lookup, cut_entry};
     ghost use Rattle.sj_object.specs.Entries.{entries_of};
 
-    /// Takes the key's member out, and answers its value. The members after it close up.
+    /// Takes the key's member out, and answers its value; None where it is absent. The members
+    /// after it close up.
     pub fn remove(&mut self, key: &str) -> Option<V>
     where
         K: Drop,
@@ -23,7 +24,7 @@ impl<K: KeyText, V, S: KeyHasher> HashMap<K, V, S> {
         Some(value)
     }
 
-    /// Takes the last member out.
+    /// Takes the last member out; None where there is none.
     #[inline(always)]
     pub fn pop(&mut self) -> Option<(K, V)>
     where

@@ -42,9 +42,11 @@ pub fn update<P: Upgrade<T> + Drop, B: Lent<T> + Drop, T: KeyText + Drop, C: Cha
     }
 }
 
-/// Sets the value of the key in the object that the pointer finds, and answers the one before. A key
-/// that is there keeps its place; a new one goes last. Refused where the pointer finds no object, be
-/// it that it finds nothing, and for want of memory: the value comes back.
+/// Sets the value of the key in the object that the pointer finds, and answers the one before. A
+/// key that is there keeps its place; a new one goes last. Refused where the pointer finds no
+/// object, be it that it finds nothing, and for want of memory: the value comes back. Refused, the
+/// lazy value is as it was where the upgrade was refused, and else a document of the tree that it
+/// kept.
 pub fn insert<P: Upgrade<T> + Drop, B: Lent<T> + Drop, T: KeyText + Drop>(
     value: &mut Lazy<P, B, T>,
     alloc: Global,
@@ -68,9 +70,10 @@ pub fn insert<P: Upgrade<T> + Drop, B: Lent<T> + Drop, T: KeyText + Drop>(
     }
 }
 
-/// Takes the key's member out of the object that the pointer finds, and answers its value; the members
-/// behind it close up. Refused where the pointer finds no object, be it that it finds nothing, and
-/// where the upgrade is.
+/// Takes the key's member out of the object that the pointer finds, and answers its value; the
+/// members behind it close up. Refused where the pointer finds no object, be it that it finds
+/// nothing, and where the upgrade is. Refused, the lazy value is as it was where the upgrade was
+/// refused, and else a document of the tree that it kept.
 pub fn remove<P: Upgrade<T> + Drop, B: Lent<T> + Drop, T: KeyText + Drop>(
     value: &mut Lazy<P, B, T>,
     alloc: Global,
@@ -88,8 +91,9 @@ pub fn remove<P: Upgrade<T> + Drop, B: Lent<T> + Drop, T: KeyText + Drop>(
     }
 }
 
-/// Appends an item to the array that the pointer finds. Refused where it finds no array, be it that it
-/// finds nothing, and for want of memory: the value comes back.
+/// Appends an item to the array that the pointer finds. Refused where it finds no array, be it that
+/// it finds nothing, and for want of memory: the value comes back. Refused, the lazy value is as it
+/// was where the upgrade was refused, and else a document of the tree that it kept.
 pub fn push<P: Upgrade<T> + Drop, B: Lent<T> + Drop, T: KeyText + Drop>(
     value: &mut Lazy<P, B, T>,
     alloc: Global,
@@ -110,8 +114,10 @@ pub fn push<P: Upgrade<T> + Drop, B: Lent<T> + Drop, T: KeyText + Drop>(
     }
 }
 
-/// Takes the last item off the array that the pointer finds; None where there is none. Refused where
-/// the pointer finds no array, be it that it finds nothing, and where the upgrade is.
+/// Takes the last item off the array that the pointer finds; None where there is none. Refused
+/// where the pointer finds no array, be it that it finds nothing, and where the upgrade is.
+/// Refused, the lazy value is as it was where the upgrade was refused, and else a document of the
+/// tree that it kept.
 pub fn pop<P: Upgrade<T> + Drop, B: Lent<T> + Drop, T: KeyText + Drop>(
     value: &mut Lazy<P, B, T>,
     alloc: Global,
@@ -143,9 +149,10 @@ pub fn take<P: Upgrade<T> + Drop, B: Lent<T> + Drop, T: KeyText + Drop>(
     Ok(edits::take(value.as_mut(alloc)?, pointer))
 }
 
-/// Sets what the pointer leads to, and answers what stood there; the objects that are missing on the
-/// way are made. Refused as `NotAnObject` where a token finds nothing in an array or meets a scalar, and
-/// for want of memory: the value comes back.
+/// Sets what the pointer leads to, and answers what stood there; the objects that are missing on
+/// the way are made. Refused as `NotAnObject` where a token finds nothing in an array or meets a
+/// scalar, and for want of memory: the value comes back. Refused, the lazy value is as it was where
+/// the upgrade was refused, and else a document of the tree that it kept.
 pub fn set<P: Upgrade<T> + Drop, B: Lent<T> + Drop, T: OwnedText + Drop>(
     value: &mut Lazy<P, B, T>,
     alloc: Global,

@@ -39,7 +39,7 @@ impl<'t, 'i> Value<'t, 'i> {
         self.get(key)?.into_string()
     }
 
-    /// As `get_str`, with faults.
+    /// As `get_str`; of another member, and of a non-object, which kind it is.
     pub fn try_get_str(&self, key: &str) -> Result<Option<&'i str>, TryTypeError>
         ensures { result_map_both (option_map (λ s. s.now)) (λ e. e) result ≡ try_member_as as_text ValueType.String (tape_tree self.now) (tape_found self.now key.now) }
     {
@@ -57,7 +57,7 @@ impl<'t, 'i> Value<'t, 'i> {
         self.get(key)?.as_array()
     }
 
-    /// As `get_array`, with faults.
+    /// As `get_array`; of another member, and of a non-object, which kind it is.
     pub fn try_get_array(&self, key: &str) -> Result<Option<Array<'t, 'i>>, TryTypeError>
         ensures items { result_map_both (option_map items) (λ e. e) result ≡ try_member_as as_items ValueType.Array (tape_tree self.now) (tape_found self.now key.now) }
         ensures choice { IfOk result (λ tape_found. IfSome tape_found (λ a. array_choice a ≡ tape_choice self.now)) }
@@ -76,7 +76,7 @@ impl<'t, 'i> Value<'t, 'i> {
         self.get(key)?.as_object()
     }
 
-    /// As `get_object`, with faults.
+    /// As `get_object`; of another member, and of a non-object, which kind it is.
     pub fn try_get_object(&self, key: &str) -> Result<Option<Object<'t, 'i>>, TryTypeError>
         ensures members { result_map_both (option_map members) (λ e. e) result ≡ try_member_as as_members ValueType.Object (tape_tree self.now) (tape_found self.now key.now) }
         ensures choice { IfOk result (λ tape_found. IfSome tape_found (λ o. object_choice o ≡ tape_choice self.now)) }
