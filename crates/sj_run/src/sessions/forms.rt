@@ -4,10 +4,10 @@ ghost use Rattle.std.specs.Prelude.{◌≡◌, ◌≢◌, ◌↔◌, IfOk, OnOk,
 ghost use Rattle.sj_text_core.specs.Grammar.{IsReadable, Spells};
 ghost use Rattle.sj_text_core.specs.Tree.{IsWithin};
 ghost use Rattle.sj_run.specs.inner.Answered.{ReadsTree, AnswersText, PassesText};
-ghost use Rattle.sj_run.specs.declared.sessions.Form.TheVariants as form;
+ghost use Rattle.sj_run.specs.declared.sessions.Form.TheVariants as variant;
 
 use crate::document::{BorrowedDoc, LazyDoc, OwnedDoc, Way};
-use crate::sessions::SessionFault;
+use crate::sessions::{Form, SessionFault};
 use crate::sessions::answer::answer_all;
 use sj_document::{BorrowedValue, OwnedValue};
 use sj_lazy::Value;
@@ -63,7 +63,7 @@ fn read_tape<'i>(alloc: Global, text: &'i mut [u8]) -> Result<Tape<'i>, SessionF
 }
 
 /// Reads an owned document, and answers the commands of the lines on it.
-pub(super) fn owned(
+fn owned(
     alloc: Global,
     way: Way,
     repeats: Repeats,
@@ -71,12 +71,12 @@ pub(super) fn owned(
     lines: &mut [u8],
     out: &mut Vec<u8>,
 ) -> Result<(), SessionFault>
-    ensures ok { OnOk result (AnswersText repeats form.Owned text.old lines.old out.old.items out.new.items) }
+    ensures ok { OnOk result (AnswersText repeats variant.Owned text.old lines.old out.old.items out.new.items) }
     ensures err { OnErr result (out.new.items ≡ out.old.items) }
     ensures usage { result ≢ Err SessionFault.Usage }
     ensures refused { (k : ErrorKind) → result ≡ Err (SessionFault.Refused k) → (k ≢ ErrorKind.OutOfMemory) × (¬ (IsReadable text.old)) }
     ensures utf8 { IsErrOf result (SessionFault.Refused ErrorKind.InvalidUtf8) ↔ ¬ (IsUtf8 text.old) }
-    ensures too_long { IsErrOf result SessionFault.TooLong → PassesText repeats form.Owned text.old lines.old (length out.old.items) }
+    ensures too_long { IsErrOf result SessionFault.TooLong → PassesText repeats variant.Owned text.old lines.old (length out.old.items) }
 {
     let value = read_document::<OwnedValue, String>(alloc, text, repeats)?;
     answer_all(alloc, &mut OwnedDoc { way, value }, lines, out)?;
@@ -84,7 +84,7 @@ pub(super) fn owned(
 }
 
 /// Reads a borrowed document, and answers the commands of the lines on it.
-pub(super) fn borrowed<'i>(
+fn borrowed<'i>(
     alloc: Global,
     way: Way,
     repeats: Repeats,
@@ -92,12 +92,12 @@ pub(super) fn borrowed<'i>(
     lines: &mut [u8],
     out: &mut Vec<u8>,
 ) -> Result<(), SessionFault>
-    ensures ok { OnOk result (AnswersText repeats form.Borrowed text.old lines.old out.old.items out.new.items) }
+    ensures ok { OnOk result (AnswersText repeats variant.Borrowed text.old lines.old out.old.items out.new.items) }
     ensures err { OnErr result (out.new.items ≡ out.old.items) }
     ensures usage { result ≢ Err SessionFault.Usage }
     ensures refused { (k : ErrorKind) → result ≡ Err (SessionFault.Refused k) → (k ≢ ErrorKind.OutOfMemory) × (¬ (IsReadable text.old)) }
     ensures utf8 { IsErrOf result (SessionFault.Refused ErrorKind.InvalidUtf8) ↔ ¬ (IsUtf8 text.old) }
-    ensures too_long { IsErrOf result SessionFault.TooLong → PassesText repeats form.Borrowed text.old lines.old (length out.old.items) }
+    ensures too_long { IsErrOf result SessionFault.TooLong → PassesText repeats variant.Borrowed text.old lines.old (length out.old.items) }
 {
     let value = read_document::<BorrowedValue<'i>, CowStr<'i>>(alloc, text, repeats)?;
     answer_all(alloc, &mut BorrowedDoc { way, value }, lines, out)?;
@@ -105,22 +105,47 @@ pub(super) fn borrowed<'i>(
 }
 
 /// Reads a tape, and answers the commands of the lines on a lazy document of it.
-pub(super) fn lazy<'i>(
+fn lazy<'i>(
     alloc: Global,
     repeats: Repeats,
     text: &'i mut [u8],
     lines: &mut [u8],
     out: &mut Vec<u8>,
 ) -> Result<(), SessionFault>
-    ensures ok { OnOk result (AnswersText repeats form.Lazy text.old lines.old out.old.items out.new.items) }
+    ensures ok { OnOk result (AnswersText repeats variant.Lazy text.old lines.old out.old.items out.new.items) }
     ensures err { OnErr result (out.new.items ≡ out.old.items) }
     ensures usage { result ≢ Err SessionFault.Usage }
     ensures refused { (k : ErrorKind) → result ≡ Err (SessionFault.Refused k) → (k ≢ ErrorKind.OutOfMemory) × (¬ (IsReadable text.old)) }
     ensures utf8 { IsErrOf result (SessionFault.Refused ErrorKind.InvalidUtf8) ↔ ¬ (IsUtf8 text.old) }
-    ensures too_long { IsErrOf result SessionFault.TooLong → PassesText repeats form.Lazy text.old lines.old (length out.old.items) }
+    ensures too_long { IsErrOf result SessionFault.TooLong → PassesText repeats variant.Lazy text.old lines.old (length out.old.items) }
 {
     let tape = read_tape(alloc, text)?;
     let value = Value::from_tape(tape.as_value_repeats(repeats));
     answer_all(alloc, &mut LazyDoc { value }, lines, out)?;
     Ok(())
+}
+
+/// Reads a document of the form, and answers the commands of the lines on it. A lazy one is looked up
+/// in by text.
+pub(super) fn answered_as(
+    alloc: Global,
+    form: Form,
+    way: Way,
+    repeats: Repeats,
+    text: &mut [u8],
+    lines: &mut [u8],
+    out: &mut Vec<u8>,
+) -> Result<(), SessionFault>
+    ensures ok { OnOk result (AnswersText repeats form text.old lines.old out.old.items out.new.items) }
+    ensures err { OnErr result (out.new.items ≡ out.old.items) }
+    ensures usage { result ≢ Err SessionFault.Usage }
+    ensures refused { (k : ErrorKind) → result ≡ Err (SessionFault.Refused k) → (k ≢ ErrorKind.OutOfMemory) × (¬ (IsReadable text.old)) }
+    ensures utf8 { IsErrOf result (SessionFault.Refused ErrorKind.InvalidUtf8) ↔ ¬ (IsUtf8 text.old) }
+    ensures too_long { IsErrOf result SessionFault.TooLong → PassesText repeats form text.old lines.old (length out.old.items) }
+{
+    match form {
+        Form::Owned => owned(alloc, way, repeats, text, lines, out),
+        Form::Borrowed => borrowed(alloc, way, repeats, text, lines, out),
+        Form::Lazy => lazy(alloc, repeats, text, lines, out),
+    }
 }
