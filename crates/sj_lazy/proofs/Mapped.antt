@@ -14,8 +14,7 @@ use Rattle.sj_object.specs.inner.Texts.{or_of_false, or_false, not_and, bytes_eq
 use Rattle.sj_document.specs.SameWith.{SameIn, value_of_text}
 use Rattle.sj_document.proofs.Subsets.{Within, within_len, within_back}
 use Rattle.sj_lazy.specs.SameMap.{SameTexts}
-use Rattle.sj_lazy.specs.inner.SameMap.{EachFound}
-use Rattle.sj_lazy.specs.inner.SameMap.{HasKeys}
+use Rattle.sj_lazy.specs.inner.SameMap.{EachFound, HasKeys}
 
 abbrev pub names : {L X : Type 0} → (L → List ℕ) → List (L × X) → List (List ℕ)
 names text ps = map (λ (p : _ × _). text p.0) ps

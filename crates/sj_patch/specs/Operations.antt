@@ -12,7 +12,6 @@ use Rattle.sj_text_core.specs.declared.patch_fault.ItemFault.{ItemFault}
 use Rattle.sj_text_core.specs.declared.patch_fault.ItemFault.TheVariants.{NotAnObject, Op, Path, From, Value}
 use Rattle.sj_text_core.specs.declared.patch_fault.PatchReadFault.{PatchReadFault}
 use Rattle.sj_text_core.specs.declared.patch_fault.PatchReadFault.TheVariants as fault
-use Rattle.sj_patch.specs.declared.error.Unread.TheVariants as unread
 
 -- what was found, or else the flaw
 abbrev pub or_flaw : {A : Type 0} → ItemFault → Option A → Result A ItemFault

@@ -1,5 +1,5 @@
 -- What reads answer on one plain tree, and what writes answer and leave.
-use Rattle.std.specs.Prelude.{ℕ, ◌^◌, ◌≤◌, Bool, length, List, [], ◌∷◌, Option, Some, None, is_some}
+use Rattle.std.specs.Prelude.{ℕ, ◌^◌, ◌≤◌, Bool, length, List, [], Option, Some, None, is_some}
 use Rattle.sj_text_core.specs.Tree.{Tree, null, boolean, int, text, list, obj, Members, items_len, members_len, keys_of}
 use Rattle.sj_text_core.specs.Find.{find, find_member}
 use Rattle.sj_text_core.specs.Edits.{put as put_member, cut, push as push_item, front, last}

@@ -1,5 +1,5 @@
 -- What private clauses alone cite beside Layouts.
-use Rattle.std.specs.Prelude.{ℕ, ◌+◌, List, [], ◌∷◌, ◌++◌, Option, Some, None}
+use Rattle.std.specs.Prelude.{ℕ, List, [], ◌∷◌, ◌++◌, Option, Some, None}
 use Rattle.sj_text_core.specs.Tree.{Items, Members}
 use Rattle.sj_text_core.specs.Print.{compact_items, compact_members, pretty_items, pretty_members}
 use Rattle.sj_print.specs.Layouts.{deeper, gap}

@@ -7,8 +7,8 @@ ghost use Rattle.sj_run.specs.inner.Answered.{ReadsTree, AnswersText, PassesText
 ghost use Rattle.sj_run.specs.declared.sessions.Form.TheVariants as variant;
 
 use crate::document::{BorrowedDoc, LazyDoc, OwnedDoc, Way};
-use crate::sessions::{Form, SessionFault};
 use crate::sessions::answer::answer_all;
+use crate::sessions::{Form, SessionFault};
 use sj_document::{BorrowedValue, OwnedValue};
 use sj_lazy::Value;
 use sj_object::{Builder, KeyOf, deserialize_repeats};

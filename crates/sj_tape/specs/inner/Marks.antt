@@ -1,7 +1,6 @@
 -- What private clauses alone cite beside Marks.
 use Rattle.std.specs.Prelude.{ℕ, List, ◌∷◌, Option, Some, None}
 use Rattle.sj_text_core.specs.Nodes.{Mark, string, array, object}
-use Rattle.sj_tape.specs.declared.packed.Packed.TheVariants as packed
 
 -- how many items an array has, by its node
 abbrev pub array_len : Mark → Option ℕ

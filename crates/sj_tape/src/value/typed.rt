@@ -60,7 +60,7 @@ impl<'t, 'i> Value<'t, 'i> {
     /// As `get_array`; of another member, and of a non-object, which kind it is.
     pub fn try_get_array(&self, key: &str) -> Result<Option<Array<'t, 'i>>, TryTypeError>
         ensures items { result_map_both (option_map items) (λ e. e) result ≡ try_member_as as_items ValueType.Array (tape_tree self.now) (tape_found self.now key.now) }
-        ensures choice { IfOk result (λ tape_found. IfSome tape_found (λ a. array_choice a ≡ tape_choice self.now)) }
+        ensures choice { IfOk result (λ found. IfSome found (λ a. array_choice a ≡ tape_choice self.now)) }
     {
         match self.try_get(key)? {
             Some(value) => Ok(Some(value.try_as_array()?)),
@@ -79,7 +79,7 @@ impl<'t, 'i> Value<'t, 'i> {
     /// As `get_object`; of another member, and of a non-object, which kind it is.
     pub fn try_get_object(&self, key: &str) -> Result<Option<Object<'t, 'i>>, TryTypeError>
         ensures members { result_map_both (option_map members) (λ e. e) result ≡ try_member_as as_members ValueType.Object (tape_tree self.now) (tape_found self.now key.now) }
-        ensures choice { IfOk result (λ tape_found. IfSome tape_found (λ o. object_choice o ≡ tape_choice self.now)) }
+        ensures choice { IfOk result (λ found. IfSome found (λ o. object_choice o ≡ tape_choice self.now)) }
     {
         match self.try_get(key)? {
             Some(value) => Ok(Some(value.try_as_object()?)),

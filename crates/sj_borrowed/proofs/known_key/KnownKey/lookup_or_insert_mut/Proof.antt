@@ -229,7 +229,7 @@ lookup_or_insert_mut_spec {M} 𝓤 𝓛 𝓜 𝓡 wired F LF g-F gd Fd P met-F g
           nothing ! $ move ! (1 ∷ 0 ∷ []) $ join ! $ move ! (2 ∷ 0 ∷ []) $ join ! $ nothing ! $ move ! (2 ∷ 0 ∷ []) $ join ! $ move ! (2 ∷ 0 ∷ []) $ join ! $ join ! $
           use0 𝓛 (given (IfOk place (λ i. i < length after'.entries)) (‵ ftrue)) (fact_i 𝓤 _ (emp 𝓤) (within key after' place placed)) $ use0 𝓛 (given (κv ⊑ A.lives) (‵ ftrue)) (fact_i 𝓤 _ (emp 𝓤) lives) $ join ! $ move ! (1 ∷ 0 ∷ []) $ use2 𝓛 (raw (V.pre z'')) (id⊢ 𝓤 _) $
           -- [what the call asks; the three other tokens; what the first call says]
-          calls_at_last ! (framed 𝓤 𝓛.H 𝓜 𝓣) V (j-met.met 𝓤 𝓛 𝓜 𝓡 (code.calls-sj_borrowed::known_key::or_insert::nth_value 𝓡.env wired) A LA text.ghosts text.dict eG ed pG pd met-k met-e met-p) z'' (and_then ! (get ! refl) (and_then ! (get ! refl) (no_more !))) (λ v''.
+          calls_at_last ! (framed 𝓤 𝓛.H 𝓜 𝓣) V (j-met.met 𝓤 𝓛 𝓜 𝓡 (code.calls-sj_borrowed::known_key::or_insert::value_at 𝓡.env wired) A LA text.ghosts text.dict eG ed pG pd met-k met-e met-p) z'' (and_then ! (get ! refl) (and_then ! (get ! refl) (no_more !))) (λ v''.
           use1 𝓛 (later (some (λ (q : Result (MutBor (Document (CowStr Global))) Error). ((‵ (flft κs.0 qs.0) ⊛ ‵ (flft κv qv) ⊛ ‵ ftrue) ⊛ ‵ (Answer.own_val q (v'' ∷ []))) ⊛
           some (λ (ends'' : Unit {0} × (Unit {0} × Unit {0})). ‵ (lasts (j.ended A text.ghosts text.dict eG ed pG pd) z''.0.0 z''.0.3 ends'') ⊛ (‵ (follows_so O D γ (name_if_ok (λ x. x.ghost_name) q) (λ w n. IsOk q → (i : ℕ) × (place ≡ Ok i) × (n ≡ with_value_at after' i w)) (λ n. OnErr q (n ≡ after')))
           ⊛ raw (fact 𝓤 (IfOk q (λ v. (i : ℕ) × (place ≡ Ok i) × (nth_value i after'.entries ≡ Some v.now)))) ⊛ raw (fact 𝓤 (IfErr q (λ why. place ≡ Err why)))))))) (id⊢ 𝓤 _) $
