@@ -27,7 +27,7 @@ cd "$work" || exit 1
 # pick WORDS: the program that makes the call, by its first word
 pick() {
   case ${1%% *} in
-    apply | command | patch | run | run_fault | session | session_*) program=$program_of_commands ;;
+    apply | command | patch | request | run | run_fault | session | session_*) program=$program_of_commands ;;
     copy | copy_key | display | from | kinds | lazy | make_lazy | no_pointer | parts | pointer | pointer_* | print | within)
       program=$program_of_paths
       ;;
@@ -461,20 +461,22 @@ for call in take update; do
   free "pointer_edit_lazy owned $call" $'call: done, owned {"some":[null,"value",2]}\n'
 done
 
-# reads_line LINE ANSWER: a command line that asks for the room of its nodes, and once
+# reads_line CALL LINE ANSWER: a command line, read as CALL, that asks for the room of its nodes, and once
 reads_line() {
-  each "command $1" "call: OutOfMemory"$'\n'"again $2"$'\n' "call: $2"$'\n'"again $2"$'\n'
+  each "$1 $2" "call: OutOfMemory"$'\n'"again $3"$'\n' "call: $3"$'\n'"again $3"$'\n'
   good=no
   [ "$requests" = 1 ] && good=yes
-  count $good "command $1 asks once"
+  count $good "$1 $2 asks once"
 }
 
-for line in number cut numbers open; do
-  reads_line $line 'bad command'
-done
-reads_line len len
-for line in word words; do
-  free "command $line" $'call: bad command\nagain bad command\n'
+for call in command request; do
+  for line in number cut numbers open; do
+    reads_line $call $line 'bad command'
+  done
+  reads_line $call len len
+  for line in word words; do
+    free "$call $line" $'call: bad command\nagain bad command\n'
+  done
 done
 
 for words in 'owned text' 'owned known' 'borrowed text' 'borrowed known' 'lazy text'; do

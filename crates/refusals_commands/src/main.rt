@@ -2,7 +2,7 @@
 //! stands, and where the call was refused makes it again. It is run with each request for memory of
 //! that call refused in turn, which `tools/refusals.sh` does; its words name the call:
 //!
-//!     refusals_commands command LINE | run FORM WAY | apply FORM WAY | run_fault
+//!     refusals_commands command LINE | request LINE | run FORM WAY | apply FORM WAY | run_fault
 //!     refusals_commands session FORM INPUT | session_known FORM INPUT | session_last FORM INPUT
 //!     refusals_commands session_kept owned INPUT | patch FORM CALL
 //!
@@ -19,6 +19,7 @@ mod run_faults;
 mod runs;
 mod sessions;
 
+use crate::lines::Reading;
 use crate::sessions::Session;
 use refusals_common::{Fault, word};
 use std::env;
@@ -32,7 +33,8 @@ fn run(rt: &(impl Env + Print + AllocGlobal)) -> Result<(), Fault> {
         "run" => runs::run_form(rt, second, third),
         "run_fault" => run_faults::meet(rt),
         "apply" => applies::insert(rt, second, third),
-        "command" => lines::read(rt, second),
+        "command" => lines::read(rt, Reading::Command, second),
+        "request" => lines::read(rt, Reading::Request, second),
         "session" => sessions::answer(rt, Session::First, second, third),
         "session_known" => sessions::answer(rt, Session::Known, second, third),
         "session_kept" => sessions::answer(rt, Session::Kept, second, third),

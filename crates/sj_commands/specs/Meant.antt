@@ -1,5 +1,5 @@
--- What steps and commands of the code mean.
-use Rattle.std.specs.Prelude.{List, map, string_bytes}
+-- What steps, requests and commands of the code mean.
+use Rattle.std.specs.Prelude.{ℕ, List, map, string_bytes}
 use Rattle.sj_text_core.specs.Paths.{Step as PlainStep, by_key, by_place, by_token}
 use Rattle.sj_document.specs.Document.{document_tree}
 use Rattle.sj_commands.specs.Commands as plain
@@ -9,6 +9,12 @@ use Rattle.sj_commands.specs.declared.command.Step.{Step}
 use Rattle.sj_commands.specs.declared.command.Step.TheVariants.{Key, Idx, Token}
 use Rattle.sj_commands.specs.declared.command.Width.{Width}
 use Rattle.sj_commands.specs.declared.command.Width.TheVariants as width
+use Rattle.sj_commands.specs.declared.request.Read.{Read}
+use Rattle.sj_commands.specs.declared.request.Read.TheVariants as read
+use Rattle.sj_commands.specs.declared.request.Request.{Request}
+use Rattle.sj_commands.specs.declared.request.Request.TheVariants as request
+use Rattle.sj_commands.specs.declared.request.Write.{Write}
+use Rattle.sj_commands.specs.declared.request.Write.TheVariants as write
 
 abbrev pub step_meant : Step → PlainStep
 step_meant (Key k) = by_key (string_bytes k)
@@ -30,6 +36,30 @@ width_meant width.U32 = plain.unsigned 32
 width_meant width.U64 = plain.unsigned 64
 width_meant width.U128 = plain.unsigned 128
 width_meant width.Usize = plain.unsigned 64
+
+abbrev pub read_meant : Read → plain.Read
+read_meant read.Kind = plain.kind
+read_meant (read.Fits w) = plain.fits (width_meant w)
+read_meant read.Str = plain.str
+read_meant read.Len = plain.len
+read_meant read.Keys = plain.keys
+read_meant (read.Has k) = plain.has (string_bytes k)
+read_meant read.Encode = plain.encode
+read_meant read.EncodePp = plain.encode_pp
+
+-- t gives the bytes of a text
+module _ {T : Type 0} (t : T → List ℕ) where
+  abbrev pub write_meant : Write T → plain.Write
+  write_meant (write.Insert k v) = plain.insert (t k) (document_tree t v)
+  write_meant (write.Remove k) = plain.remove (string_bytes k)
+  write_meant (write.Push v) = plain.push (document_tree t v)
+  write_meant write.Pop = plain.pop
+  write_meant (write.Put v) = plain.put (document_tree t v)
+
+abbrev pub request_meant : Request → plain.PlainCommand
+request_meant (request.Read p r) = plain.read (path_meant p.items) (read_meant r)
+request_meant (request.Write p w) = plain.write (path_meant p.items) (write_meant string_bytes w)
+request_meant request.Bad = plain.bad
 
 abbrev pub command_meant : Command → plain.PlainCommand
 command_meant (command.Kind p) = plain.read (path_meant p.items) plain.kind

@@ -2,7 +2,7 @@
 
 mod line;
 
-pub use line::command_of;
+pub use line::{command_of, request_of};
 use sj_document::OwnedValue;
 
 /// A step on the way to a value. One that finds nothing makes the reply `Missing`: a key that is

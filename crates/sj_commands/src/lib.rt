@@ -14,7 +14,9 @@
 mod command;
 pub mod laws;
 mod lines;
+mod request;
 
-pub use command::{Command, Step, Width, command_of};
+pub use command::{Command, Step, Width, command_of, request_of};
 pub use lines::{Cut, cut_at_mark};
+pub use request::{Read, Request, Write};
 pub use sj_lines::{line_len, text_len};

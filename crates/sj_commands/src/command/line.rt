@@ -1,5 +1,5 @@
-//! Which command a line is. The line is read to a tape, of whose parts the command has copies: a
-//! document is built only of a value that it takes.
+//! The request of a line, and its command. The line is read to a tape, of whose parts the request
+//! has copies: a document is built only of a value that it takes.
 
 ghost use Rattle.std.specs.Prelude.{◌≡◌, IfOk, option_map, unwrap_or, map, string_bytes};
 ghost use Rattle.sj_text_core.specs.Tree.{list, items_from};
@@ -8,10 +8,11 @@ ghost use Rattle.sj_tape.specs.Items.{items_parts_ahead};
 ghost use Rattle.sj_pointer.specs.Pointed.{path_of};
 ghost use Rattle.sj_commands.specs.Commands.{PlainCommand, bad};
 ghost use Rattle.sj_commands.specs.CommandLines.{IsCommandOf, command_in as command_in_tree, command_with, command_with_path, command_with_text, command_with_value, command_with_member, path_in as path_in_tree, pointer_in as pointer_in_text, step_in as step_in_tree, steps_in as steps_in_items, width_named as width_of_name};
-ghost use Rattle.sj_commands.specs.Meant.{command_meant, step_meant, path_meant, width_meant};
+ghost use Rattle.sj_commands.specs.Meant.{command_meant, request_meant, step_meant, path_meant, width_meant};
 ghost use Rattle.sj_commands.specs.inner.Parts.{kept_part, parts_in};
 
 use super::{Command, Step, Width};
+use crate::request::{Read, Request, Write};
 use sj_document::owned_from_tape;
 use sj_pointer::{PointerError, pointer};
 use sj_tape::{Array, Buffers, Value, array, to_bare_tape_with_buffers};
@@ -100,32 +101,32 @@ fn path_in(alloc: Global, value: Value<'_, '_>) -> Result<Option<Vec<Step>>, All
     }
 }
 
-fn with_path(name: &str, path: Vec<Step>) -> Command
-    ensures { command_meant result ≡ unwrap_or (command_with_path name.now (path_meant path.items)) bad }
+fn with_path(name: &str, path: Vec<Step>) -> Request
+    ensures { request_meant result ≡ unwrap_or (command_with_path name.now (path_meant path.items)) bad }
 {
     match name {
-        "kind" => Command::Kind(path),
-        "str" => Command::Str(path),
-        "len" => Command::Len(path),
-        "keys" => Command::Keys(path),
-        "encode" => Command::Encode(path),
-        "encode_pp" => Command::EncodePp(path),
-        "pop" => Command::Pop(path),
-        _ => Command::Bad,
+        "kind" => Request::Read(path, Read::Kind),
+        "str" => Request::Read(path, Read::Str),
+        "len" => Request::Read(path, Read::Len),
+        "keys" => Request::Read(path, Read::Keys),
+        "encode" => Request::Read(path, Read::Encode),
+        "encode_pp" => Request::Read(path, Read::EncodePp),
+        "pop" => Request::Write(path, Write::Pop),
+        _ => Request::Bad,
     }
 }
 
-fn with_text(alloc: Global, name: &str, path: Vec<Step>, text: &str) -> Result<Command, AllocError>
-    ensures { IfOk result (λ command. command_meant command ≡ unwrap_or (command_with_text name.now (path_meant path.items) text.now) bad) }
+fn with_text(alloc: Global, name: &str, path: Vec<Step>, text: &str) -> Result<Request, AllocError>
+    ensures { IfOk result (λ request. request_meant request ≡ unwrap_or (command_with_text name.now (path_meant path.items) text.now) bad) }
 {
     match name {
         "fits" => match width_named(text) {
-            Some(width) => Ok(Command::Fits(path, width)),
-            None => Ok(Command::Bad),
+            Some(width) => Ok(Request::Read(path, Read::Fits(width))),
+            None => Ok(Request::Bad),
         },
-        "has" => Ok(Command::Has(path, String::from_str(alloc, text)?)),
-        "remove" => Ok(Command::Remove(path, String::from_str(alloc, text)?)),
-        _ => Ok(Command::Bad),
+        "has" => Ok(Request::Read(path, Read::Has(String::from_str(alloc, text)?))),
+        "remove" => Ok(Request::Write(path, Write::Remove(String::from_str(alloc, text)?))),
+        _ => Ok(Request::Bad),
     }
 }
 
@@ -134,15 +135,15 @@ fn with_value(
     name: &str,
     path: Vec<Step>,
     value: Value<'_, '_>,
-) -> Result<Command, AllocError>
-    ensures { IfOk result (λ command. command_meant command ≡ unwrap_or (command_with_value name.now (path_meant path.items) (kept_part (tape_part value.entry))) bad) }
+) -> Result<Request, AllocError>
+    ensures { IfOk result (λ request. request_meant request ≡ unwrap_or (command_with_value name.now (path_meant path.items) (kept_part (tape_part value.entry))) bad) }
 {
     match name {
-        "push" => Ok(Command::Push(path, owned_from_tape(alloc, value)?)),
-        "put" => Ok(Command::Put(path, owned_from_tape(alloc, value)?)),
+        "push" => Ok(Request::Write(path, Write::Push(owned_from_tape(alloc, value)?))),
+        "put" => Ok(Request::Write(path, Write::Put(owned_from_tape(alloc, value)?))),
         _ => match value.into_string() {
             Some(text) => with_text(alloc, name, path, text),
-            None => Ok(Command::Bad),
+            None => Ok(Request::Bad),
         },
     }
 }
@@ -153,17 +154,17 @@ fn with_member(
     path: Vec<Step>,
     key: Value<'_, '_>,
     value: Value<'_, '_>,
-) -> Result<Command, AllocError>
-    ensures { IfOk result (λ command. command_meant command ≡ unwrap_or (command_with_member name.now (path_meant path.items) (kept_part (tape_part key.entry)) (kept_part (tape_part value.entry))) bad) }
+) -> Result<Request, AllocError>
+    ensures { IfOk result (λ request. request_meant request ≡ unwrap_or (command_with_member name.now (path_meant path.items) (kept_part (tape_part key.entry)) (kept_part (tape_part value.entry))) bad) }
 {
     let Some(key) = key.into_string() else {
-        return Ok(Command::Bad);
+        return Ok(Request::Bad);
     };
     if name == "insert" {
         let key = String::from_str(alloc, key)?;
-        Ok(Command::Insert(path, key, owned_from_tape(alloc, value)?))
+        Ok(Request::Write(path, Write::Insert(key, owned_from_tape(alloc, value)?)))
     } else {
-        Ok(Command::Bad)
+        Ok(Request::Bad)
     }
 }
 
@@ -173,8 +174,8 @@ fn with_items(
     name: &str,
     path: Vec<Step>,
     mut items: array::Iter<'_, '_>,
-) -> Result<Command, AllocError>
-    ensures { IfOk result (λ command. command_meant command ≡ unwrap_or (command_with name.now (path_meant path.items) (items_from (map kept_part (items_parts_ahead items.entry)))) bad) }
+) -> Result<Request, AllocError>
+    ensures { IfOk result (λ request. request_meant request ≡ unwrap_or (command_with name.now (path_meant path.items) (items_from (map kept_part (items_parts_ahead items.entry)))) bad) }
 {
     let Some(first) = items.next() else {
         return Ok(with_path(name, path));
@@ -183,48 +184,67 @@ fn with_items(
         return with_value(alloc, name, path, first);
     };
     match items.next() {
-        Some(_) => Ok(Command::Bad),
+        Some(_) => Ok(Request::Bad),
         None => with_member(alloc, name, path, first, second),
     }
 }
 
-fn in_items(alloc: Global, items: Array<'_, '_>) -> Result<Command, AllocError>
-    ensures { IfOk result (λ command. command_meant command ≡ command_in_tree (list (items_from (map kept_part (parts_in items.entry))))) }
+fn in_items(alloc: Global, items: Array<'_, '_>) -> Result<Request, AllocError>
+    ensures { IfOk result (λ request. request_meant request ≡ command_in_tree (list (items_from (map kept_part (parts_in items.entry))))) }
 {
     let mut items = items.iter();
     let Some(first) = items.next() else {
-        return Ok(Command::Bad);
+        return Ok(Request::Bad);
     };
     let Some(name) = first.into_string() else {
-        return Ok(Command::Bad);
+        return Ok(Request::Bad);
     };
     let Some(steps) = items.next() else {
-        return Ok(Command::Bad);
+        return Ok(Request::Bad);
     };
     match path_in(alloc, steps)? {
         Some(path) => with_items(alloc, name, path, items),
-        None => Ok(Command::Bad),
+        None => Ok(Request::Bad),
     }
 }
 
-fn command_in(alloc: Global, value: Value<'_, '_>) -> Result<Command, AllocError>
-    ensures { IfOk result (λ command. command_meant command ≡ command_in_tree (kept_part (tape_part value.entry))) }
+fn request_in(alloc: Global, value: Value<'_, '_>) -> Result<Request, AllocError>
+    ensures { IfOk result (λ request. request_meant request ≡ command_in_tree (kept_part (tape_part value.entry))) }
 {
     match value.as_array() {
         Some(items) => in_items(alloc, items),
-        None => Ok(Command::Bad),
+        None => Ok(Request::Bad),
     }
 }
 
-/// For a text of how many bytes a reading of the line is to make room at once. Nothing is asked for in
-/// front of the first node of a line that does not begin with `[`, and a list makes a node of its
-/// first byte, so no line makes a request more than without.
+/// For a text of how many bytes a reading of the line is to make room at once. Nothing is asked for
+/// in front of the first node of a line that does not begin with `[`, and a list makes a node of
+/// its first byte, so no line makes a request more than without.
 fn room_of(line: &[u8]) -> usize {
     // Most commands have no more nodes than a fourth of their bytes, and then ask for them once. A
     // shorter line's first node has room for four made, which are no fewer.
     match line.first() {
         Some(b'[') if line.len() >= 16 => 2 * line.len().min(ROOM),
         _ => 0,
+    }
+}
+
+/// The request of a line: that of the tree which it spells, with the first member of each key kept,
+/// and `Bad` where that tree fits no row, or the line is not readable. What is read of the line is
+/// the request's own. Refused only where memory is.
+pub fn request_of(alloc: Global, line: &mut [u8]) -> Result<Request, AllocError>
+    ensures is { IfOk result (λ request. IsCommandOf line.old (request_meant request)) }
+    ensures only { IfOk result (λ request. (c : PlainCommand) → IsCommandOf line.old c → c ≡ request_meant request) }
+{
+    let mut buffers = Buffers::new(alloc, room_of(line))?;
+    match to_bare_tape_with_buffers(alloc, line, &mut buffers) {
+        Ok(tape) => request_in(alloc, tape.as_value()),
+        Err(kind) => {
+            if kind == ErrorKind::OutOfMemory {
+                return Err(AllocError);
+            }
+            Ok(Request::Bad)
+        }
     }
 }
 
@@ -235,14 +255,6 @@ pub fn command_of(alloc: Global, line: &mut [u8]) -> Result<Command, AllocError>
     ensures is { IfOk result (λ command. IsCommandOf line.old (command_meant command)) }
     ensures only { IfOk result (λ command. (c : PlainCommand) → IsCommandOf line.old c → c ≡ command_meant command) }
 {
-    let mut buffers = Buffers::new(alloc, room_of(line))?;
-    match to_bare_tape_with_buffers(alloc, line, &mut buffers) {
-        Ok(tape) => command_in(alloc, tape.as_value()),
-        Err(kind) => {
-            if kind == ErrorKind::OutOfMemory {
-                return Err(AllocError);
-            }
-            Ok(Command::Bad)
-        }
-    }
+    let request = request_of(alloc, line)?;
+    Ok(Command::from(request))
 }

@@ -1,39 +1,10 @@
-use Rattle.std.proofs.Common.{◌≡◌, ◌∙◌, sym, ap, rules, refl}
-use Rattle.std.proofs.lemmas.Result.{IfOk-weaker}
-use Rattle.sj_text_core.specs.Tree.{Tree}
-use Rattle.sj_text_core.specs.Grammar.{Spells}
-use Rattle.sj_text_core.specs.Keep.{keep}
-use Rattle.sj_text_core.specs.Repeats.{keep_by}
-use Rattle.sj_tape.specs.Value.{tape_part}
-use Rattle.sj_commands.specs.Commands.{PlainCommand, bad}
-use Rattle.sj_commands.specs.CommandLines.{IsCommandOf, command_in}
-use Rattle.sj_commands.specs.Meant.{command_meant}
-use Rattle.sj_commands.specs.inner.Parts.{kept_part}
-use Rattle.sj_commands.specs.declared.command.Command.{Command}
-use Rattle.sj_commands.proofs.CommandLemmas.{reads_tree, reads_one, reads_bad, reads_bad_only}
-use Rattle.sj_text_core.proofs.Unread.{unreadable}
+use Rattle.std.proofs.Common.{◌∙◌, sym, subst}
+use Rattle.sj_commands.specs.Commands.{PlainCommand}
+use Rattle.sj_commands.specs.CommandLines.{IsCommandOf}
 use Rattle.sj_commands.proofs.command.line.command_of.Goals as goal
 
-pub returns-in-Ok-clause-is : goal.returns-in-Ok-clause-is
-returns-in-Ok-clause-is c =
-    let b = c.args.line.now in
-    let read = c.in-Ok.ensures in
-    let t = kept_part (tape_part c.as_value.result) in
-    let same : t ≡ keep c.in-Ok.tape = λ i. keep_by (c.as_value.ensures.choice i) (c.as_value.ensures.tree i) in
-    IfOk-weaker c.command_in.result (λ (x : Command). command_meant x ≡ command_in t) (λ (x : Command). IsCommandOf b (command_meant x))
-    (λ x h. reads_tree b t c.in-Ok.tape (command_meant x) read.spelled read.within same h) c.command_in.ensures
+pub returns-clause-is : goal.returns-clause-is
+returns-clause-is c = subst (λ (d : PlainCommand). IsCommandOf c.args.line.now d) (sym c.from.ensures) c.in_ok-request.ensures.is
 
-pub returns-in-Ok-clause-only : goal.returns-in-Ok-clause-only
-returns-in-Ok-clause-only c =
-    let b = c.args.line.now in
-    let read = c.in-Ok.ensures in
-    let t = kept_part (tape_part c.as_value.result) in
-    let only : (u : Tree) → Spells b u → t ≡ keep u = λ u s. (λ i. keep_by (c.as_value.ensures.choice i) (c.as_value.ensures.tree i)) ∙ ap keep (sym (read.only u s)) in
-    IfOk-weaker c.command_in.result (λ (x : Command). command_meant x ≡ command_in t) (λ (x : Command). (d : PlainCommand) → IsCommandOf b d → d ≡ command_meant x)
-    (λ x h d. reads_one b t (command_meant x) d only (c.in-Ok.tape, read.spelled, read.within) h) c.command_in.ensures
-
-pub returns-else-eq-clause-is : goal.returns-else-eq-clause-is
-returns-else-eq-clause-is c = reads_bad c.args.line.now bad (unreadable c.in-Err.kind c.args.line.now c.in-Err.ensures.utf8 c.in-Err.ensures.err (search rules)) refl
-
-pub returns-else-eq-clause-only : goal.returns-else-eq-clause-only
-returns-else-eq-clause-only c = λ d h. reads_bad_only c.args.line.now bad d (unreadable c.in-Err.kind c.args.line.now c.in-Err.ensures.utf8 c.in-Err.ensures.err (search rules)) refl h
+pub returns-clause-only : goal.returns-clause-only
+returns-clause-only c = λ d h. c.in_ok-request.ensures.only d h ∙ sym c.from.ensures
