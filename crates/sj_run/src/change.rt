@@ -4,10 +4,9 @@ ghost use Rattle.std.specs.Prelude.{◌≡◌, [], map, IfOk, OnOk, OnErr};
 ghost use Rattle.sj_text_core.specs.Keep.{keep};
 ghost use Rattle.sj_document.specs.Document.{document_tree};
 ghost use Rattle.sj_commands.specs.Commands as command;
-ghost use Rattle.sj_run.specs.inner.Asked.{write_meant};
 ghost use Rattle.sj_run.specs.Answers.{edit as edited, IsLong};
 ghost use Rattle.sj_run.specs.inner.Changed.{changed_meant, Edits};
-ghost use Rattle.sj_commands.specs.Meant.{step_meant};
+ghost use Rattle.sj_commands.specs.Meant.{step_meant, write_meant};
 
 mod edit;
 mod insert;
@@ -19,28 +18,13 @@ use crate::document::Way;
 use edit::edit_at;
 pub(crate) use insert::Inserts;
 pub(crate) use lazy::change_lazy;
-use sj_commands::Step;
+use sj_commands::{Step, Write};
 use sj_document::Document;
 use sj_object::KeyText;
 use sj_text_core::AccessError;
 use std::alloc::AllocError;
 use std::mem;
 pub(crate) use told::{owned_changed, reply_of};
-
-/// How a value is changed.
-#[derive(Drop)]
-pub(crate) enum Write<T: KeyText> {
-    /// The value goes to the key of an object.
-    Insert(T, Document<T>),
-    /// The key's member goes.
-    Remove(String),
-    /// The value goes behind the items of an array.
-    Push(Document<T>),
-    /// The last item goes.
-    Pop,
-    /// The value takes the place.
-    Put(Document<T>),
-}
 
 /// What a write answers.
 #[derive(Drop)]

@@ -12,17 +12,15 @@ ghost use Rattle.sj_run.specs.Run.{Leaves};
 
 mod lazy;
 
-use crate::asked::{Asked, taken_apart};
 use crate::change::{change_at, owned_changed, reply_of};
 pub use crate::document::lazy::LazyDoc;
 use crate::find::reply_at;
 use crate::reply::Reply;
 use crate::runs::Why;
 use crate::texts::borrowed_write;
-use sj_commands::Command;
+use sj_commands::{Command, Request};
 use sj_document::{BorrowedValue, OwnedValue};
 use std::alloc::Global;
-use std::borrow::CowStr;
 
 /// How the keys of commands are looked up.
 #[derive(Clone, Copy, Debug, PartialEq, Eq)]
@@ -65,12 +63,12 @@ impl Document for OwnedDoc {
     ghost part = { λ d. (First, document_tree string_bytes d.value) };
 
     fn apply(&mut self, alloc: Global, command: Command) -> Result<Reply, Why> {
-        match taken_apart(command) {
-            Asked::Read(path, read) => reply_at(alloc, &self.value, self.way, &path, &read),
-            Asked::Write(path, write) => {
+        match Request::from(command) {
+            Request::Read(path, read) => reply_at(alloc, &self.value, self.way, &path, &read),
+            Request::Write(path, write) => {
                 Ok(reply_of(change_at(&mut self.value, self.way, &path, write)?))
             }
-            Asked::Bad => Ok(Reply::BadCommand),
+            Request::Bad => Ok(Reply::BadCommand),
         }
     }
 }
@@ -93,14 +91,14 @@ impl<'v> Document for BorrowedDoc<'v> {
     ghost part = { λ d. (First, document_tree cow_str_bytes d.value) };
 
     fn apply(&mut self, alloc: Global, command: Command) -> Result<Reply, Why> {
-        match taken_apart(command) {
-            Asked::Read(path, read) => reply_at(alloc, &self.value, self.way, &path, &read),
-            Asked::Write(path, write) => {
+        match Request::from(command) {
+            Request::Read(path, read) => reply_at(alloc, &self.value, self.way, &path, &read),
+            Request::Write(path, write) => {
                 let write = borrowed_write(alloc, write)?;
                 let changed = change_at(&mut self.value, self.way, &path, write)?;
                 Ok(reply_of(owned_changed(alloc, changed)?))
             }
-            Asked::Bad => Ok(Reply::BadCommand),
+            Request::Bad => Ok(Reply::BadCommand),
         }
     }
 }

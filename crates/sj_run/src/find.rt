@@ -1,26 +1,24 @@
 //! Reads at a path.
 
-ghost use Rattle.std.specs.Prelude.{◌≡◌, ◌↔◌, ◌+◌, ◌^◌, ◌≤◌, map, option_map, length, IfOk, IfSome, OnOk, OnErr, IsErrOf};
+ghost use Rattle.std.specs.Prelude.{◌≡◌, ◌↔◌, map, option_map, length, IfOk, IfSome, OnOk, OnErr, IsErrOf};
 ghost use Rattle.sj_text_core.specs.Paths.{step_into_by, token_into_by, tree_at_by};
 ghost use Rattle.sj_run.specs.Answers.{fits_in, IsLong};
 ghost use Rattle.sj_run.specs.inner.Answered.{AnswersCommand, IsBegunBy, PassesOne};
-ghost use Rattle.sj_run.specs.inner.Asked.{read_meant};
 ghost use Rattle.sj_commands.specs.Commands as command;
 ghost use Rattle.sj_run.specs.inner.Found.{found_meant};
-ghost use Rattle.sj_commands.specs.Meant.{step_meant, width_meant};
+ghost use Rattle.sj_commands.specs.Meant.{read_meant, step_meant, width_meant};
 ghost use Rattle.sj_run.specs.Meant.{reply_meant};
 ghost use Rattle.sj_run.specs.Repeats.{answer_by, reply_to_by};
 
 mod found;
 mod place;
 
-use crate::asked::Read;
 use crate::document::Way;
 use crate::reply::Reply;
 use crate::runs::Why;
 use found::Found;
 pub(crate) use place::Place;
-use sj_commands::{Step, Width};
+use sj_commands::{Read, Step, Width};
 use sj_pointer::position;
 use sj_text_core::{TypedValue, ValueAsScalar};
 use std::alloc::Global;

@@ -10,7 +10,6 @@
 //! ```
 #![tactic(auto)]
 
-mod asked;
 mod change;
 mod document;
 mod find;

@@ -2,9 +2,9 @@
 
 ghost use Rattle.std.specs.Prelude.{◌≡◌, IfOk, string_bytes};
 ghost use Rattle.std.specs.Cow.{cow_str_bytes};
-ghost use Rattle.sj_run.specs.inner.Asked.{write_meant};
+ghost use Rattle.sj_commands.specs.Meant.{write_meant};
 
-use crate::change::Write;
+use sj_commands::Write;
 use sj_document::BorrowedValue;
 use sj_text_core::TryMake;
 use std::alloc::{AllocError, Global};

@@ -3,14 +3,13 @@
 ghost use Rattle.std.specs.Prelude.{◌≡◌, ◌⊎◌, Some, map, IfOk, OnOk, OnErr};
 ghost use Rattle.sj_lazy.specs.Value.{lazy_kept, owned};
 ghost use Rattle.sj_run.specs.Answers.{edit};
-ghost use Rattle.sj_run.specs.inner.Asked.{write_meant};
 ghost use Rattle.sj_run.specs.inner.Changed.{changed_meant};
-ghost use Rattle.sj_commands.specs.Meant.{step_meant};
+ghost use Rattle.sj_commands.specs.Meant.{step_meant, write_meant};
 
 use super::edit::edit_at;
-use super::{Changed, Inserts, Write};
+use super::{Changed, Inserts};
 use crate::document::Way;
-use sj_commands::Step;
+use sj_commands::{Step, Write};
 use sj_lazy::{Lazy, Lent, Upgrade};
 use sj_object::KeyText;
 use std::alloc::{AllocError, Global};

@@ -1,26 +1,24 @@
 //! Lazy documents that answer commands.
 
-ghost use Rattle.std.specs.Prelude.{◌≡◌, ◌↔◌, ◌+◌, ◌^◌, ◌≤◌, map, length, IfOk, OnOk, OnErr, IsErrOf};
+ghost use Rattle.std.specs.Prelude.{◌≡◌, ◌↔◌, map, length, IfOk, OnOk, OnErr, IsErrOf};
 ghost use Rattle.std.specs.Cow.{cow_str_bytes};
 ghost use Rattle.sj_lazy.specs.Value.{value_part};
 ghost use Rattle.sj_run.specs.Answers.{IsLong};
 ghost use Rattle.sj_run.specs.inner.Answered.{AnswersCommand, IsBegunBy, PassesOne};
-ghost use Rattle.sj_run.specs.inner.Asked.{read_meant, write_meant};
 ghost use Rattle.sj_run.specs.inner.Changed.{changed_meant};
 ghost use Rattle.sj_commands.specs.Commands as command;
-ghost use Rattle.sj_commands.specs.Meant.{step_meant};
+ghost use Rattle.sj_commands.specs.Meant.{read_meant, step_meant, write_meant};
 ghost use Rattle.sj_run.specs.Meant.{reply_meant};
 ghost use Rattle.sj_run.specs.Repeats.{answer_by};
 ghost use Rattle.sj_run.specs.Run.{Leaves};
 
-use crate::asked::{Asked, Read, taken_apart};
-use crate::change::{Changed, Write, change_lazy, owned_changed, reply_of};
+use crate::change::{Changed, change_lazy, owned_changed, reply_of};
 use crate::document::{Document, Way};
 use crate::find::{reply_at, write_at};
 use crate::reply::Reply;
 use crate::runs::Why;
 use crate::texts::borrowed_write;
-use sj_commands::{Command, Step};
+use sj_commands::{Command, Read, Request, Step, Write};
 use sj_lazy::{Lazy, Value};
 use std::alloc::{AllocError, Global};
 use std::borrow::CowStr;
@@ -78,14 +76,14 @@ impl<'b, 't, 'i> Document for LazyDoc<'b, 't, 'i> {
     ghost part = { λ d. value_part d.value };
 
     fn apply(&mut self, alloc: Global, command: Command) -> Result<Reply, Why> {
-        match taken_apart(command) {
-            Asked::Read(path, read) => self.reply(alloc, &path, &read),
-            Asked::Write(path, write) => {
+        match Request::from(command) {
+            Request::Read(path, read) => self.reply(alloc, &path, &read),
+            Request::Write(path, write) => {
                 let write = borrowed_write(alloc, write)?;
                 let changed = self.change(alloc, &path, write)?;
                 Ok(reply_of(owned_changed(alloc, changed)?))
             }
-            Asked::Bad => Ok(Reply::BadCommand),
+            Request::Bad => Ok(Reply::BadCommand),
         }
     }
 }

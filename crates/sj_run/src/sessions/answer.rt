@@ -1,69 +1,68 @@
 //! Answers to command lines. What a read finds is written out where it stands: no reply is made a
 //! text of its own first.
 
-ghost use Rattle.std.specs.Prelude.{◌≡◌, ◌+◌, ◌^◌, ◌≤◌, length, OnOk, OnErr, IsErrOf};
+ghost use Rattle.std.specs.Prelude.{◌≡◌, length, OnOk, OnErr, IsErrOf};
 ghost use Rattle.sj_run.specs.Answered.{AnswersLines, PassesLines};
 ghost use Rattle.sj_run.specs.inner.Answered.{AnswersCommand, AnswersLine, IsBegunBy, PassesOne, PassesLine};
 ghost use Rattle.sj_commands.specs.Lines.{full_lines, line_texts};
-ghost use Rattle.sj_commands.specs.Meant.{command_meant};
+ghost use Rattle.sj_commands.specs.Meant.{request_meant};
 
-use crate::asked::{Asked, taken_apart};
 use crate::change::change_at;
 use crate::document::{BorrowedDoc, Document, LazyDoc, OwnedDoc};
 use crate::find::write_at;
 use crate::runs::Why;
 use crate::texts::borrowed_write;
-use sj_commands::{Command, command_of, line_len, text_len};
+use sj_commands::{Request, line_len, request_of, text_len};
 use std::alloc::Global;
 
 /// A document that writes its replies out.
 pub(super) trait Tells: Document {
-    /// Answers a command, and appends the text of the reply.
-    fn tell(&mut self, alloc: Global, command: Command, out: &mut Vec<u8>) -> Result<(), Why>
-        ensures ok { OnOk result (AnswersCommand (Self.part self.old) (command_meant command) (Self.part self.new) out.old.items out.new.items) }
+    /// Answers a request, and appends the text of the reply.
+    fn tell(&mut self, alloc: Global, request: Request, out: &mut Vec<u8>) -> Result<(), Why>
+        ensures ok { OnOk result (AnswersCommand (Self.part self.old) (request_meant request) (Self.part self.new) out.old.items out.new.items) }
         ensures err { OnErr result (IsBegunBy out.old.items out.new.items) }
-        ensures too_long { IsErrOf result Why.TooLong → PassesOne (Self.part self.old) (command_meant command) (length out.old.items) };
+        ensures too_long { IsErrOf result Why.TooLong → PassesOne (Self.part self.old) (request_meant request) (length out.old.items) };
 }
 
 impl Tells for OwnedDoc {
-    fn tell(&mut self, alloc: Global, command: Command, out: &mut Vec<u8>) -> Result<(), Why> {
-        match taken_apart(command) {
-            Asked::Read(path, read) => write_at(&self.value, self.way, &path, &read, out),
-            Asked::Write(path, write) => {
+    fn tell(&mut self, alloc: Global, request: Request, out: &mut Vec<u8>) -> Result<(), Why> {
+        match request {
+            Request::Read(path, read) => write_at(&self.value, self.way, &path, &read, out),
+            Request::Write(path, write) => {
                 change_at(&mut self.value, self.way, &path, write)?.write(out)
             }
-            Asked::Bad => Ok(out.extend_from_slice(b"bad command")?),
+            Request::Bad => Ok(out.extend_from_slice(b"bad command")?),
         }
     }
 }
 
 impl<'v> Tells for BorrowedDoc<'v> {
-    fn tell(&mut self, alloc: Global, command: Command, out: &mut Vec<u8>) -> Result<(), Why> {
-        match taken_apart(command) {
-            Asked::Read(path, read) => write_at(&self.value, self.way, &path, &read, out),
-            Asked::Write(path, write) => {
+    fn tell(&mut self, alloc: Global, request: Request, out: &mut Vec<u8>) -> Result<(), Why> {
+        match request {
+            Request::Read(path, read) => write_at(&self.value, self.way, &path, &read, out),
+            Request::Write(path, write) => {
                 let write = borrowed_write(alloc, write)?;
                 change_at(&mut self.value, self.way, &path, write)?.write(out)
             }
-            Asked::Bad => Ok(out.extend_from_slice(b"bad command")?),
+            Request::Bad => Ok(out.extend_from_slice(b"bad command")?),
         }
     }
 }
 
 impl<'b, 't, 'i> Tells for LazyDoc<'b, 't, 'i> {
-    fn tell(&mut self, alloc: Global, command: Command, out: &mut Vec<u8>) -> Result<(), Why> {
-        match taken_apart(command) {
-            Asked::Read(path, read) => self.write(&path, &read, out),
-            Asked::Write(path, write) => {
+    fn tell(&mut self, alloc: Global, request: Request, out: &mut Vec<u8>) -> Result<(), Why> {
+        match request {
+            Request::Read(path, read) => self.write(&path, &read, out),
+            Request::Write(path, write) => {
                 let write = borrowed_write(alloc, write)?;
                 self.change(alloc, &path, write)?.write(out)
             }
-            Asked::Bad => Ok(out.extend_from_slice(b"bad command")?),
+            Request::Bad => Ok(out.extend_from_slice(b"bad command")?),
         }
     }
 }
 
-/// Answers the command of a line. What was read of the line is gone when it is answered.
+/// Answers the request of a line. What was read of the line is gone when it is answered.
 fn answer_line<D: Tells>(
     alloc: Global,
     document: &mut D,
@@ -74,8 +73,8 @@ fn answer_line<D: Tells>(
     ensures err { OnErr result (IsBegunBy out.old.items out.new.items) }
     ensures too_long { IsErrOf result Why.TooLong → PassesLine (D.part document.old) line.old (length out.old.items) }
 {
-    let command = command_of(alloc, line)?;
-    document.tell(alloc, command, out)?;
+    let request = request_of(alloc, line)?;
+    document.tell(alloc, request, out)?;
     out.push(b'\n')?;
     Ok(())
 }

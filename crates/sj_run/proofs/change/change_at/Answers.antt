@@ -1,7 +1,6 @@
 use Rattle.std.proofs.Common.{map}
 use Rattle.sj_document.specs.Document.{document_tree}
-use Rattle.sj_run.specs.inner.Asked.{write_meant}
-use Rattle.sj_commands.specs.Meant.{step_meant}
+use Rattle.sj_commands.specs.Meant.{step_meant, write_meant}
 use Rattle.sj_run.proofs.Kept.{kept_reply, kept_after, kept_refused, short_write}
 use Rattle.sj_run.proofs.change.change_at.Goals as goal
 

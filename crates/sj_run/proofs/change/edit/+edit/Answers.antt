@@ -8,8 +8,7 @@ use Rattle.sj_document.specs.declared.value.Document.{Document, Object, Array, t
 use Rattle.sj_document.proofs.Trees.{Map, tree-Object, tree-Array}
 use Rattle.sj_document.proofs.Arrays.{item_at, item_set, none_nth}
 use Rattle.sj_run.specs.Answers.{edit}
-use Rattle.sj_run.specs.inner.Asked.{write_meant}
-use Rattle.sj_commands.specs.Meant.{step_meant}
+use Rattle.sj_commands.specs.Meant.{step_meant, write_meant}
 use Rattle.sj_run.proofs.Edits.{answered_below, answered_as, edit_missing, edit-member, edit-item}
 use Rattle.sj_run.proofs.change.edit.+edit.Goals as goal
 

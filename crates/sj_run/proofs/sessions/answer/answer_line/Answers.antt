@@ -1,9 +1,9 @@
 use Rattle.std.proofs.Common.{rules, length}
-use Rattle.sj_commands.specs.Meant.{command_meant}
+use Rattle.sj_commands.specs.Meant.{request_meant}
 use Rattle.sj_run.proofs.CommandLemmas.{line_passes}
 use Rattle.sj_run.proofs.sessions.answer.answer_line.Goals as goal
 
 pub returns-in_err-tell-clause-too_long : goal.returns-in_err-tell-clause-too_long
 returns-in_err-tell-clause-too_long g c =
-    λ e. line_passes (g.D.Document.part c.args.document.now) c.args.line.now (length c.args.out.now.items) (command_meant c.in_ok-command.command) c.in_ok-command.ensures.only
+    λ e. line_passes (g.D.Document.part c.args.document.now) c.args.line.now (length c.args.out.now.items) (request_meant c.in_ok-request.request) c.in_ok-request.ensures.only
     (c.in_err-tell.ensures.too_long (search (rules, e)))

@@ -1,7 +1,6 @@
 use Rattle.std.proofs.Common.{map}
 use Rattle.std.specs.Cow.{cow_str_bytes}
-use Rattle.sj_run.specs.inner.Asked.{write_meant}
-use Rattle.sj_commands.specs.Meant.{step_meant}
+use Rattle.sj_commands.specs.Meant.{step_meant, write_meant}
 use Rattle.sj_run.proofs.Kept.{short_edit}
 use Rattle.sj_run.proofs.Lazies.{lazy_reply, lazy_after, lazy_refused}
 use Rattle.sj_run.proofs.document.lazy.LazyDoc.change.Goals as goal
