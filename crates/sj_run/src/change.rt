@@ -8,23 +8,25 @@ ghost use Rattle.sj_run.specs.Answers.{edit as edited, IsLong};
 ghost use Rattle.sj_run.specs.inner.Changed.{changed_meant, Edits};
 ghost use Rattle.sj_commands.specs.Meant.{step_meant, write_meant};
 
+mod borrowed;
 mod edit;
 mod insert;
 mod lazy;
+mod reply;
 mod steps;
-mod told;
 
 use crate::document::Way;
+pub(crate) use borrowed::borrowed_write;
 use edit::edit_at;
 pub(crate) use insert::Inserts;
 pub(crate) use lazy::change_lazy;
+pub(crate) use reply::{owned_changed, reply_of};
 use sj_commands::{Step, Write};
 use sj_document::Document;
 use sj_object::KeyText;
 use sj_text_core::AccessError;
 use std::alloc::AllocError;
 use std::mem;
-pub(crate) use told::{owned_changed, reply_of};
 
 /// What a write answers.
 #[derive(Drop)]

@@ -12,12 +12,11 @@ ghost use Rattle.sj_run.specs.Run.{Leaves};
 
 mod lazy;
 
-use crate::change::{change_at, owned_changed, reply_of};
+use crate::change::{borrowed_write, change_at, owned_changed, reply_of};
 pub use crate::document::lazy::LazyDoc;
 use crate::find::reply_at;
 use crate::reply::Reply;
 use crate::runs::Why;
-use crate::texts::borrowed_write;
 use sj_commands::{Command, Request};
 use sj_document::{BorrowedValue, OwnedValue};
 use std::alloc::Global;

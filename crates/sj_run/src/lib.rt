@@ -14,12 +14,11 @@ mod change;
 mod document;
 mod find;
 mod json_error;
-mod keys;
 pub mod laws;
+mod lookup;
 mod reply;
 mod runs;
 mod sessions;
-mod texts;
 
 pub use document::{BorrowedDoc, Document, LazyDoc, OwnedDoc, Way};
 pub use reply::Reply;

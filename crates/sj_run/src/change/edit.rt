@@ -12,7 +12,7 @@ use super::insert::Inserts;
 use super::steps::BySteps;
 use super::{Changed, change};
 use crate::document::Way;
-use crate::keys::member_mut;
+use crate::lookup::member_mut;
 use sj_commands::{Step, Write};
 use sj_document::{Change, Document, Object, update_at};
 use sj_object::KeyText;

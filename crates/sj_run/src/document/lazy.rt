@@ -12,12 +12,11 @@ ghost use Rattle.sj_run.specs.Meant.{reply_meant};
 ghost use Rattle.sj_run.specs.Repeats.{answer_by};
 ghost use Rattle.sj_run.specs.Run.{Leaves};
 
-use crate::change::{Changed, change_lazy, owned_changed, reply_of};
+use crate::change::{Changed, borrowed_write, change_lazy, owned_changed, reply_of};
 use crate::document::{Document, Way};
 use crate::find::{reply_at, write_at};
 use crate::reply::Reply;
 use crate::runs::Why;
-use crate::texts::borrowed_write;
 use sj_commands::{Command, Read, Request, Step, Write};
 use sj_lazy::{Lazy, Value};
 use std::alloc::{AllocError, Global};

@@ -8,7 +8,7 @@ ghost use Rattle.sj_run.specs.Answers.{len_reply};
 ghost use Rattle.sj_run.specs.inner.Found.{len_meant};
 
 use crate::document::Way;
-use crate::keys::member;
+use crate::lookup::member;
 use sj_document::Document;
 use sj_object::KeyText;
 use sj_print::Parts;

@@ -7,25 +7,24 @@ ghost use Rattle.sj_run.specs.inner.Answered.{AnswersCommand, AnswersLine, IsBeg
 ghost use Rattle.sj_commands.specs.Lines.{full_lines, line_texts};
 ghost use Rattle.sj_commands.specs.Meant.{request_meant};
 
-use crate::change::change_at;
+use crate::change::{borrowed_write, change_at};
 use crate::document::{BorrowedDoc, Document, LazyDoc, OwnedDoc};
 use crate::find::write_at;
 use crate::runs::Why;
-use crate::texts::borrowed_write;
 use sj_commands::{Request, line_len, request_of, text_len};
 use std::alloc::Global;
 
-/// A document that writes its replies out.
-pub(super) trait Tells: Document {
+/// A document that answers requests, and writes the replies out.
+pub(super) trait AnswersRequests: Document {
     /// Answers a request, and appends the text of the reply.
-    fn tell(&mut self, alloc: Global, request: Request, out: &mut Vec<u8>) -> Result<(), Why>
+    fn answer(&mut self, alloc: Global, request: Request, out: &mut Vec<u8>) -> Result<(), Why>
         ensures ok { OnOk result (AnswersCommand (Self.part self.old) (request_meant request) (Self.part self.new) out.old.items out.new.items) }
         ensures err { OnErr result (IsBegunBy out.old.items out.new.items) }
         ensures too_long { IsErrOf result Why.TooLong → PassesOne (Self.part self.old) (request_meant request) (length out.old.items) };
 }
 
-impl Tells for OwnedDoc {
-    fn tell(&mut self, alloc: Global, request: Request, out: &mut Vec<u8>) -> Result<(), Why> {
+impl AnswersRequests for OwnedDoc {
+    fn answer(&mut self, alloc: Global, request: Request, out: &mut Vec<u8>) -> Result<(), Why> {
         match request {
             Request::Read(path, read) => write_at(&self.value, self.way, &path, &read, out),
             Request::Write(path, write) => {
@@ -36,8 +35,8 @@ impl Tells for OwnedDoc {
     }
 }
 
-impl<'v> Tells for BorrowedDoc<'v> {
-    fn tell(&mut self, alloc: Global, request: Request, out: &mut Vec<u8>) -> Result<(), Why> {
+impl<'v> AnswersRequests for BorrowedDoc<'v> {
+    fn answer(&mut self, alloc: Global, request: Request, out: &mut Vec<u8>) -> Result<(), Why> {
         match request {
             Request::Read(path, read) => write_at(&self.value, self.way, &path, &read, out),
             Request::Write(path, write) => {
@@ -49,8 +48,8 @@ impl<'v> Tells for BorrowedDoc<'v> {
     }
 }
 
-impl<'b, 't, 'i> Tells for LazyDoc<'b, 't, 'i> {
-    fn tell(&mut self, alloc: Global, request: Request, out: &mut Vec<u8>) -> Result<(), Why> {
+impl<'b, 't, 'i> AnswersRequests for LazyDoc<'b, 't, 'i> {
+    fn answer(&mut self, alloc: Global, request: Request, out: &mut Vec<u8>) -> Result<(), Why> {
         match request {
             Request::Read(path, read) => self.write(&path, &read, out),
             Request::Write(path, write) => {
@@ -63,7 +62,7 @@ impl<'b, 't, 'i> Tells for LazyDoc<'b, 't, 'i> {
 }
 
 /// Answers the request of a line. What was read of the line is gone when it is answered.
-fn answer_line<D: Tells>(
+fn answer_line<D: AnswersRequests>(
     alloc: Global,
     document: &mut D,
     line: &mut [u8],
@@ -74,13 +73,13 @@ fn answer_line<D: Tells>(
     ensures too_long { IsErrOf result Why.TooLong → PassesLine (D.part document.old) line.old (length out.old.items) }
 {
     let request = request_of(alloc, line)?;
-    document.tell(alloc, request, out)?;
+    document.answer(alloc, request, out)?;
     out.push(b'\n')?;
     Ok(())
 }
 
 /// Answers the commands of lines in turn. Lines without bytes are passed over.
-fn answer_lines<D: Tells>(
+fn answer_lines<D: AnswersRequests>(
     alloc: Global,
     document: &mut D,
     lines: &mut [u8],
@@ -103,7 +102,7 @@ fn answer_lines<D: Tells>(
 }
 
 /// Answers the commands of lines in turn. On a fault the output is as it was.
-pub(super) fn answer_all<D: Tells>(
+pub(super) fn answer_all<D: AnswersRequests>(
     alloc: Global,
     document: &mut D,
     lines: &mut [u8],
