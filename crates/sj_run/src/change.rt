@@ -1,32 +1,29 @@
-//! Writes at a value.
+//! Writes at a path, and what they answer.
 
-ghost use Rattle.std.specs.Prelude.{◌≡◌, [], map, IfOk, OnOk, OnErr};
+ghost use Rattle.std.specs.Prelude.{◌≡◌, map, IfOk, OnOk, OnErr};
 ghost use Rattle.sj_text_core.specs.Keep.{keep};
 ghost use Rattle.sj_document.specs.Document.{document_tree};
-ghost use Rattle.sj_commands.specs.Commands as command;
-ghost use Rattle.sj_run.specs.Answers.{edit as edited, IsLong};
-ghost use Rattle.sj_run.specs.inner.Changed.{changed_meant, Edits};
 ghost use Rattle.sj_commands.specs.Meant.{step_meant, write_meant};
+ghost use Rattle.sj_run.specs.Answers.{edit as edited, IsLong};
+ghost use Rattle.sj_run.specs.inner.Changed.{changed_meant};
 
 mod borrowed;
 mod edit;
-mod insert;
 mod lazy;
 mod reply;
 mod steps;
+mod value;
 
 use crate::document::Way;
 pub(crate) use borrowed::borrowed_write;
 use edit::edit_at;
-pub(crate) use insert::Inserts;
 pub(crate) use lazy::change_lazy;
 pub(crate) use reply::{owned_changed, reply_of};
 use sj_commands::{Step, Write};
 use sj_document::Document;
 use sj_object::KeyText;
-use sj_text_core::AccessError;
 use std::alloc::AllocError;
-use std::mem;
+pub(crate) use value::Inserts;
 
 /// What a write answers.
 #[derive(Drop)]
@@ -43,60 +40,6 @@ pub(crate) enum Changed<T: KeyText> {
     NotAnObject,
     /// The value is no array, and stays as it was.
     NotAnArray,
-}
-
-fn push<T: KeyText + Drop>(
-    value: &mut Document<T>,
-    new: Document<T>,
-) -> Result<Changed<T>, AllocError>
-    ensures { Edits T.text_of [] (command.push (document_tree T.text_of new)) (document_tree T.text_of value.old) (document_tree T.text_of value.new) result }
-{
-    match value.push(new) {
-        Ok(()) => Ok(Changed::Done),
-        Err(refused) => match refused.why {
-            AccessError::OutOfMemory => Err(AllocError),
-            _ => Ok(Changed::NotAnArray),
-        },
-    }
-}
-
-fn pop<T: KeyText + Drop>(value: &mut Document<T>) -> Result<Changed<T>, AllocError>
-    ensures { Edits T.text_of [] command.pop (document_tree T.text_of value.old) (document_tree T.text_of value.new) result }
-{
-    match value.pop() {
-        Ok(Some(last)) => Ok(Changed::Old(last)),
-        Ok(None) => Ok(Changed::Nothing),
-        Err(_) => Ok(Changed::NotAnArray),
-    }
-}
-
-fn remove<T: KeyText + Drop>(value: &mut Document<T>, key: &str) -> Result<Changed<T>, AllocError>
-    ensures { Edits T.text_of [] (command.remove key.now) (document_tree T.text_of value.old) (document_tree T.text_of value.new) result }
-{
-    match value.remove(key) {
-        Ok(Some(before)) => Ok(Changed::Old(before)),
-        Ok(None) => Ok(Changed::Nothing),
-        Err(_) => Ok(Changed::NotAnObject),
-    }
-}
-
-/// Changes the value itself.
-fn change<T: KeyText + Drop>(
-    value: &mut Document<T>,
-    way: Way,
-    write: Write<T>,
-) -> Result<Changed<T>, AllocError>
-where
-    Way: Inserts<T>,
-    ensures { Edits T.text_of [] (write_meant T.text_of write) (document_tree T.text_of value.old) (document_tree T.text_of value.new) result }
-{
-    match write {
-        Write::Insert(key, mut new) => way.insert(value, key, &mut new),
-        Write::Remove(key) => remove(value, key.as_str()),
-        Write::Push(new) => push(value, new),
-        Write::Pop => pop(value),
-        Write::Put(new) => Ok(Changed::Old(mem::replace(value, new))),
-    }
 }
 
 /// Changes the value at a path, as the command does on the tree.

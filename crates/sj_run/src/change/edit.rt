@@ -1,4 +1,4 @@
-//! Writes at a path.
+//! How a write goes along its path.
 
 ghost use Rattle.std.specs.Prelude.{[], map, ◌∷◌};
 ghost use Rattle.sj_text_core.specs.Paths.{by_key, by_place, by_token};
@@ -8,9 +8,9 @@ ghost use Rattle.sj_document.specs.Document.{document_tree};
 ghost use Rattle.sj_run.specs.inner.Changed.{Edits};
 ghost use Rattle.sj_commands.specs.Meant.{step_meant, write_meant};
 
-use super::insert::Inserts;
+use super::Changed;
 use super::steps::BySteps;
-use super::{Changed, change};
+use super::value::{Inserts, change};
 use crate::document::Way;
 use crate::lookup::member_mut;
 use sj_commands::{Step, Write};
