@@ -1,13 +1,9 @@
 -- What holds of the lines of an input and of their commands.
 use Rattle.std.specs.Prelude.{◌≡◌, ℕ, List, ◌++◌}
-use Rattle.std.specs.List.{concat}
-use Rattle.sj_commands.specs.Lines.{full_lines, document}
+pub use Rattle.sj_lines.specs.Laws.{LinesJoin}
+use Rattle.sj_commands.specs.Lines.{document}
 use Rattle.sj_commands.specs.Commands.{PlainCommand}
 use Rattle.sj_commands.specs.CommandLines.{IsCommandOf}
-
--- the lines, one behind another, are the input
-abbrev pub LinesJoin : Type 0
-LinesJoin = (b : List ℕ) → concat (full_lines b) ≡ b
 
 -- the document is the beginning of the input
 abbrev pub DocumentBegins : Type 0

@@ -1,12 +1,9 @@
-//! What holds of the lines of an input and of their commands: each function's contract is a law, and
-//! its body is empty.
+//! What holds of the lines of an input and of their commands: each function's contract is a law,
+//! and its body is empty.
 
-ghost use Rattle.sj_commands.specs.Laws.{LinesJoin, DocumentBegins, OneCommand};
+ghost use Rattle.sj_commands.specs.Laws.{DocumentBegins, OneCommand};
 
-/// The lines of an input, one behind another, are the input.
-pub fn lines_join()
-    ensures { LinesJoin }
-{}
+pub use sj_lines::laws::lines_join;
 
 /// The document of an input is its beginning.
 pub fn document_begins()
