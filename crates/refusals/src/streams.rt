@@ -112,8 +112,12 @@ fn pieces(rt: &(impl Print + AllocGlobal)) -> Result<(), Fault> {
     let mut piece = Vec::new(rt.alloc());
     say_call(rt)?;
     tell_piece(rt, pieces.next_piece(&mut piece))?;
-    let count = pieces.lines(&mut piece).count();
-    let is_all = pieces.lines_before() == 0 && (count == 0 || count == 2);
+    let (mut count, mut last) = (0u8, 0);
+    for line in pieces.lines(&mut piece) {
+        count = count.saturating_add(1);
+        last = line.number;
+    }
+    let is_all = pieces.lines_before() == 0 && (count == 0 || (count == 2 && last == 3));
     say(rt, if is_all { ", again " } else { ", OTHER LINES" })?;
     tell_piece(rt, pieces.next_piece(&mut piece))?;
     say(rt, "\n")
