@@ -5,8 +5,9 @@ use crate::random::Random;
 use crate::texts::{KINDS, put_event, text_of};
 use sj_document::Document;
 use sj_object::KeyText;
+use sj_owned::prelude::*;
 use sj_tape::to_tape;
-use sj_text_core::{JsonError, StaticNode, ValueAsScalar, ValueObjectAccessAsScalar, Writable};
+use sj_text_core::{JsonError, StaticNode};
 use std::alloc::Global;
 use std::borrow::CowStr;
 

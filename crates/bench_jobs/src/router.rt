@@ -5,9 +5,10 @@ use crate::random::Random;
 use crate::texts::{put, put_event, put_number, put_words};
 use sj_borrowed::BorrowedValue;
 use sj_merge::merge;
-use sj_owned::{JsonError, Value, Writable, owned_from_tape};
+use sj_owned::prelude::*;
+use sj_owned::{JsonError, Value, owned_from_tape};
 use sj_stream::{Lines, Repeats, Stream};
-use sj_text_core::{StaticNode, ValueAsScalar, ValueObjectAccessAsScalar};
+use sj_text_core::StaticNode;
 use std::alloc::{AllocError, Global};
 use std::borrow::CowStr;
 
