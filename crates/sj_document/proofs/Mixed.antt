@@ -1,14 +1,17 @@
 -- A part of a tape and a document, compared.
 use Rattle.std.proofs.Common.{◌≡◌, ℕ, suc, zero, ◌+◌, ◌-◌, ◌<◌, Bool, true, false, ◌||◌, List, [], ◌∷◌, length, map, take, drop, get_or, drop-cons, Some, None, option_map, refl, sym, ap, ◌∙◌, subst, arith, true≢false, bytes_eq}
 use Rattle.std.proofs.lemmas.Slice.Eq.{bytes_eq-Decides}
-use Rattle.sj_text_core.specs.Tree.{Tree, Items, items_len, items_from, Members, paired}
+use Rattle.sj_text_core.specs.Tree.{Tree, list, Items, items_len, items_from, listed, Members, paired}
 use Rattle.sj_text_core.specs.Find.{find_member}
 use Rattle.sj_text_core.specs.Keep.{is_seen}
+use Rattle.sj_text_core.specs.Repeats.{SameBy}
 use Rattle.sj_text_core.specs.Same.{Same, SameItems}
 use Rattle.sj_text_core.specs.Agree.{pair_keys, is_seen_before}
+use Rattle.sj_text_core.specs.declared.repeats.Repeats.{Repeats}
+use Rattle.sj_text_core.specs.declared.repeats.Repeats.TheVariants.{First}
 use Rattle.sj_text_core.proofs.Comparing.{found_first}
 use Rattle.sj_text_core.proofs.Shapes.{same_items_len, members_from-paired}
-use Rattle.sj_tape.proofs.Counted.{one_place}
+use Rattle.sj_tape.proofs.Counted.{parts, part_items, items_by, one_place}
 use Rattle.sj_object.specs.Texts.{no_repeats}
 use Rattle.sj_object.specs.inner.Texts.{not_and, or_of_false}
 use Rattle.sj_object.specs.Entries.{Entry, entry_texts}
@@ -17,6 +20,13 @@ use Rattle.sj_object.specs.Members.{entry_members}
 use Rattle.sj_object.proofs.Shown.{lookup-entry_members}
 use Rattle.sj_document.proofs.Arrays.{length-items}
 use Rattle.sj_document.proofs.Subsets.{or_right}
+
+-- an array by what counts in each item, and one as it is
+pub into_mixed : (c : Repeats) (is js : Items) → SameBy c First (list is) (list js) → SameItems (part_items (parts c (listed is))) js
+into_mixed c is js h = subst (λ v. Same v (list js)) (items_by c is) h
+
+pub from_mixed : (c : Repeats) (is js : Items) → SameItems (part_items (parts c (listed is))) js → SameBy c First (list is) (list js)
+from_mixed c is js h = subst (λ v. Same v (list js)) (sym (items_by c is)) h
 
 module _ {B : Type 0} (g : B → Tree) where
   pub lens_mixed : (is : Items) (ys : List B) → SameItems is (items_from (map g ys)) → items_len is ≡ length ys

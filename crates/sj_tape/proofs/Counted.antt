@@ -1,11 +1,10 @@
--- Parts compared where the last member of each text counts in the first.
-use Rattle.std.proofs.Common.{◌≡◌, ℕ, zero, suc, ◌≤◌, arith, Bool, true, false, ◌||◌, List, [], ◌∷◌, map, drop, Option, Some, None, option_map, if◌then◌else◌, bytes_eq, refl, sym, ap, ◌∙◌, subst, true≢false}
+-- Parts compared by the members that count in them.
+use Rattle.std.proofs.Common.{◌≡◌, ℕ, zero, suc, max, ◌≤◌, arith, Bool, true, false, ◌||◌, List, [], ◌∷◌, map, drop, Option, Some, None, option_map, if◌then◌else◌, bytes_eq, refl, sym, ap, ◌∙◌, subst, true≢false}
 use Rattle.std.specs.Option.{option_or}
 use Rattle.std.proofs.lemmas.List.{drop-map}
 use Rattle.std.proofs.lemmas.Slice.Eq.{bytes_eq-Decides}
-use Rattle.sj_text_core.specs.Tree.{Tree, null, boolean, int, text, list, obj, Items, no_items, item, items_len, items_from, Members, no_members, member, listed, paired}
+use Rattle.sj_text_core.specs.Tree.{Tree, list, obj, depth, Items, no_items, item, items_len, items_from, listed, Members, no_members, member, members_depth, paired}
 use Rattle.sj_text_core.specs.Find.{find_member}
-use Rattle.sj_text_core.specs.Reads.{as_items, as_members}
 use Rattle.sj_text_core.specs.Keep.{is_seen}
 use Rattle.sj_text_core.specs.Same.{Same, SameItems}
 use Rattle.sj_text_core.specs.Agree.{pair_keys}
@@ -19,33 +18,55 @@ use Rattle.sj_text_core.proofs.Last.{find-keep_last}
 use Rattle.sj_text_core.proofs.Shapes.{same_items_len}
 use Rattle.sj_tape.specs.Members.{chosen_pairs}
 
+-- parts of one choice
+abbrev Part : Type 0
+Part = Repeats × Tree
+
+abbrev pub parts : Repeats → List Tree → List (Repeats × Tree)
+parts c ts = map {B = Repeats × Tree} (λ t. (c, t)) ts
+
+-- the items that parts stand for, each with what counts in it first
+abbrev pub part_items : List Part → Items
+part_items ps = items_from (map (λ (p : Repeats × Tree). by_first p.0 p.1) ps)
+
 -- one item of each, and those behind
-pub items_taken : (ts us rest more : List Tree) (t u : Tree) → ts ≡ t ∷ rest → us ≡ u ∷ more → SameItems (items_from ts) (items_from us) → Same t u × SameItems (items_from rest) (items_from more)
-items_taken ts us rest more t u e f h = subst (λ us. SameItems (items_from (t ∷ rest)) (items_from us)) f (subst (λ ts. SameItems (items_from ts) (items_from us)) e h)
+pub items_taken : (ps qs rest more : List Part) (p q : Part) → ps ≡ p ∷ rest → qs ≡ q ∷ more → SameItems (part_items ps) (part_items qs) → SameBy p.0 q.0 p.1 q.1 × SameItems (part_items rest) (part_items more)
+items_taken ps qs rest more p q e f h = subst (λ qs. SameItems (part_items (p ∷ rest)) (part_items qs)) f (subst (λ ps. SameItems (part_items ps) (part_items qs)) e h)
 
-pub items_joined : (ts us rest more : List Tree) (t u : Tree) → ts ≡ t ∷ rest → us ≡ u ∷ more → Same t u × SameItems (items_from rest) (items_from more) → SameItems (items_from ts) (items_from us)
-items_joined ts us rest more t u e f h = subst (λ ts. SameItems (items_from ts) (items_from us)) (sym e) (subst (λ us. SameItems (items_from (t ∷ rest)) (items_from us)) (sym f) h)
+pub items_joined : (ps qs rest more : List Part) (p q : Part) → ps ≡ p ∷ rest → qs ≡ q ∷ more → SameBy p.0 q.0 p.1 q.1 × SameItems (part_items rest) (part_items more) → SameItems (part_items ps) (part_items qs)
+items_joined ps qs rest more p q e f h = subst (λ ps. SameItems (part_items ps) (part_items qs)) (sym e) (subst (λ qs. SameItems (part_items (p ∷ rest)) (part_items qs)) (sym f) h)
 
-pub items_last : (is : Items) → keep_last_items is ≡ items_from (map keep_last (listed is))
+pub moved : (ps qs us vs : List Part) → ps ≡ us → qs ≡ vs → SameItems (part_items ps) (part_items qs) → SameItems (part_items us) (part_items vs)
+moved ps qs us vs e f h = subst (λ ps. SameItems (part_items ps) (part_items vs)) e (subst (λ qs. SameItems (part_items ps) (part_items qs)) f h)
+
+items_last : (is : Items) → keep_last_items is ≡ part_items (parts Last (listed is))
 items_last no_items = refl
 items_last (item t is) = ap (item (keep_last t)) (items_last is)
 
-items_first : (is : Items) → is ≡ items_from (map (by_first First) (listed is))
+items_first : (is : Items) → is ≡ part_items (parts First (listed is))
 items_first no_items = refl
 items_first (item t is) = ap (item t) (items_first is)
 
-items_by : (d : Repeats) (is : Items) → by_first d (list is) ≡ list (items_from (map (by_first d) (listed is)))
+pub items_by : (c : Repeats) (is : Items) → by_first c (list is) ≡ list (part_items (parts c (listed is)))
 items_by First is = ap list (items_first is)
 items_by Last is = ap list (items_last is)
 
 -- arrays by what counts in each item
-pub into_items : (d : Repeats) (is js : Items) → SameBy Last d (list is) (list js) → SameItems (items_from (map keep_last (listed is))) (items_from (map (by_first d) (listed js)))
-into_items d is js h =
-    subst (λ v. Same (list (items_from (map keep_last (listed is)))) v) (items_by d js) (subst (λ l. Same (list l) (by_first d (list js))) (items_last is) h)
+pub into_items : (c d : Repeats) (is js : Items) → SameBy c d (list is) (list js) → SameItems (part_items (parts c (listed is))) (part_items (parts d (listed js)))
+into_items c d is js h =
+    subst (λ v. Same (list (part_items (parts c (listed is)))) v) (items_by d js) (subst (λ v. Same v (by_first d (list js))) (items_by c is) h)
 
-pub from_items : (d : Repeats) (is js : Items) → SameItems (items_from (map keep_last (listed is))) (items_from (map (by_first d) (listed js))) → SameBy Last d (list is) (list js)
-from_items d is js h =
-    subst (λ l. Same (list l) (by_first d (list js))) (sym (items_last is)) (subst (λ v. Same (list (items_from (map keep_last (listed is)))) v) (sym (items_by d js)) h)
+pub from_items : (c d : Repeats) (is js : Items) → SameItems (part_items (parts c (listed is))) (part_items (parts d (listed js))) → SameBy c d (list is) (list js)
+from_items c d is js h =
+    subst (λ v. Same v (by_first d (list js))) (sym (items_by c is)) (subst (λ v. Same (list (part_items (parts c (listed is)))) v) (sym (items_by d js)) h)
+
+pub len_by : (c : Repeats) (is : Items) → items_len (part_items (parts c (listed is))) ≡ items_len is
+len_by c no_items = refl
+len_by c (item t is) = ap (λ n. suc n) (len_by c is)
+
+-- arrays that are the same are equally long
+pub lens_by : (c d : Repeats) (is js : Items) → SameBy c d (list is) (list js) → items_len is ≡ items_len js
+lens_by c d is js h = sym (len_by c is) ∙ same_items_len (part_items (parts c (listed is))) (part_items (parts d (listed js))) (into_items c d is js h) ∙ len_by d js
 
 -- the members whose first are those that count
 abbrev firsts : Repeats → Members → Members
@@ -205,130 +226,14 @@ pub has_if_counted : (d : Repeats) (ms ns : Members) → SameBy Last d (obj ms) 
 has_if_counted d ms ns h = λ k s. by_either (is_seen k (pair_keys (paired ms))) _ (λ b. b)
     (λ b. absurd (true≢false (sym s ∙ unseen_by d k ns (map_none (by_first d) (find_member_by d k ns) (none_on (option_map keep_last (find_last_member k ms)) _ (ap (option_map keep_last) (absent_by Last k ms b)) (each_counts d ms ns h k))))))
 
--- parts of one choice
-abbrev Part : Type 0
-Part = Repeats × Tree
-
-abbrev pub parts : Repeats → List Tree → List (Repeats × Tree)
-parts c ts = map {B = Repeats × Tree} (λ t. (c, t)) ts
-
-part_parts : (p q : Part) (ps qs : List Part) → p ∷ ps ≡ q ∷ qs → (p ≡ q) × (ps ≡ qs)
-part_parts p q ps qs e = (cc, cc)
-
 pair_parts : (p q : List ℕ × Part) (ps qs : List (List ℕ × Part)) → p ∷ ps ≡ q ∷ qs → (p ≡ q) × (ps ≡ qs)
 pair_parts p q ps qs e = (cc, cc)
 
-pub part_choice : (c : Repeats) (p : Part) (ps : List Part) (ts us : List Tree) → parts c ts ≡ p ∷ ps → ts ≡ p.1 ∷ us → (p.0 ≡ c) × (ps ≡ parts c us)
-part_choice c p ps ts us e f =
-    let g = part_parts p (c, p.1) ps (parts c us) (sym e ∙ ap (parts c) f) in
-    (ap (λ (p : Repeats × Tree). p.0) g.0, g.1)
-
+-- the first member ahead has the choice of all
 pub member_choice : (c : Repeats) (k : List ℕ) (p : Part) (qs : List (List ℕ × Part)) (ps us : List (List ℕ × Tree)) → chosen_pairs c ps ≡ (k, p) ∷ qs → ps ≡ (k, p.1) ∷ us → (p.0 ≡ c) × (qs ≡ chosen_pairs c us)
 member_choice c k p qs ps us e f =
     let g = pair_parts (k, p) (k, (c, p.1)) qs (chosen_pairs c us) (sym e ∙ ap (chosen_pairs c) f) in
     (ap (λ (q : List ℕ × (Repeats × Tree)). q.1.0) g.0, g.1)
-
--- a leaf is what it is with either choice
-leaf_on : (t u : Tree) → as_items t ≡ None → as_members t ≡ None → Same t u → Same t (keep_last u)
-leaf_on null null z f h = h
-leaf_on null (boolean e) z f h = h
-leaf_on null (int m d) z f h = h
-leaf_on null (text r) z f h = h
-leaf_on null (list js) z f h = cc
-leaf_on null (obj ns) z f h = cc
-leaf_on (boolean b) null z f h = h
-leaf_on (boolean b) (boolean e) z f h = h
-leaf_on (boolean b) (int m d) z f h = h
-leaf_on (boolean b) (text r) z f h = h
-leaf_on (boolean b) (list js) z f h = cc
-leaf_on (boolean b) (obj ns) z f h = cc
-leaf_on (int n c) null z f h = h
-leaf_on (int n c) (boolean e) z f h = h
-leaf_on (int n c) (int m d) z f h = h
-leaf_on (int n c) (text r) z f h = h
-leaf_on (int n c) (list js) z f h = absurd h
-leaf_on (int n c) (obj ns) z f h = absurd h
-leaf_on (text s) null z f h = h
-leaf_on (text s) (boolean e) z f h = h
-leaf_on (text s) (int m d) z f h = h
-leaf_on (text s) (text r) z f h = h
-leaf_on (text s) (list js) z f h = cc
-leaf_on (text s) (obj ns) z f h = cc
-leaf_on (list is) u z f h = cc
-leaf_on (obj ms) u z f h = cc
-
-leaf_off : (t u : Tree) → as_items t ≡ None → as_members t ≡ None → Same t (keep_last u) → Same t u
-leaf_off null null z f h = h
-leaf_off null (boolean e) z f h = h
-leaf_off null (int m d) z f h = h
-leaf_off null (text r) z f h = h
-leaf_off null (list js) z f h = cc
-leaf_off null (obj ns) z f h = cc
-leaf_off (boolean b) null z f h = h
-leaf_off (boolean b) (boolean e) z f h = h
-leaf_off (boolean b) (int m d) z f h = h
-leaf_off (boolean b) (text r) z f h = h
-leaf_off (boolean b) (list js) z f h = cc
-leaf_off (boolean b) (obj ns) z f h = cc
-leaf_off (int n c) null z f h = h
-leaf_off (int n c) (boolean e) z f h = h
-leaf_off (int n c) (int m d) z f h = h
-leaf_off (int n c) (text r) z f h = h
-leaf_off (int n c) (list js) z f h = absurd h
-leaf_off (int n c) (obj ns) z f h = absurd h
-leaf_off (text s) null z f h = h
-leaf_off (text s) (boolean e) z f h = h
-leaf_off (text s) (int m d) z f h = h
-leaf_off (text s) (text r) z f h = h
-leaf_off (text s) (list js) z f h = cc
-leaf_off (text s) (obj ns) z f h = cc
-leaf_off (list is) u z f h = cc
-leaf_off (obj ms) u z f h = cc
-
-leaf_is : (t : Tree) → as_items t ≡ None → as_members t ≡ None → keep_last t ≡ t
-leaf_is null e f = refl
-leaf_is (boolean b) e f = refl
-leaf_is (int n c) e f = refl
-leaf_is (text s) e f = refl
-leaf_is (list is) e f = cc
-leaf_is (obj ms) e f = cc
-
-pub leaf_by : (d : Repeats) (t u : Tree) → as_items t ≡ None → as_members t ≡ None → Same t u → SameBy Last d t u
-leaf_by First t u e f h = subst (λ v. Same v u) (sym (leaf_is t e f)) h
-leaf_by Last t u e f h = subst (λ v. Same v (keep_last u)) (sym (leaf_is t e f)) (leaf_on t u e f h)
-
-pub by_leaf : (d : Repeats) (t u : Tree) → as_items t ≡ None → as_members t ≡ None → SameBy Last d t u → Same t u
-by_leaf First t u e f h = subst (λ v. Same v u) (leaf_is t e f) h
-by_leaf Last t u e f h = leaf_off t u e f (subst (λ v. Same v (keep_last u)) (leaf_is t e f) h)
-
--- an array or an object, and what is none
-pub not_list : (d : Repeats) (is : Items) (u : Tree) → as_items u ≡ None → SameBy Last d (list is) u → ⊥
-not_list First is null z h = absurd h
-not_list First is (boolean e) z h = absurd h
-not_list First is (int m d) z h = absurd h
-not_list First is (text r) z h = absurd h
-not_list First is (list js) z h = cc
-not_list First is (obj ns) z h = absurd h
-not_list Last is null z h = absurd h
-not_list Last is (boolean e) z h = absurd h
-not_list Last is (int m d) z h = absurd h
-not_list Last is (text r) z h = absurd h
-not_list Last is (list js) z h = cc
-not_list Last is (obj ns) z h = absurd h
-
-pub not_obj : (d : Repeats) (ms : Members) (u : Tree) → as_members u ≡ None → SameBy Last d (obj ms) u → ⊥
-not_obj First ms null z h = absurd h
-not_obj First ms (boolean e) z h = absurd h
-not_obj First ms (int m d) z h = absurd h
-not_obj First ms (text r) z h = absurd h
-not_obj First ms (list js) z h = absurd h
-not_obj First ms (obj ns) z h = cc
-not_obj Last ms null z h = absurd h
-not_obj Last ms (boolean e) z h = absurd h
-not_obj Last ms (int m d) z h = absurd h
-not_obj Last ms (text r) z h = absurd h
-not_obj Last ms (list js) z h = absurd h
-not_obj Last ms (obj ns) z h = cc
 
 -- keys behind a place
 pub behind_found : (k l : List ℕ) (ks rest : List (List ℕ)) (n : ℕ) (all : Bool) → is_seen k (drop n ks) ≡ all → ks ≡ l ∷ rest → n ≤ 0 → bytes_eq k l ≡ true → true ≡ all
@@ -349,6 +254,10 @@ drop_none (suc n) = refl
 pub behind_none : (k : List ℕ) (ks : List (List ℕ)) (n : ℕ) (all : Bool) → is_seen k (drop n ks) ≡ all → ks ≡ [] → false ≡ all
 behind_none k ks n all e f = sym (ap (is_seen k) (drop_none n)) ∙ sym (ap (λ ks. is_seen k (drop n ks)) f) ∙ e
 
+-- whether a text is behind a place, told of the members there
+pub seen_behind : (b : Bool) (n : ℕ) (k : List ℕ) (ps rest : List (List ℕ × Tree)) → b ≡ is_seen k (drop n (pair_keys ps)) → drop n ps ≡ rest → b ≡ is_seen k (pair_keys rest)
+seen_behind b n k ps rest e f = e ∙ ap (is_seen k) (drop-map (λ (p : List ℕ × Tree). p.0) n ps) ∙ ap (λ ps. is_seen k (pair_keys ps)) f
+
 -- a text is absent by either choice where it is absent by the first
 pub first_absent : (d : Repeats) (k : List ℕ) (ms : Members) → find_member_by d k ms ≡ None → find_member k ms ≡ None
 first_absent d k ms e = absent_by First k ms (unseen_by d k ms e)
@@ -356,17 +265,21 @@ first_absent d k ms e = absent_by First k ms (unseen_by d k ms e)
 pub absent_first : (d : Repeats) (k : List ℕ) (ms : Members) → find_member k ms ≡ None → find_member_by d k ms ≡ None
 absent_first d k ms e = absent_by d k ms (unseen_by First k ms e)
 
-pub len_last : (is : Items) → items_len (keep_last_items is) ≡ items_len is
-len_last no_items = refl
-len_last (item t is) = ap (λ n. suc n) (len_last is)
+within_first : (b : Bool) (r : Option Tree) (t u : Tree) (n : ℕ) → (if b then Some t else r) ≡ Some u → (r ≡ Some u → depth u ≤ n) → depth u ≤ max (depth t) n
+within_first true r t u n e h = let i : t ≡ u = cc in omega (arith, ap depth i)
+within_first false r t u n e h = omega (arith, h e)
 
--- arrays that are the same are equally long
-pub lens_by : (d : Repeats) (is js : Items) → SameBy Last d (list is) (list js) → items_len is ≡ items_len js
-lens_by First is js h = sym (len_last is) ∙ same_items_len (keep_last_items is) js h
-lens_by Last is js h = sym (len_last is) ∙ same_items_len (keep_last_items is) (keep_last_items js) h ∙ len_last js
+within_last : (b : Bool) (r : Option Tree) (t u : Tree) (n : ℕ) → option_or r (if b then Some t else None) ≡ Some u → (r ≡ Some u → depth u ≤ n) → depth u ≤ max (depth t) n
+within_last b (Some x) t u n e h = omega (arith, h e)
+within_last true None t u n e h = let i : t ≡ u = cc in omega (arith, ap depth i)
+within_last false None t u n e h = cc
 
-pub moved : (xs ys us vs : List Tree) → xs ≡ us → ys ≡ vs → SameItems (items_from xs) (items_from ys) → SameItems (items_from us) (items_from vs)
-moved xs ys us vs e f h = subst (λ xs. SameItems (items_from xs) (items_from vs)) e (subst (λ ys. SameItems (items_from xs) (items_from ys)) f h)
+-- what is found is less deep than an object of the members
+pub found_within : (d : Repeats) (k : List ℕ) (ms : Members) (u : Tree) → find_member_by d k ms ≡ Some u → depth u ≤ members_depth ms
+found_within First k no_members u e = cc
+found_within First k (member l t ms) u e = within_first (bytes_eq k l) (find_member k ms) t u (members_depth ms) e (found_within First k ms u)
+found_within Last k no_members u e = cc
+found_within Last k (member l t ms) u e = within_last (bytes_eq k l) (find_last_member k ms) t u (members_depth ms) e (found_within Last k ms u)
 
-pub by_choice : (c d : Repeats) (t u : Tree) → c ≡ d → SameBy Last c t u → SameBy Last d t u
-by_choice c d t u e h = subst (λ d. Same (keep_last t) (by_first d u)) e h
+pub by_choices : (c d e f : Repeats) (t u : Tree) → c ≡ e → d ≡ f → SameBy c d t u → SameBy e f t u
+by_choices c d e f t u g i h = subst (λ e. Same (by_first e t) (by_first f u)) g (subst (λ f. Same (by_first c t) (by_first f u)) i h)

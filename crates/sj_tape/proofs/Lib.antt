@@ -35,4 +35,6 @@ pub mod Units
 pub mod Values
 pub mod Compared
 pub mod Counted
+pub mod Sorts
+pub mod Walked
 pub mod Yielded

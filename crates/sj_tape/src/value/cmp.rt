@@ -26,22 +26,10 @@ impl<'t, 'i, 'u, 'j> SameAs<Value<'u, 'j>> for Value<'t, 'i> {
     }
 }
 
+/// Whether the two are the same, each by the member of a key that counts in it.
+#[cycle(same)]
 fn same_parts(left: Value, right: Value) -> bool
     ensures { IsTrue result ↔ SameBy (tape_choice left.entry) (tape_choice right.entry) (tape_tree left.entry) (tape_tree right.entry) }
-{
-    match left.repeats() {
-        Repeats::First => match right.repeats() {
-            Repeats::First => same_values(left, right),
-            Repeats::Last => last_values(right, left),
-        },
-        Repeats::Last => last_values(left, right),
-    }
-}
-
-/// Whether the two are the same by the first member of each key.
-#[cycle(same)]
-fn same_values(left: Value, right: Value) -> bool
-    ensures { IsTrue result ↔ Same (tape_tree left.entry) (tape_tree right.entry) }
 {
     match left.as_array() {
         Some(items) => match right.as_array() {
@@ -81,7 +69,7 @@ fn same_leaves(left: Value, right: Value) -> bool
 
 #[cycle(same)]
 fn same_items(left: Array, right: Array) -> bool
-    ensures { IsTrue result ↔ Same (list (items left.entry)) (list (items right.entry)) }
+    ensures { IsTrue result ↔ SameBy (array_choice left.entry) (array_choice right.entry) (list (items left.entry)) (list (items right.entry)) }
 {
     if left.len() != right.len() {
         return false;
@@ -90,7 +78,7 @@ fn same_items(left: Array, right: Array) -> bool
     for item in left.iter() {
         match others.next() {
             Some(other) => {
-                if !same_values(item, other) {
+                if !same_parts(item, other) {
                     return false;
                 }
             }
@@ -100,10 +88,27 @@ fn same_items(left: Array, right: Array) -> bool
     true
 }
 
-/// Members with one key in one place are compared in step, as far as there are such; the others
-/// are looked up.
+/// Only here does it matter which member of a key counts.
 #[cycle(same)]
+#[inline(always)]
 fn same_members(left: Object, right: Object) -> bool
+    ensures { IsTrue result ↔ SameBy (object_choice left.entry) (object_choice right.entry) (obj (members left.entry)) (obj (members right.entry)) }
+{
+    match left.repeats() {
+        Repeats::First => match right.repeats() {
+            Repeats::First => first_in_step(left, right),
+            Repeats::Last => last_by_key(right, left),
+        },
+        Repeats::Last => last_members(left, right),
+    }
+}
+
+/// Whether the two are the same by the first member of each key. Members with one key in one place
+/// are compared in step, as far as there are such; the others are looked up.
+#[cycle(same)]
+fn first_in_step(left: Object, right: Object) -> bool
+    requires choice { object_choice left ≡ Repeats.First }
+    requires other_choice { object_choice right ≡ Repeats.First }
     ensures { IsTrue result ↔ Same (obj (members left.entry)) (obj (members right.entry)) }
 {
     let mut others = right.iter();
@@ -111,23 +116,25 @@ fn same_members(left: Object, right: Object) -> bool
     for (key, value) in left.iter() {
         match others.next() {
             Some((name, other)) if are_same_texts(key, name) => {
-                if !same_values(value, other) && !left.has_before(place, key) {
+                if !same_parts(value, other) && !left.has_before(place, key) {
                     return false;
                 }
             }
-            _ => return same_rest(left, right, place),
+            _ => return first_by_key(left, right, place),
         }
         place += 1;
     }
     match others.next() {
         None => true,
-        Some(_) => same_rest(left, right, place),
+        Some(_) => first_by_key(left, right, place),
     }
 }
 
 /// The same, where the first `place` members have the same keys in both, and agree.
 #[cycle(same)]
-fn same_rest(left: Object, right: Object, place: usize) -> bool
+fn first_by_key(left: Object, right: Object, place: usize) -> bool
+    requires choice { object_choice left ≡ Repeats.First }
+    requires other_choice { object_choice right ≡ Repeats.First }
     requires in_step { pair_keys (take place (paired (members left))) ≡ pair_keys (take place (paired (members right))) }
     requires agree { Agree place (paired (members left)) (paired (members right)) }
     ensures { IsTrue result ↔ Same (obj (members left.entry)) (obj (members right.entry)) }
@@ -135,9 +142,9 @@ fn same_rest(left: Object, right: Object, place: usize) -> bool
     let mut at = 0;
     for (key, value) in left.iter() {
         if at >= place && !left.has_before(at, key) {
-            match right.first(key) {
+            match right.get(key) {
                 Some(other) => {
-                    if !same_values(value, other) {
+                    if !same_parts(value, other) {
                         return false;
                     }
                 }
@@ -166,59 +173,16 @@ fn has_keys(left: Object, right: Object, place: usize) -> bool
     true
 }
 
-/// Whether the two are the same, where the last member of each key counts in the first.
-#[cycle(last)]
-fn last_values(left: Value, right: Value) -> bool
-    requires { tape_choice left ≡ Repeats.Last }
-    ensures { IsTrue result ↔ SameBy Repeats.Last (tape_choice right.entry) (tape_tree left.entry) (tape_tree right.entry) }
-{
-    match left.as_array() {
-        Some(items) => match right.as_array() {
-            Some(others) => last_items(items, others),
-            None => false,
-        },
-        None => match left.as_object() {
-            Some(members) => match right.as_object() {
-                Some(others) => last_objects(members, others),
-                None => false,
-            },
-            None => same_leaves(left, right),
-        },
-    }
-}
-
-#[cycle(last)]
-fn last_items(left: Array, right: Array) -> bool
-    requires { array_choice left ≡ Repeats.Last }
-    ensures { IsTrue result ↔ SameBy Repeats.Last (array_choice right.entry) (list (items left.entry)) (list (items right.entry)) }
-{
-    if left.len() != right.len() {
-        return false;
-    }
-    let mut others = right.iter();
-    for item in left.iter() {
-        match others.next() {
-            Some(other) => {
-                if !last_values(item, other) {
-                    return false;
-                }
-            }
-            None => return false,
-        }
-    }
-    true
-}
-
 /// In step where the last member of each key counts in both, and both have the same keys in one
 /// order; else by look-ups.
-#[cycle(last)]
-fn last_objects(left: Object, right: Object) -> bool
+#[cycle(same)]
+fn last_members(left: Object, right: Object) -> bool
     requires { object_choice left ≡ Repeats.Last }
     ensures { IsTrue result ↔ SameBy Repeats.Last (object_choice right.entry) (obj (members left.entry)) (obj (members right.entry)) }
 {
     match right.repeats() {
         Repeats::Last if has_same_keys(left, right) => last_in_step(left, right),
-        _ => last_members(left, right),
+        _ => last_by_key(left, right),
     }
 }
 
@@ -237,7 +201,7 @@ fn has_same_keys(left: Object, right: Object) -> bool
 }
 
 /// Values that differ are passed over where a later member has their key.
-#[cycle(last)]
+#[cycle(same)]
 fn last_in_step(left: Object, right: Object) -> bool
     requires choice { object_choice left ≡ Repeats.Last }
     requires other_choice { object_choice right ≡ Repeats.Last }
@@ -250,7 +214,7 @@ fn last_in_step(left: Object, right: Object) -> bool
         seen += 1;
         match others.next() {
             Some((_, other)) => {
-                if !last_values(value, other) && !left.has_behind(seen, key) {
+                if !same_parts(value, other) && !left.has_behind(seen, key) {
                     return false;
                 }
             }
@@ -261,8 +225,8 @@ fn last_in_step(left: Object, right: Object) -> bool
 }
 
 /// A member is passed over where a later one has its key; each other is looked up.
-#[cycle(last)]
-fn last_members(left: Object, right: Object) -> bool
+#[cycle(same)]
+fn last_by_key(left: Object, right: Object) -> bool
     requires { object_choice left ≡ Repeats.Last }
     ensures { IsTrue result ↔ SameBy Repeats.Last (object_choice right.entry) (obj (members left.entry)) (obj (members right.entry)) }
 {
@@ -272,7 +236,7 @@ fn last_members(left: Object, right: Object) -> bool
         if !left.has_behind(seen, key) {
             match right.get(key) {
                 Some(other) => {
-                    if !last_values(value, other) {
+                    if !same_parts(value, other) {
                         return false;
                     }
                 }

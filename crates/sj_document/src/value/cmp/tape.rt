@@ -20,19 +20,9 @@ use sj_text_core::{Repeats, are_same_texts};
 
 /// Whether the part of a tape and the document are the same; of each key the member counts that
 /// the part says.
+#[cycle(same)]
 pub(crate) fn same_as_tape<T: KeyText>(left: Value, right: &Document<T>) -> bool
     ensures { IsTrue result ↔ SameBy (tape_choice left.entry) Repeats.First (tape_tree left.entry) (document_tree T.text_of right.now) }
-{
-    match left.repeats() {
-        Repeats::First => first_as_tape(left, right),
-        Repeats::Last => last_as_tape(left, right),
-    }
-}
-
-/// Whether the two are the same by the first member of each key.
-#[cycle(same)]
-fn first_as_tape<T: KeyText>(left: Value, right: &Document<T>) -> bool
-    ensures { IsTrue result ↔ Same (tape_tree left.entry) (document_tree T.text_of right.now) }
 {
     match right {
         Document::Static(other) => match left.as_static() {
@@ -48,7 +38,7 @@ fn first_as_tape<T: KeyText>(left: Value, right: &Document<T>) -> bool
             None => false,
         },
         Document::Object(others) => match left.as_object() {
-            Some(members) => same_members(members, others),
+            Some(members) => same_members(members, others, left.repeats()),
             None => false,
         },
     }
@@ -56,7 +46,7 @@ fn first_as_tape<T: KeyText>(left: Value, right: &Document<T>) -> bool
 
 #[cycle(same)]
 fn same_items<T: KeyText>(left: Array, right: &Vec<Document<T>>) -> bool
-    ensures { IsTrue result ↔ Same (list (items left.entry)) (list (items_from (map (document_tree T.text_of) right.now.items))) }
+    ensures { IsTrue result ↔ SameBy (array_choice left.entry) Repeats.First (list (items left.entry)) (list (items_from (map (document_tree T.text_of) right.now.items))) }
 {
     let others = right.as_slice();
     if left.len() != others.len() {
@@ -66,7 +56,7 @@ fn same_items<T: KeyText>(left: Array, right: &Vec<Document<T>>) -> bool
     for other in others {
         match items.next() {
             Some(item) => {
-                if !first_as_tape(item, other) {
+                if !same_as_tape(item, other) {
                     return false;
                 }
             }
@@ -76,10 +66,24 @@ fn same_items<T: KeyText>(left: Array, right: &Vec<Document<T>>) -> bool
     true
 }
 
-/// Members with one key in one place are compared in step, as far as there are such; the others
-/// are looked up.
+/// Only here does it matter which member of a key counts in the object of a tape.
 #[cycle(same)]
-fn same_members<T: KeyText>(left: object::Object, right: &Object<T>) -> bool
+#[inline(always)]
+fn same_members<T: KeyText>(left: object::Object, right: &Object<T>, repeats: Repeats) -> bool
+    requires { repeats ≡ object_choice left }
+    ensures { IsTrue result ↔ SameBy (object_choice left.entry) Repeats.First (obj (members left.entry)) (obj (entry_members (document_tree T.text_of) right.now.entries)) }
+{
+    match repeats {
+        Repeats::First => first_in_step(left, right),
+        Repeats::Last => last_members(left, right),
+    }
+}
+
+/// Whether the two are the same by the first member of each key. Members with one key in one place
+/// are compared in step, as far as there are such; the others are looked up.
+#[cycle(same)]
+fn first_in_step<T: KeyText>(left: object::Object, right: &Object<T>) -> bool
+    requires { object_choice left ≡ Repeats.First }
     ensures { IsTrue result ↔ Same (obj (members left.entry)) (obj (entry_members (document_tree T.text_of) right.now.entries)) }
 {
     let mut others = right.iter();
@@ -87,23 +91,24 @@ fn same_members<T: KeyText>(left: object::Object, right: &Object<T>) -> bool
     for (key, value) in left.iter() {
         match others.next() {
             Some((name, other)) if are_same_texts(key, name.text()) => {
-                if !first_as_tape(value, other) {
+                if !same_as_tape(value, other) {
                     return false;
                 }
             }
-            _ => return same_rest(left, right, place),
+            _ => return first_by_key(left, right, place),
         }
         place += 1;
     }
     match others.next() {
         None => true,
-        Some(_) => same_rest(left, right, place),
+        Some(_) => first_by_key(left, right, place),
     }
 }
 
 /// The same, where the first `place` members have the same keys in both, and agree.
 #[cycle(same)]
-fn same_rest<T: KeyText>(left: object::Object, right: &Object<T>, place: usize) -> bool
+fn first_by_key<T: KeyText>(left: object::Object, right: &Object<T>, place: usize) -> bool
+    requires choice { object_choice left ≡ Repeats.First }
     requires in_step { pair_keys (take place (paired (members left))) ≡ pair_keys (take place (paired (entry_members (document_tree T.text_of) right.now.entries))) }
     requires agree { Agree place (paired (members left)) (paired (entry_members (document_tree T.text_of) right.now.entries)) }
     ensures { IsTrue result ↔ Same (obj (members left.entry)) (obj (entry_members (document_tree T.text_of) right.now.entries)) }
@@ -113,7 +118,7 @@ fn same_rest<T: KeyText>(left: object::Object, right: &Object<T>, place: usize) 
         if at >= place && !left.has_before(at, key) {
             match right.get(key) {
                 Some(other) => {
-                    if !first_as_tape(value, other) {
+                    if !same_as_tape(value, other) {
                         return false;
                     }
                 }
@@ -142,65 +147,16 @@ fn has_keys<T: KeyText>(left: object::Object, right: &Object<T>, place: usize) -
     true
 }
 
-/// Whether the two are the same, where the last member of each key counts in the part.
-#[cycle(last)]
-fn last_as_tape<T: KeyText>(left: Value, right: &Document<T>) -> bool
-    requires { tape_choice left ≡ Repeats.Last }
-    ensures { IsTrue result ↔ SameBy Repeats.Last Repeats.First (tape_tree left.entry) (document_tree T.text_of right.now) }
-{
-    match right {
-        Document::Static(other) => match left.as_static() {
-            Some(scalar) => scalar == *other,
-            None => false,
-        },
-        Document::String(other) => match left.into_string() {
-            Some(text) => are_same_texts(text, other.text()),
-            None => false,
-        },
-        Document::Array(others) => match left.as_array() {
-            Some(items) => last_items(items, others),
-            None => false,
-        },
-        Document::Object(others) => match left.as_object() {
-            Some(members) => last_objects(members, others),
-            None => false,
-        },
-    }
-}
-
-#[cycle(last)]
-fn last_items<T: KeyText>(left: Array, right: &Vec<Document<T>>) -> bool
-    requires { array_choice left ≡ Repeats.Last }
-    ensures { IsTrue result ↔ SameBy Repeats.Last Repeats.First (list (items left.entry)) (list (items_from (map (document_tree T.text_of) right.now.items))) }
-{
-    let others = right.as_slice();
-    if left.len() != others.len() {
-        return false;
-    }
-    let mut items = left.iter();
-    for other in others {
-        match items.next() {
-            Some(item) => {
-                if !last_as_tape(item, other) {
-                    return false;
-                }
-            }
-            None => return false,
-        }
-    }
-    true
-}
-
 /// In step where both have the same keys in one order; else by look-ups.
-#[cycle(last)]
-fn last_objects<T: KeyText>(left: object::Object, right: &Object<T>) -> bool
+#[cycle(same)]
+fn last_members<T: KeyText>(left: object::Object, right: &Object<T>) -> bool
     requires { object_choice left ≡ Repeats.Last }
     ensures { IsTrue result ↔ SameBy Repeats.Last Repeats.First (obj (members left.entry)) (obj (entry_members (document_tree T.text_of) right.now.entries)) }
 {
     if has_same_keys(left, right) {
         last_in_step(left, right)
     } else {
-        last_members(left, right)
+        last_by_key(left, right)
     }
 }
 
@@ -219,7 +175,7 @@ fn has_same_keys<T: KeyText>(left: object::Object, right: &Object<T>) -> bool
 }
 
 /// No key stands twice in a map, so each member counts.
-#[cycle(last)]
+#[cycle(same)]
 fn last_in_step<T: KeyText>(left: object::Object, right: &Object<T>) -> bool
     requires choice { object_choice left ≡ Repeats.Last }
     requires keys { pair_keys (paired (members left)) ≡ pair_keys (paired (entry_members (document_tree T.text_of) right.now.entries)) }
@@ -229,7 +185,7 @@ fn last_in_step<T: KeyText>(left: object::Object, right: &Object<T>) -> bool
     for (_, value) in left.iter() {
         match others.next() {
             Some((_, other)) => {
-                if !last_as_tape(value, other) {
+                if !same_as_tape(value, other) {
                     return false;
                 }
             }
@@ -240,8 +196,8 @@ fn last_in_step<T: KeyText>(left: object::Object, right: &Object<T>) -> bool
 }
 
 /// A member is passed over where a later one has its key; each other is looked up.
-#[cycle(last)]
-fn last_members<T: KeyText>(left: object::Object, right: &Object<T>) -> bool
+#[cycle(same)]
+fn last_by_key<T: KeyText>(left: object::Object, right: &Object<T>) -> bool
     requires { object_choice left ≡ Repeats.Last }
     ensures { IsTrue result ↔ SameBy Repeats.Last Repeats.First (obj (members left.entry)) (obj (entry_members (document_tree T.text_of) right.now.entries)) }
 {
@@ -251,7 +207,7 @@ fn last_members<T: KeyText>(left: object::Object, right: &Object<T>) -> bool
         if !left.has_behind(seen, key) {
             match right.get(key) {
                 Some(other) => {
-                    if !last_as_tape(value, other) {
+                    if !same_as_tape(value, other) {
                         return false;
                     }
                 }
