@@ -6,6 +6,7 @@ use Rattle.std.specs.Cmp.Lexicographic.{slice_cmp}
 use Rattle.std.specs.Ordering.{nat_cmp, ordering_then}
 use Rattle.std.specs.Char.{encode_utf8}
 use Rattle.std.proofs.Math.Utf8.{scalar, scalar_cases}
+use Rattle.std.proofs.lemmas.Bool.{ltb-true, ltb-false}
 use Rattle.sj_canonical.specs.Canonical.{units}
 use Rattle.sj_canonical.specs.inner.Ranks.{rank}
 
@@ -25,20 +26,14 @@ more a b h = grind (arith, h)
 same : (a : ℕ) → nat_cmp a a ≡ Equal
 same a = grind arith
 
-lt_true : (a b : ℕ) → nat_lt a b ≡ true → a < b
-lt_true a b e = grind (arith, e)
-
-lt_false : (a b : ℕ) → nat_lt a b ≡ false → b ≤ a
-lt_false a b e = grind (arith, e)
-
 -- where the first units differ, they decide
 first_decides : (a b p q : ℕ) (r : Ordering) → a ≢ b → (a < b → p < q) → (b < a → q < p) → ordering_then (nat_cmp a b) r ≡ nat_cmp p q
 first_decides a b p q r n f g = by_sides (nat_lt a b) (nat_lt b a) refl refl
   where
     by_sides : (u v : Bool) → nat_lt a b ≡ u → nat_lt b a ≡ v → ordering_then (nat_cmp a b) r ≡ nat_cmp p q
-    by_sides true v e h = ap (λ o. ordering_then o r) (less a b (lt_true a b e)) ∙ sym (less p q (f (lt_true a b e)))
-    by_sides false true e h = ap (λ o. ordering_then o r) (more a b (lt_true b a h)) ∙ sym (more p q (g (lt_true b a h)))
-    by_sides false false e h = absurd (n (omega (arith, lt_false a b e, lt_false b a h)))
+    by_sides true v e h = ap (λ o. ordering_then o r) (less a b (ltb-true a b e)) ∙ sym (less p q (f (ltb-true a b e)))
+    by_sides false true e h = ap (λ o. ordering_then o r) (more a b (ltb-true b a h)) ∙ sym (more p q (g (ltb-true b a h)))
+    by_sides false false e h = absurd (n (omega (arith, ltb-false a b e, ltb-false b a h)))
 
 -- and where they are one, the next do
 next_decides : (a b : ℕ) (r s : Ordering) → a ≡ b → r ≡ s → ordering_then (nat_cmp a b) r ≡ s
@@ -49,10 +44,10 @@ two_decide : (a b c d p q : ℕ) (r : Ordering) → (a < b → p < q) → (b < a
 two_decide a b c d p q r f g h = by_sides (nat_lt a b) (nat_lt b a) refl refl
   where
     by_sides : (u v : Bool) → nat_lt a b ≡ u → nat_lt b a ≡ v → ordering_then (nat_cmp a b) (ordering_then (nat_cmp c d) r) ≡ nat_cmp p q
-    by_sides true v e k = ap (λ o. ordering_then o (ordering_then (nat_cmp c d) r)) (less a b (lt_true a b e)) ∙ sym (less p q (f (lt_true a b e)))
-    by_sides false true e k = ap (λ o. ordering_then o (ordering_then (nat_cmp c d) r)) (more a b (lt_true b a k)) ∙ sym (more p q (g (lt_true b a k)))
+    by_sides true v e k = ap (λ o. ordering_then o (ordering_then (nat_cmp c d) r)) (less a b (ltb-true a b e)) ∙ sym (less p q (f (ltb-true a b e)))
+    by_sides false true e k = ap (λ o. ordering_then o (ordering_then (nat_cmp c d) r)) (more a b (ltb-true b a k)) ∙ sym (more p q (g (ltb-true b a k)))
     by_sides false false e k =
-        let one : a ≡ b = omega (arith, lt_false a b e, lt_false b a k) in
+        let one : a ≡ b = omega (arith, ltb-false a b e, ltb-false b a k) in
         let s = h one in
         next_decides a b _ _ one (first_decides c d p q r s.0 s.1 s.2)
 
@@ -70,9 +65,9 @@ pub classed : (x : ℕ) → ((x < 0xE000) × (rank x ≡ x)) ⊎ ((0xE000 ≤ x)
 classed x = by_tests (nat_lt x 0xE000) (nat_lt x 0x1_0000) refl refl
   where
     by_tests : (p q : Bool) → nat_lt x 0xE000 ≡ p → nat_lt x 0x1_0000 ≡ q → ((x < 0xE000) × (rank x ≡ x)) ⊎ ((0xE000 ≤ x) × (x < 0x1_0000) × (rank x ≡ x + 0x11_0000)) ⊎ ((0x1_0000 ≤ x) × (rank x ≡ x))
-    by_tests true q e f = inl (lt_true x 0xE000 e, rank-low x (lt_true x 0xE000 e))
-    by_tests false true e f = inr (inl (lt_false x 0xE000 e, lt_true x 0x1_0000 f, rank-last x (lt_false x 0xE000 e) (lt_true x 0x1_0000 f)))
-    by_tests false false e f = inr (inr (lt_false x 0x1_0000 f, rank-two x (lt_false x 0x1_0000 f)))
+    by_tests true q e f = inl (ltb-true x 0xE000 e, rank-low x (ltb-true x 0xE000 e))
+    by_tests false true e f = inr (inl (ltb-false x 0xE000 e, ltb-true x 0x1_0000 f, rank-last x (ltb-false x 0xE000 e) (ltb-true x 0x1_0000 f)))
+    by_tests false false e f = inr (inr (ltb-false x 0x1_0000 f, rank-two x (ltb-false x 0x1_0000 f)))
 
 -- the first unit of two
 high_bounds : (y : ℕ) → scalar y ≡ true → (0xD800 ≤ 0xD800 + (y - 0x1_0000) / 0x400) × (0xD800 + (y - 0x1_0000) / 0x400 < 0xDC00)
@@ -89,9 +84,9 @@ module _ (x y : ℕ) (sx : scalar x ≡ true) (sy : scalar y ≡ true) (n : x �
   rises x y h l = by_sides (nat_lt x 0xE000) (nat_lt y 0xE000) refl refl
     where
       by_sides : (p q : Bool) → nat_lt x 0xE000 ≡ p → nat_lt y 0xE000 ≡ q → rank x < rank y
-      by_sides true true e f = omega (arith, h, rank-low x (lt_true x 0xE000 e), rank-low y (lt_true y 0xE000 f))
-      by_sides true false e f = omega (arith, h, rank-low x (lt_true x 0xE000 e), rank-last y (lt_false y 0xE000 f) l)
-      by_sides false q e f = omega (arith, h, lt_false x 0xE000 e, rank-last x (lt_false x 0xE000 e) (omega (arith, h, l)), rank-last y (omega (arith, h, lt_false x 0xE000 e)) l)
+      by_sides true true e f = omega (arith, h, rank-low x (ltb-true x 0xE000 e), rank-low y (ltb-true y 0xE000 f))
+      by_sides true false e f = omega (arith, h, rank-low x (ltb-true x 0xE000 e), rank-last y (ltb-false y 0xE000 f) l)
+      by_sides false q e f = omega (arith, h, ltb-false x 0xE000 e, rank-last x (ltb-false x 0xE000 e) (omega (arith, h, l)), rank-last y (omega (arith, h, ltb-false x 0xE000 e)) l)
 
   -- a character of one unit and one of two
   below : (x y : ℕ) → 0x1_0000 ≤ y → x < 0xE000 → rank x < rank y
@@ -104,18 +99,18 @@ module _ (x y : ℕ) (sx : scalar x ≡ true) (sy : scalar y ≡ true) (n : x �
   ]
 
   sides : (p q : Bool) → nat_lt x 0x1_0000 ≡ p → nat_lt y 0x1_0000 ≡ q → slice_cmp nat_cmp (units_by p x ++ b) (units_by q y ++ c) ≡ nat_cmp (rank x) (rank y)
-  sides true true e f = first_decides x y (rank x) (rank y) _ n (λ h. rises x y h (lt_true y 0x1_0000 f)) (λ h. rises y x h (lt_true x 0x1_0000 e))
+  sides true true e f = first_decides x y (rank x) (rank y) _ n (λ h. rises x y h (ltb-true y 0x1_0000 f)) (λ h. rises y x h (ltb-true x 0x1_0000 e))
   sides true false e f = elim (scalar_cases x sx) as (λ _. slice_cmp nat_cmp (units_by true x ++ b) (units_by false y ++ c) ≡ nat_cmp (rank x) (rank y)) [
-    | inl a ↦ first_decides x (0xD800 + (y - 0x1_0000) / 0x400) (rank x) (rank y) _ (λ h. omega (arith, a, h)) (λ h. below x y (lt_false y 0x1_0000 f) (omega (arith, a))) (λ h. absurd (omega (arith, a, h)))
-    | inr a ↦ let top = (high_bounds y sy).1 in first_decides x (0xD800 + (y - 0x1_0000) / 0x400) (rank x) (rank y) _ (λ h. omega (arith, a.0, h, top)) (λ h. absurd (omega (arith, a.0, h, top))) (λ h. above x y sy (lt_false y 0x1_0000 f) a.0 (lt_true x 0x1_0000 e))
+    | inl a ↦ first_decides x (0xD800 + (y - 0x1_0000) / 0x400) (rank x) (rank y) _ (λ h. omega (arith, a, h)) (λ h. below x y (ltb-false y 0x1_0000 f) (omega (arith, a))) (λ h. absurd (omega (arith, a, h)))
+    | inr a ↦ let top = (high_bounds y sy).1 in first_decides x (0xD800 + (y - 0x1_0000) / 0x400) (rank x) (rank y) _ (λ h. omega (arith, a.0, h, top)) (λ h. absurd (omega (arith, a.0, h, top))) (λ h. above x y sy (ltb-false y 0x1_0000 f) a.0 (ltb-true x 0x1_0000 e))
   ]
   sides false true e f = elim (scalar_cases y sy) as (λ _. slice_cmp nat_cmp (units_by false x ++ b) (units_by true y ++ c) ≡ nat_cmp (rank x) (rank y)) [
-    | inl a ↦ first_decides (0xD800 + (x - 0x1_0000) / 0x400) y (rank x) (rank y) _ (λ h. omega (arith, a, h)) (λ h. absurd (omega (arith, a, h))) (λ h. below y x (lt_false x 0x1_0000 e) (omega (arith, a)))
-    | inr a ↦ let top = (high_bounds x sx).1 in first_decides (0xD800 + (x - 0x1_0000) / 0x400) y (rank x) (rank y) _ (λ h. omega (arith, a.0, h, top)) (λ h. above y x sx (lt_false x 0x1_0000 e) a.0 (lt_true y 0x1_0000 f)) (λ h. absurd (omega (arith, a.0, h, top)))
+    | inl a ↦ first_decides (0xD800 + (x - 0x1_0000) / 0x400) y (rank x) (rank y) _ (λ h. omega (arith, a, h)) (λ h. absurd (omega (arith, a, h))) (λ h. below y x (ltb-false x 0x1_0000 e) (omega (arith, a)))
+    | inr a ↦ let top = (high_bounds x sx).1 in first_decides (0xD800 + (x - 0x1_0000) / 0x400) y (rank x) (rank y) _ (λ h. omega (arith, a.0, h, top)) (λ h. above y x sx (ltb-false x 0x1_0000 e) a.0 (ltb-true y 0x1_0000 f)) (λ h. absurd (omega (arith, a.0, h, top)))
   ]
   sides false false e f =
-      let p : 0x1_0000 ≤ x = lt_false x 0x1_0000 e in
-      let q : 0x1_0000 ≤ y = lt_false y 0x1_0000 f in
+      let p : 0x1_0000 ≤ x = ltb-false x 0x1_0000 e in
+      let q : 0x1_0000 ≤ y = ltb-false y 0x1_0000 f in
       let r = rank-two x p in
       let s = rank-two y q in
       two_decide (0xD800 + (x - 0x1_0000) / 0x400) (0xD800 + (y - 0x1_0000) / 0x400) (0xDC00 + (x - 0x1_0000) % 0x400) (0xDC00 + (y - 0x1_0000) % 0x400) (rank x) (rank y) _ (λ h. omega (arith, p, q, r, s, h)) (λ h. omega (arith, p, q, r, s, h))

@@ -1,6 +1,6 @@
 -- A list has one order in which it rises and what ties keeps its places.
 use Rattle.std.proofs.Common.{◌≡◌, suc, ◌+◌, Bool, true, false, ◌&&◌, not, cond, List, [], ◌∷◌, refl, sym, ap, ◌∙◌, subst, arith, true≢false}
-use Rattle.std.proofs.lemmas.Bool.{and_parts}
+use Rattle.std.proofs.lemmas.Bool.{and_parts, not-true}
 use Rattle.std.specs.Cmp.{IsStrictWeakOrder}
 use Rattle.std.specs.List.{filter}
 use Rattle.std.specs.List.Sorted.{IsSortedBy, IsStableBy, ties}
@@ -64,12 +64,8 @@ module _ {X : Type 0} (lt : X → X → Bool) where
     in_order-rises [] = tt {0}
     in_order-rises (x ∷ xs) = inserted-rises x (in_order xs) (in_order-rises xs)
 
-    not_true : (b : Bool) → not b ≡ true → b ≡ false
-    not_true true e = absurd (true≢false (sym e))
-    not_true false e = refl
-
     ties_parts : (z x : X) → ties lt z x ≡ true → (lt z x ≡ false) × (lt x z ≡ false)
-    ties_parts z x e = let p = and_parts (not (lt z x)) (not (lt x z)) e in (not_true (lt z x) p.0, not_true (lt x z) p.1)
+    ties_parts z x e = let p = and_parts (not (lt z x)) (not (lt x z)) e in (not-true (lt z x) p.0, not-true (lt x z) p.1)
 
     -- neither ties with z where one is less than the other
     not_both : (z x y : X) → lt y x ≡ true → ties lt z x ≡ true → ties lt z y ≡ true → ⊥

@@ -2,6 +2,7 @@
 use Rattle.std.proofs.Common.{◌≡◌, ℕ, Bool, true, false, List, Option, Some, None, bytes_eq, IsUtf8, refl, sym, ap, ◌∙◌, subst, true≢false}
 use Rattle.std.specs.Prelude.{if◌then◌else◌}
 use Rattle.std.proofs.lemmas.Slice.Eq.{bytes_eq-Decides}
+use Rattle.std.proofs.lemmas.Option.{same_Some}
 use Rattle.sj_text_core.specs.Find.{find_member}
 use Rattle.sj_text_core.specs.Print.{recarry_members}
 use Rattle.sj_text_core.specs.Tree.{Tree, Members, no_members, member}
@@ -24,9 +25,6 @@ HasTexts (member k t ms) = IsUtf8 k × HasTexts ms
 
 pub some_none : (t : Tree) → Some t ≡ None → ⊥
 some_none t e = cc
-
-some_same : (t u : Tree) → Some t ≡ Some u → t ≡ u
-some_same t u e = cc
 
 -- one text is not before itself
 pub apart : (k l : List ℕ) → is_before k l ≡ true → bytes_eq k l ≡ false
@@ -147,7 +145,7 @@ one_strict (member k t ms) no_members r s h = absurd (some_none t (sym (found_fi
 one_strict (member k t ms) (member l u ns) r s h = by_tests (is_before k l) (is_before l k) refl refl (one_strict ms ns r.1)
   where
     head : (b : Bool) → bytes_eq k l ≡ b → is_before l k ≡ false → (if b then Some u else find_member k ns) ≡ Some t → (k ≡ l) × (t ≡ u)
-    head true d f e = ((bytes_eq-Decides k l).0 d, sym (some_same u t e))
+    head true d f e = ((bytes_eq-Decides k l).0 d, sym (same_Some u t e))
     head false d f e = absurd (true≢false (sym (found_after k l t ns s.0 e) ∙ f))
 
     by_tests : (p q : Bool) → is_before k l ≡ p → is_before l k ≡ q → (IsStrict ns → ((k : List ℕ) → find_member k ms ≡ find_member k ns) → ms ≡ ns) → member k t ms ≡ member l u ns

@@ -1,6 +1,6 @@
 -- Texts in the order of their units: two that tie are one.
-use Rattle.std.proofs.Common.{◌≡◌, ℕ, ◌<◌, ◌≤◌, Bool, true, false, nat_lt, List, [], ◌∷◌, ◌++◌, Ordering, Less, Equal, Greater, flat_map, IsUtf8, refl, sym, ap, ◌∙◌, arith, true≢false}
-use Rattle.std.proofs.lemmas.Bool.{and_parts}
+use Rattle.std.proofs.Common.{◌≡◌, ℕ, Bool, true, false, nat_lt, List, [], ◌∷◌, ◌++◌, Ordering, Less, Equal, Greater, flat_map, IsUtf8, refl, sym, ap, ◌∙◌, arith, true≢false}
+use Rattle.std.proofs.lemmas.Bool.{and_parts, ltb-true, ltb-false}
 use Rattle.std.proofs.lemmas.Cmp.{nat_list_cmp_total, tied_itself}
 use Rattle.std.proofs.lemmas.List.MinMax.{ranks_by}
 use Rattle.std.proofs.lemmas.Str.{encodes-chars, scalars-chars}
@@ -55,16 +55,10 @@ heads c d r t s q e n =
 head_same : (c d : ℕ) → ((c ≡ d → ⊥) → ⊥) → c ≡ d
 head_same c d n = by_tests (nat_lt c d) (nat_lt d c) refl refl
   where
-    lt_true : (a b : ℕ) → nat_lt a b ≡ true → a < b
-    lt_true a b e = grind (arith, e)
-
-    lt_false : (a b : ℕ) → nat_lt a b ≡ false → b ≤ a
-    lt_false a b e = grind (arith, e)
-
     by_tests : (p q : Bool) → nat_lt c d ≡ p → nat_lt d c ≡ q → c ≡ d
-    by_tests true q e f = absurd (n (λ h. omega (arith, h, lt_true c d e)))
-    by_tests false true e f = absurd (n (λ h. omega (arith, h, lt_true d c f)))
-    by_tests false false e f = omega (arith, lt_false c d e, lt_false d c f)
+    by_tests true q e f = absurd (n (λ h. omega (arith, h, ltb-true c d e)))
+    by_tests false true e f = absurd (n (λ h. omega (arith, h, ltb-true d c f)))
+    by_tests false false e f = omega (arith, ltb-false c d e, ltb-false d c f)
 
 chars_same : (cs ds : List ℕ) → scalars cs ≡ true → scalars ds ≡ true → flat_map encode_utf16 cs ≡ flat_map encode_utf16 ds → cs ≡ ds
 chars_same [] [] s r e = refl

@@ -3,16 +3,13 @@ use Rattle.std.proofs.Common.{◌≡◌, ℕ, zero, suc, ◌+◌, ◌<◌, ◌�
 use Rattle.std.specs.Option.{option_to_list, MatchOption}
 use Rattle.std.specs.Vec.{vec_len}
 use Rattle.std.specs.List.{HoldsAt}
+use Rattle.std.proofs.lemmas.List.{nil_from_length}
 use Rattle.sj_text_core.specs.Tree.{Tree, Items, item, items_len, items_from}
 use Rattle.sj_text_core.specs.Find.{nth_item}
 use Rattle.sj_text_core.specs.Edits.{push, front, last}
 use Rattle.sj_text_core.specs.Paths.{set_item}
 use Rattle.sj_document.specs.Document.{document_tree}
 use Rattle.sj_document.specs.declared.value.Document.{Document}
-
-empty : {A : Type 0} (xs : List A) → length xs ≡ 0 → xs ≡ []
-empty [] e = refl
-empty (x ∷ xs) e = cc
 
 pub length-items : {A : Type 0} (f : A → Tree) (vs : List A) → length vs ≡ items_len (items_from (map f vs))
 length-items f [] = refl
@@ -41,12 +38,12 @@ module _ {T : Type 0} (t : T → List ℕ) where
 
   pub pop_last : (r : Option (Document T)) (v w : Vec (Document T) Global) → v.items ≡ w.items ++ option_to_list r → MatchOption r ((vec_len v ≡ 0) × (vec_len w ≡ 0)) (λ _. vec_len w + 1 ≡ vec_len v)
       → option_map tree r ≡ last (items_seen v.items)
-  pop_last None v w e h = ap (λ l. last (items_seen l)) (sym (empty v.items (sym v.ok.0 ∙ h.0)))
+  pop_last None v w e h = ap (λ l. last (items_seen l)) (sym (nil_from_length v.items (sym v.ok.0 ∙ h.0)))
   pop_last (Some x) v w e h = sym (items-last x w.items) ∙ ap (λ l. last (items_seen l)) (sym e)
 
   pub pop_front : (r : Option (Document T)) (v w : Vec (Document T) Global) → v.items ≡ w.items ++ option_to_list r → MatchOption r ((vec_len v ≡ 0) × (vec_len w ≡ 0)) (λ _. vec_len w + 1 ≡ vec_len v)
       → items_seen w.items ≡ front (items_seen v.items)
-  pop_front None v w e h = ap items_seen (empty w.items (sym w.ok.0 ∙ h.1)) ∙ ap (λ l. front (items_seen l)) (sym (empty v.items (sym v.ok.0 ∙ h.0)))
+  pop_front None v w e h = ap items_seen (nil_from_length w.items (sym w.ok.0 ∙ h.1)) ∙ ap (λ l. front (items_seen l)) (sym (nil_from_length v.items (sym v.ok.0 ∙ h.0)))
   pop_front (Some x) v w e h = sym (items-front x w.items) ∙ ap (λ l. front (items_seen l)) (sym e)
 
   some_nth : (vs : List (Document T)) (i : ℕ) (x : Document T) → i < length vs → HoldsAt (λ y. x ≡ y) vs i → Some (tree x) ≡ nth_item i (items_seen vs)

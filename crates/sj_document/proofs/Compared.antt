@@ -6,6 +6,7 @@ use Rattle.std.proofs.lemmas.Map.Iter.{rest_more}
 use Rattle.std.proofs.lemmas.List.{drop_all}
 use Rattle.std.proofs.lemmas.Option.{MatchOption-at_some, MatchOption-at_none}
 use Rattle.std.proofs.lemmas.Slice.Eq.{bytes_eq-Decides}
+use Rattle.std.proofs.lemmas.Bool.{or_parts}
 use Rattle.sj_text_core.specs.Tree.{Tree, obj, items_len as items_count, items_from, Members, no_members, member}
 use Rattle.sj_text_core.specs.Find.{find_member}
 use Rattle.sj_text_core.specs.Keep.{is_seen}
@@ -17,7 +18,7 @@ use Rattle.sj_text_core.proofs.Equality.{found_from_at, at_from_found, none_on, 
 use Rattle.sj_text_core.proofs.Comparing.{by_either, absent_by, there_by}
 use Rattle.sj_text_core.proofs.Shapes.{same_items_len}
 use Rattle.sj_object.specs.Texts.{no_repeats}
-use Rattle.sj_object.specs.inner.Texts.{not_and, or_false, bytes_eq-sym}
+use Rattle.sj_object.specs.inner.Texts.{not_and, bytes_eq-sym}
 use Rattle.sj_object.specs.Entries.{Entry, entry_texts, entries_of}
 use Rattle.sj_object.specs.Edits.{lookup}
 use Rattle.sj_object.specs.Members.{entry_members}
@@ -84,7 +85,7 @@ module _ {K V : Type 0} where
   behind : (e : Entry K V) (ds es : List (Entry K V)) → is_seen e.0.1 (entry_texts ds) ≡ false → EachThere ds es → EachThere ds (e ∷ es)
   behind e [] es n h = tt
   behind e (d ∷ ds) es n h =
-      let r = or_false (bytes_eq e.0.1 d.0.1) _ n in
+      let r = or_parts (bytes_eq e.0.1 d.0.1) _ n in
       ((λ i. if bytes_eq-sym e.0.1 d.0.1 r.0 i then Some e.1 else lookup d.0.1 es) ∙ h.0, behind e ds es r.1 h.1)
 
   -- without repeats each entry is what its text finds

@@ -4,9 +4,10 @@ use Rattle.std.specs.Prelude.{MatchOption, if◌then◌else◌}
 use Rattle.std.specs.Bool.{Decides}
 use Rattle.std.specs.List.{IsDistinct, AllByRecursion}
 use Rattle.std.proofs.lemmas.Slice.Eq.{bytes_eq-Decides}
+use Rattle.std.proofs.lemmas.Bool.{or_parts, or_from}
 use Rattle.sj_text_core.specs.Keep.{is_seen}
 use Rattle.sj_object.specs.Texts.{no_repeats}
-use Rattle.sj_object.specs.inner.Texts.{or_of_false, or_false, not_and, not_and_of, bytes_eq-sym}
+use Rattle.sj_object.specs.inner.Texts.{not_and, not_and_of, bytes_eq-sym}
 use Rattle.sj_object.specs.Entries.{Entry, entry_texts}
 use Rattle.sj_object.specs.Edits.{lookup}
 use Rattle.sj_document.specs.SameWith.{SameIn, value_of_text, SameEntries}
@@ -59,7 +60,7 @@ module _ {L X : Type 0} (text : L → List ℕ) where
   module _ (eq : L → L → Bool) (law : (a b : L) → Decides (eq a b) (text a ≡ text b)) where
     none_after : (a : L) (ps : List (L × X)) → AllByRecursion (λ y. eq a y ≡ false) (map (λ (p : L × X). p.0) ps) → is_seen (text a) (names ps) ≡ false
     none_after a [] h = refl
-    none_after a (p ∷ ps) h = or_of_false (bytes_eq (text a) (text p.0)) (is_seen (text a) (names ps)) (not_equal text eq law a p.0 h.0) (none_after a ps h.1)
+    none_after a (p ∷ ps) h = or_from (bytes_eq (text a) (text p.0)) (is_seen (text a) (names ps)) (not_equal text eq law a p.0 h.0) (none_after a ps h.1)
 
     pub names_apart : (ps : List (L × X)) → IsDistinct eq (map (λ (p : L × X). p.0) ps) → no_repeats (names ps) ≡ true
     unfolding IsDistinct
@@ -128,7 +129,7 @@ module _ {L X : Type 0} (text : L → List ℕ) where
   behind : (p : L × X) (qs ps : List (L × X)) → is_seen (text p.0) (names text qs) ≡ false → EachValue qs ps → EachValue qs (p ∷ ps)
   behind p [] ps n h = tt
   behind p (q ∷ qs) ps n h =
-      let r = or_false (bytes_eq (text p.0) (text q.0)) _ n in
+      let r = or_parts (bytes_eq (text p.0) (text q.0)) _ n in
       ((λ i. if bytes_eq-sym (text p.0) (text q.0) r.0 i then Some p.1 else value_of_text text (text q.0) ps) ∙ h.0, behind p qs ps r.1 h.1)
 
   each_value : (ps : List (L × X)) → no_repeats (names text ps) ≡ true → EachValue ps ps

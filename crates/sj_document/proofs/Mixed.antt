@@ -1,6 +1,7 @@
 -- A part of a tape and a document, compared.
 use Rattle.std.proofs.Common.{◌≡◌, ℕ, suc, zero, ◌+◌, ◌-◌, ◌<◌, Bool, true, false, ◌||◌, List, [], ◌∷◌, length, map, take, drop, get_or, drop-cons, Some, None, option_map, refl, sym, ap, ◌∙◌, subst, arith, true≢false, bytes_eq}
 use Rattle.std.proofs.lemmas.Slice.Eq.{bytes_eq-Decides}
+use Rattle.std.proofs.lemmas.Bool.{or_from, or_right}
 use Rattle.sj_text_core.specs.Tree.{Tree, list, Items, items_len, items_from, listed, Members, paired}
 use Rattle.sj_text_core.specs.Find.{find_member}
 use Rattle.sj_text_core.specs.Keep.{is_seen}
@@ -13,13 +14,12 @@ use Rattle.sj_text_core.proofs.Comparing.{found_first}
 use Rattle.sj_text_core.proofs.Shapes.{same_items_len, members_from-paired}
 use Rattle.sj_tape.proofs.Counted.{parts, part_items, items_by, one_place}
 use Rattle.sj_object.specs.Texts.{no_repeats}
-use Rattle.sj_object.specs.inner.Texts.{not_and, or_of_false}
+use Rattle.sj_object.specs.inner.Texts.{not_and}
 use Rattle.sj_object.specs.Entries.{Entry, entry_texts}
 use Rattle.sj_object.specs.Edits.{lookup}
 use Rattle.sj_object.specs.Members.{entry_members}
 use Rattle.sj_object.proofs.Shown.{lookup-entry_members}
 use Rattle.sj_document.proofs.Arrays.{length-items}
-use Rattle.sj_document.proofs.Subsets.{or_right}
 
 -- an array by what counts in each item, and one as it is
 pub into_mixed : (c : Repeats) (is js : Items) → SameBy c First (list is) (list js) → SameItems (part_items (parts c (listed is))) js
@@ -80,7 +80,7 @@ alone zero k u qs more d e = refl
 alone (suc n) k u [] more d e = refl
 alone (suc n) k u (q ∷ qs) more d e =
     let r = not_and (is_seen q.0 (pair_keys qs)) (no_repeats (pair_keys qs)) d in
-    or_of_false (bytes_eq k q.0) _ (other_text k q.0 (pair_keys qs) (bytes_eq k q.0) refl (at_place n k u qs more e) r.0) (alone n k u qs more r.1 e)
+    or_from (bytes_eq k q.0) _ (other_text k q.0 (pair_keys qs) (bytes_eq k q.0) refl (at_place n k u qs more e) r.0) (alone n k u qs more r.1 e)
 
 -- nor in what is in step
 pub first_here : (n : ℕ) (k l : List ℕ) (u : Tree) (ps qs others more : List (List ℕ × Tree)) (b : Bool) → drop n qs ≡ others → others ≡ (l, u) ∷ more → b ≡ bytes_eq k l → b ≡ true

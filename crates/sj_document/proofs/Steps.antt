@@ -1,5 +1,5 @@
 -- One step of a path, on a map and on the tree that it means.
-use Rattle.std.proofs.Common.{◌≡◌, ℕ, List, ◌∷◌, ◌<◌, map, drop, length, get_or, Option, Some, None, option_map, unwrap_or, refl, sym, ap, ◌∙◌, drop-cons, take, ◌-◌, arith}
+use Rattle.std.proofs.Common.{◌≡◌, ℕ, List, ◌∷◌, ◌<◌, map, drop, length, get_or, Option, Some, None, option_map, refl, sym, ap, ◌∙◌, drop-cons, take, ◌-◌, arith}
 use Rattle.std.proofs.lemmas.Grind.{common_steps}
 use Rattle.sj_text_core.specs.Tree.{Tree, obj}
 use Rattle.sj_text_core.specs.Find.{find_member}
@@ -37,6 +37,3 @@ rest_is xs = grind (arith, common_steps)
 
 pub first_of : {A B : Type 0} (f : A → B) (xs : List A) (x : A) → 0 < length xs → x ≡ get_or xs 0 x → map f xs ≡ f x ∷ map f (take (length xs - 1) (drop 1 xs))
 first_of f xs x h e = ap (map f) (drop-cons xs 0 x h) ∙ (λ j. f (sym e j) ∷ map f (sym (rest_is xs) j))
-
-pub some_same : {A : Type 0} (a b : A) → Some a ≡ Some b → a ≡ b
-some_same a b e = ap (λ o. unwrap_or o a) e

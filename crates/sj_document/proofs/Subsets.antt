@@ -2,6 +2,7 @@
 use Rattle.std.proofs.Common.{◌≡◌, ℕ, suc, ◌≤◌, Bool, true, false, ◌||◌, List, [], ◌∷◌, length, refl, sym, ap, ◌∙◌, arith, true≢false, bytes_eq}
 use Rattle.std.specs.Bool.{if◌then◌else◌}
 use Rattle.std.proofs.lemmas.Slice.Eq.{bytes_eq-Decides}
+use Rattle.std.proofs.lemmas.Bool.{or_right}
 use Rattle.sj_text_core.specs.Keep.{is_seen}
 use Rattle.sj_object.specs.Texts.{no_repeats}
 use Rattle.sj_object.specs.inner.Texts.{not_and}
@@ -40,10 +41,6 @@ other : (x k : List ℕ) (ks : List (List ℕ)) (b : Bool) → bytes_eq x k ≡ 
 other x k ks true d n h = absurd (true≢false (sym h ∙ ap (λ y. is_seen y ks) ((bytes_eq-Decides x k).0 d) ∙ n))
 other x k ks false d n h = refl
 
-pub or_right : (b c : Bool) → c ≡ true → (b || c) ≡ true
-or_right true c e = refl
-or_right false c e = e
-
 module _ (k : List ℕ) (ks ls : List (List ℕ)) (d : no_repeats (k ∷ ks) ≡ true) (w : Within (k ∷ ks) ls) where
   first : is_seen k ls ≡ true
   first = w k (λ i. (bytes_eq-Decides k k).1 refl i || is_seen k ks)
@@ -55,9 +52,6 @@ module _ (k : List ℕ) (ks ls : List (List ℕ)) (d : no_repeats (k ∷ ks) ≡
 pub within_len : (ks ls : List (List ℕ)) → no_repeats ks ≡ true → Within ks ls → length ks ≤ length ls
 within_len [] ls d w = omega arith
 within_len (k ∷ ks) ls d w = omega (arith, len_remove k ls (first k ks ls d w), within_len ks (remove k ls) (not_and (is_seen k ks) _ d).1 (within_rest k ks ls d w))
-
-or_first : (b c : Bool) → b ≡ true → (b || c) ≡ true
-or_first b c e = λ i. e i || c
 
 back_by : (x k : List ℕ) (ks : List (List ℕ)) (b : Bool) → bytes_eq x k ≡ b → (b ≡ false → is_seen x ks ≡ true) → (b || is_seen x ks) ≡ true
 back_by x k ks true d f = refl

@@ -3,6 +3,7 @@ use Rattle.std.proofs.Common.{◌≡◌, ℕ, suc, ◌≤◌, Bool, true, false,
 use Rattle.std.specs.Prelude.{MatchOption, if◌then◌else◌}
 use Rattle.std.specs.Option.{option_or}
 use Rattle.std.proofs.lemmas.Slice.Eq.{bytes_eq-Decides}
+use Rattle.std.proofs.lemmas.Bool.{or_parts, or_from}
 use Rattle.sj_text_core.specs.Keep.{is_seen}
 use Rattle.sj_text_core.specs.Tree.{Tree, Members, no_members, member, members_len, paired}
 use Rattle.sj_text_core.specs.Agree.{pair_keys}
@@ -10,7 +11,7 @@ use Rattle.sj_text_core.specs.Repeats.{find_member_by}
 use Rattle.sj_text_core.specs.declared.repeats.Repeats.{Repeats}
 use Rattle.sj_text_core.specs.declared.repeats.Repeats.TheVariants.{First, Last}
 use Rattle.sj_object.specs.Texts.{no_repeats}
-use Rattle.sj_object.specs.inner.Texts.{or_of_false, or_false, not_and, bytes_eq-sym}
+use Rattle.sj_object.specs.inner.Texts.{not_and, bytes_eq-sym}
 use Rattle.sj_document.specs.SameWith.{SameIn, value_of_text}
 use Rattle.sj_document.proofs.Subsets.{Within, within_len, within_back}
 use Rattle.sj_lazy.specs.SameMap.{SameTexts}
@@ -35,15 +36,15 @@ last_none (Some u) b t e = cc
 -- a text that counts no member is none of the members'
 missing : (c : Repeats) (k : List ℕ) (ms : Members) → find_member_by c k ms ≡ None → is_seen k (pair_keys (paired ms)) ≡ false
 missing First k no_members e = refl
-missing First k (member l t ms) e = let p = first_none (bytes_eq k l) t (find_member_by First k ms) e in or_of_false _ _ p.0 (missing First k ms p.1)
+missing First k (member l t ms) e = let p = first_none (bytes_eq k l) t (find_member_by First k ms) e in or_from _ _ p.0 (missing First k ms p.1)
 missing Last k no_members e = refl
-missing Last k (member l t ms) e = let p = last_none (find_member_by Last k ms) (bytes_eq k l) t e in or_of_false _ _ p.1 (missing Last k ms p.0)
+missing Last k (member l t ms) e = let p = last_none (find_member_by Last k ms) (bytes_eq k l) t e in or_from _ _ p.1 (missing Last k ms p.0)
 
 absent : (c : Repeats) (k : List ℕ) (ms : Members) → is_seen k (pair_keys (paired ms)) ≡ false → find_member_by c k ms ≡ None
 absent First k no_members e = refl
-absent First k (member l t ms) e = let p = or_false (bytes_eq k l) _ e in (λ i. if p.0 i then Some t else find_member_by First k ms) ∙ absent First k ms p.1
+absent First k (member l t ms) e = let p = or_parts (bytes_eq k l) _ e in (λ i. if p.0 i then Some t else find_member_by First k ms) ∙ absent First k ms p.1
 absent Last k no_members e = refl
-absent Last k (member l t ms) e = let p = or_false (bytes_eq k l) _ e in λ i. option_or (absent Last k ms p.1 i) (if p.0 i then Some t else None)
+absent Last k (member l t ms) e = let p = or_parts (bytes_eq k l) _ e in λ i. option_or (absent Last k ms p.1 i) (if p.0 i then Some t else None)
 
 either : (b : Bool) (P : Type 0) → (b ≡ true → P) → (b ≡ false → P) → P
 either true P f g = f refl
@@ -84,7 +85,7 @@ module _ {L X : Type 0} (text : L → List ℕ) where
   behind : (p : L × X) (qs ps : List (L × X)) → is_seen (text p.0) (names text qs) ≡ false → EachValue qs ps → EachValue qs (p ∷ ps)
   behind p [] ps n h = tt
   behind p (q ∷ qs) ps n h =
-      let r = or_false (bytes_eq (text p.0) (text q.0)) _ n in
+      let r = or_parts (bytes_eq (text p.0) (text q.0)) _ n in
       ((λ i. if bytes_eq-sym (text p.0) (text q.0) r.0 i then Some p.1 else value_of_text text (text q.0) ps) ∙ h.0, behind p qs ps r.1 h.1)
 
   each_value : (ps : List (L × X)) → no_repeats (names text ps) ≡ true → EachValue ps ps

@@ -1,7 +1,7 @@
 -- Lines and their texts.
 use Rattle.std.proofs.Common.{◌≡◌, ℕ, zero, suc, ◌+◌, ◌-◌, ◌<◌, ◌≤◌, Bool, true, false, List, [], ◌∷◌, ◌++◌, length, take, drop, get_or, refl, sym, ap, ◌∙◌, if◌then◌else◌, ◌==◌, arith}
 use Rattle.std.specs.List.{concat}
-use Rattle.std.proofs.lemmas.Bool.{eq-eqb, eqb-true}
+use Rattle.std.proofs.lemmas.Bool.{eq-eqb, eqb-true, false_from_ne_true}
 use Rattle.std.proofs.lemmas.List.{take_more, take_all, drop_all}
 use Rattle.sj_lines.specs.Lines.{onto_line, full_lines, without_end}
 
@@ -17,23 +17,19 @@ pub concat-full_lines : (b : List ℕ) → concat (full_lines b) ≡ b
 concat-full_lines [] = refl
 concat-full_lines (c ∷ b) = concat-first c b (full_lines b) (c == 10) (concat-full_lines b)
 
-is_false : (t : Bool) → (t ≡ true → ⊥) → t ≡ false
-is_false true h = absurd (h refl)
-is_false false h = refl
-
 -- the first line ends with the first line feed
 pub first_line : (k : ℕ) (b : List ℕ) → k < length b → ((j : ℕ) → j < k → (get_or b j 0 == 10) ≡ true → ⊥) → (get_or b k 0 == 10) ≡ true
     → full_lines b ≡ take (suc k) b ∷ full_lines (drop (suc k) b)
 first_line k [] lt before here = absurd (omega (arith, lt))
 first_line zero (c ∷ b) lt before here = λ i. if here i then (c ∷ []) ∷ full_lines b else onto_line c (full_lines b)
 first_line (suc k) (c ∷ b) lt before here =
-    (λ i. if is_false (c == 10) (before 0 (omega arith)) i then (c ∷ []) ∷ full_lines b else onto_line c (full_lines b))
+    (λ i. if false_from_ne_true (c == 10) (before 0 (omega arith)) i then (c ∷ []) ∷ full_lines b else onto_line c (full_lines b))
     ∙ ap (λ ls. onto_line c ls) (first_line k b (omega (arith, lt)) (λ j h. before (suc j) (omega (arith, h))) here)
 
 only_line : (c : ℕ) (b : List ℕ) → ((j : ℕ) → j < length (c ∷ b) → (get_or (c ∷ b) j 0 == 10) ≡ true → ⊥) → full_lines (c ∷ b) ≡ (c ∷ b) ∷ []
-only_line c [] none = λ i. if is_false (c == 10) (none 0 (omega arith)) i then (c ∷ []) ∷ [] else onto_line c []
+only_line c [] none = λ i. if false_from_ne_true (c == 10) (none 0 (omega arith)) i then (c ∷ []) ∷ [] else onto_line c []
 only_line c (d ∷ b) none =
-    (λ i. if is_false (c == 10) (none 0 (omega arith)) i then (c ∷ []) ∷ full_lines (d ∷ b) else onto_line c (full_lines (d ∷ b)))
+    (λ i. if false_from_ne_true (c == 10) (none 0 (omega arith)) i then (c ∷ []) ∷ full_lines (d ∷ b) else onto_line c (full_lines (d ∷ b)))
     ∙ ap (λ ls. onto_line c ls) (only_line d b (λ j h. none (suc j) (omega (arith, h))))
 
 -- without a line feed there is one line
@@ -68,7 +64,7 @@ pub trims : (c n : ℕ) (b : List ℕ) → 0 < n → n ≤ length b → get_or b
 trims c n b some within e = sym (without_last-take c n b true some within (eq-eqb (get_or b (n - 1) 0) c e))
 
 pub stays : (c n : ℕ) (b : List ℕ) → 0 < n → n ≤ length b → (get_or b (n - 1) 0 ≡ c → ⊥) → take n b ≡ without_end c (take n b)
-stays c n b some within e = sym (without_last-take c n b false some within (is_false (get_or b (n - 1) 0 == c) (λ k. e (eqb-true (get_or b (n - 1) 0) c k))))
+stays c n b some within e = sym (without_last-take c n b false some within (false_from_ne_true (get_or b (n - 1) 0 == c) (λ k. e (eqb-true (get_or b (n - 1) 0) c k))))
 
 pub trims-nothing : (c n : ℕ) (b : List ℕ) → n ≤ 0 → take n b ≡ without_end c (take n b)
 trims-nothing c n b h = let k : n ≡ 0 = omega (arith, h) in (λ i. take (k i) b) ∙ sym (λ i. without_end c (take (k i) b))

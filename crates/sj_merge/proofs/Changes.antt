@@ -1,7 +1,8 @@
 -- What a merge patch says of a value of a document.
-use Rattle.std.proofs.Common.{◌≡◌, ℕ, Bool, true, false, List, [], ◌∷◌, Option, Some, None, is_some, option_map, option_and_then, Result, Ok, Err, IfOk, Bor, refl, sym, ap, ◌∙◌, subst, true≢false}
+use Rattle.std.proofs.Common.{◌≡◌, ℕ, Bool, true, false, List, [], ◌∷◌, Option, Some, None, is_some, option_map, option_and_then, Bor, refl, sym, ap, ◌∙◌, subst, true≢false}
 use Rattle.std.specs.Option.{option_copied}
 use Rattle.std.specs.Prelude.{IfSome, IsTrue, ◌↔◌}
+use Rattle.std.proofs.lemmas.Bool.{false_from_ne_true}
 use Rattle.sj_text_core.specs.Tree.{Tree, null, boolean, int, text, list, obj, Members, no_members}
 use Rattle.sj_text_core.specs.Keep.{IsKept, IsSingle, HasSingle}
 use Rattle.sj_text_core.specs.Same.{Same}
@@ -60,17 +61,13 @@ tells_nothing None ns a b e = absurd (true≢false (sym e))
 tells_nothing (Some u) ns a b e = eq_object u ns _ e (λ ms q.
     ap (λ u. merge_patch (Some u) (obj ns)) q ∙ nothing ms ns (subst IsSingle q a) b (subst (λ u. Same u (obj ns)) q ((tree_eq-decides u (obj ns)).0 e)))
 
-not_same : (b : Bool) → (b ≡ true → ⊥) → b ≡ false
-not_same true f = absurd (f refl)
-not_same false f = refl
-
 pub impossible : (old : Option Tree) (ns : Members) → SingleFound old → HasSingle ns → merge_patch old (obj ns) ≡ None → is_same old (obj ns) ≡ false
-impossible old ns a b h = not_same (is_same old (obj ns)) (λ e. some_none (sym (tells_nothing old ns a b e) ∙ h)) where
+impossible old ns a b h = false_from_ne_true (is_same old (obj ns)) (λ e. some_none (sym (tells_nothing old ns a b e) ∙ h)) where
   some_none : Some (obj no_members) ≡ None → ⊥
   some_none q = cc
 
 pub not_empty : (old : Option Tree) (ns ps : Members) → SingleFound old → HasSingle ns → merge_patch old (obj ns) ≡ Some (obj ps) → (ps ≡ no_members → ⊥) → is_same old (obj ns) ≡ false
-not_empty old ns ps a b h n = not_same (is_same old (obj ns)) (λ e. n (inner (sym h ∙ tells_nothing old ns a b e))) where
+not_empty old ns ps a b h n = false_from_ne_true (is_same old (obj ns)) (λ e. n (inner (sym h ∙ tells_nothing old ns a b e))) where
   inner : Some (obj ps) ≡ Some (obj no_members) → ps ≡ no_members
   inner q = cc
 
@@ -108,11 +105,7 @@ pub eq_true : (u w : Tree) (b : Bool) → (IsTrue b ↔ Same u w) → b ≡ true
 eq_true u w b d e = (tree_eq-decides u w).1 (d.0 e)
 
 pub eq_false : (u w : Tree) (b : Bool) → (IsTrue b ↔ Same u w) → b ≡ false → tree_eq u w ≡ false
-eq_false u w b d e = not_same (tree_eq u w) (λ f. true≢false (sym (d.1 ((tree_eq-decides u w).0 f)) ∙ e))
-
-pub if_ok : {A E : Type 0} (r : Result A E) (P Q : A → Type 0) → ((x : A) → P x → Q x) → IfOk r P → IfOk r Q
-if_ok (Ok x) P Q f h = f x h
-if_ok (Err e) P Q f h = tt
+eq_false u w b d e = false_from_ne_true (tree_eq u w) (λ f. true≢false (sym (d.1 ((tree_eq-decides u w).0 f)) ∙ e))
 
 pub some_map : {A B : Type 0} (f : A → B) (o : Option A) → is_some (option_map f o) ≡ is_some o
 some_map f None = refl

@@ -3,9 +3,10 @@ use Rattle.std.proofs.Common.{◌≡◌, ◌<◌, ℕ, zero, suc, true, false, L
 use Rattle.std.specs.Bool.{if◌then◌else◌}
 use Rattle.std.specs.List.{insert, remove, take-map, drop-map}
 use Rattle.std.proofs.lemmas.List.{map-append}
+use Rattle.std.proofs.lemmas.Bool.{or_parts, or_from}
 use Rattle.sj_text_core.specs.Keep.{is_seen}
 use Rattle.sj_object.specs.Texts.{no_repeats}
-use Rattle.sj_object.specs.inner.Texts.{or_false, or_of_false, not_and, not_and_of, bytes_eq-sym}
+use Rattle.sj_object.specs.inner.Texts.{not_and, not_and_of, bytes_eq-sym}
 use Rattle.sj_object.specs.Entries.{Entry, entry_texts, entries_of}
 use Rattle.sj_object.proofs.Hashed.{hashes}
 
@@ -22,10 +23,10 @@ pub inserted : {X A E : Type 0} (xs ys : List X) (i : ℕ) (x : X) (r : Result A
 inserted xs ys i x r a e h = e ∙ (λ j. if is_ok (h j) then insert xs i x else xs)
 
 seen-insert : (x k : List ℕ) (ts : List (List ℕ)) (i : ℕ) → is_seen x ts ≡ false → bytes_eq x k ≡ false → is_seen x (insert ts i k) ≡ false
-seen-insert x k [] zero h e = or_of_false _ _ e refl
-seen-insert x k [] (suc i) h e = or_of_false _ _ e refl
-seen-insert x k (t ∷ ts) zero h e = or_of_false _ _ e h
-seen-insert x k (t ∷ ts) (suc i) h e = let r = or_false (bytes_eq x t) _ h in or_of_false _ _ r.0 (seen-insert x k ts i r.1 e)
+seen-insert x k [] zero h e = or_from _ _ e refl
+seen-insert x k [] (suc i) h e = or_from _ _ e refl
+seen-insert x k (t ∷ ts) zero h e = or_from _ _ e h
+seen-insert x k (t ∷ ts) (suc i) h e = let r = or_parts (bytes_eq x t) _ h in or_from _ _ r.0 (seen-insert x k ts i r.1 e)
 
 pub no_repeats-insert : (k : List ℕ) (ts : List (List ℕ)) (i : ℕ) → no_repeats ts ≡ true → is_seen k ts ≡ false → no_repeats (insert ts i k) ≡ true
 no_repeats-insert k [] zero d h = refl
@@ -33,7 +34,7 @@ no_repeats-insert k [] (suc i) d h = refl
 no_repeats-insert k (t ∷ ts) zero d h = not_and_of _ _ h d
 no_repeats-insert k (t ∷ ts) (suc i) d h =
     let n = not_and (is_seen t ts) _ d in
-    let r = or_false (bytes_eq k t) _ h in
+    let r = or_parts (bytes_eq k t) _ h in
     not_and_of _ _ (seen-insert t k ts i n.0 (bytes_eq-sym k t r.0)) (no_repeats-insert k ts i n.1 r.1)
 
 pub texts-insert : {K V : Type 0} (es : List (Entry K V)) (i : ℕ) (e : Entry K V) → entry_texts (insert es i e) ≡ insert (entry_texts es) i e.0.1

@@ -1,10 +1,11 @@
 -- The objects of maps are kept: no two members have one text.
 use Rattle.std.proofs.Common.{◌≡◌, ℕ, true, false, List, [], ◌∷◌, refl, ap, ◌∙◌, bytes_eq}
 use Rattle.std.specs.Bool.{if◌then◌else◌}
+use Rattle.std.proofs.lemmas.Bool.{or_parts, or_from}
 use Rattle.sj_text_core.specs.Tree.{Tree, list, obj, Items, no_items, item, member}
 use Rattle.sj_text_core.specs.Keep.{is_seen, keep, keep_items, keep_members, IsKept}
 use Rattle.sj_object.specs.Texts.{no_repeats}
-use Rattle.sj_object.specs.inner.Texts.{or_false, or_of_false, not_and, bytes_eq-sym}
+use Rattle.sj_object.specs.inner.Texts.{not_and, bytes_eq-sym}
 use Rattle.sj_object.specs.Entries.{Entry, entry_texts}
 use Rattle.sj_object.specs.HashMap.{Contents}
 use Rattle.sj_object.specs.Members.{entry_members}
@@ -28,8 +29,8 @@ Apart seen (k ∷ ks) = (is_seen k seen ≡ false) × Apart seen ks
 Apart-more : (k : List ℕ) (seen ks : List (List ℕ)) → is_seen k ks ≡ false → Apart seen ks → Apart (k ∷ seen) ks
 Apart-more k seen [] e a = tt
 Apart-more k seen (l ∷ ks) e a =
-    let r = or_false (bytes_eq k l) _ e in
-    (or_of_false _ _ (bytes_eq-sym k l r.0) a.0, Apart-more k seen ks r.1 a.1)
+    let r = or_parts (bytes_eq k l) _ e in
+    (or_from _ _ (bytes_eq-sym k l r.0) a.0, Apart-more k seen ks r.1 a.1)
 
 Apart-none : (ks : List (List ℕ)) → Apart [] ks
 Apart-none [] = tt

@@ -4,8 +4,9 @@ use Rattle.std.specs.List.{position_from, remove}
 use Rattle.std.specs.Bool.{if◌then◌else◌}
 use Rattle.sj_text_core.specs.Keep.{is_seen}
 use Rattle.std.proofs.lemmas.Slice.Eq.{bytes_eq-Decides}
+use Rattle.std.proofs.lemmas.Bool.{or_parts}
 use Rattle.sj_object.specs.Texts.{no_repeats}
-use Rattle.sj_object.specs.inner.Texts.{or_false, not_and}
+use Rattle.sj_object.specs.inner.Texts.{not_and}
 use Rattle.sj_object.specs.Steps.{found_on}
 use Rattle.sj_object.specs.Entries.{Entry, entry_texts, entries_of}
 use Rattle.sj_object.specs.Edits.{lookup, set_value, put_entry, cut_entry, nth_value, set_value_at}
@@ -107,7 +108,7 @@ module _ {K V : Type 0} (t : K → List ℕ) (k : List ℕ) where
   -- what no text is seen in has no pair with it
   pub absent_at : (ps : List (K × V)) → is_seen k (entry_texts (entries_of t ps)) ≡ false → IsAbsent ps
   absent_at [] u = absent_none
-  absent_at (p ∷ ps) u = let r = or_false (test p) _ u in passed p ps r.0 (absent_at ps r.1)
+  absent_at (p ∷ ps) u = let r = or_parts (test p) _ u in passed p ps r.0 (absent_at ps r.1)
 
   found_by : (b : Bool) (o i : ℕ) (p : K × V) (ps : List (K × V)) → test p ≡ b → (if b then Some o else position_from test (o + 1) ps) ≡ Some i
       → (position_from test (o + 1) ps ≡ Some i → (j : ℕ) × ((o + 1 + j ≡ i) × IsFound ps j)) → (j : ℕ) × ((o + j ≡ i) × IsFound (p ∷ ps) j)

@@ -1,21 +1,22 @@
 -- Lists of texts stay without repeats.
 use Rattle.std.proofs.Common.{◌≡◌, ℕ, zero, suc, take, Bool, true, false, List, [], ◌∷◌, ◌++◌, refl, ap, ◌∙◌, bytes_eq}
 use Rattle.std.specs.Bool.{if◌then◌else◌}
+use Rattle.std.proofs.lemmas.Bool.{or_parts, or_from}
 use Rattle.sj_text_core.specs.Keep.{is_seen}
 use Rattle.sj_object.specs.Texts.{no_repeats}
-use Rattle.sj_object.specs.inner.Texts.{or_false, or_of_false, not_and, not_and_of, bytes_eq-sym}
+use Rattle.sj_object.specs.inner.Texts.{not_and, not_and_of, bytes_eq-sym}
 use Rattle.sj_object.specs.Entries.{Entry, entry_texts, entries_of}
 use Rattle.sj_object.specs.Edits.{cut_entry}
 
 is_seen-last : (x k : List ℕ) (ts : List (List ℕ)) → is_seen x ts ≡ false → bytes_eq x k ≡ false → is_seen x (ts ++ k ∷ []) ≡ false
-is_seen-last x k [] h e = or_of_false _ _ e refl
-is_seen-last x k (t ∷ ts) h e = let r = or_false (bytes_eq x t) _ h in or_of_false _ _ r.0 (is_seen-last x k ts r.1 e)
+is_seen-last x k [] h e = or_from _ _ e refl
+is_seen-last x k (t ∷ ts) h e = let r = or_parts (bytes_eq x t) _ h in or_from _ _ r.0 (is_seen-last x k ts r.1 e)
 
 pub no_repeats-last : (k : List ℕ) (ts : List (List ℕ)) → no_repeats ts ≡ true → is_seen k ts ≡ false → no_repeats (ts ++ k ∷ []) ≡ true
 no_repeats-last k [] d h = refl
 no_repeats-last k (t ∷ ts) d h =
     let n = not_and (is_seen t ts) _ d in
-    let r = or_false (bytes_eq k t) _ h in
+    let r = or_parts (bytes_eq k t) _ h in
     not_and_of _ _ (is_seen-last t k ts n.0 (bytes_eq-sym k t r.0)) (no_repeats-last k ts n.1 r.1)
 
 pub texts-append : {K V : Type 0} (es fs : List (Entry K V)) → entry_texts (es ++ fs) ≡ entry_texts es ++ entry_texts fs
@@ -29,7 +30,7 @@ entries_of-append t (p ∷ ps) qs = ap (λ l. ((p.0, t p.0), p.1) ∷ l) (entrie
 is_seen-take : (x : List ℕ) (m : ℕ) (ts : List (List ℕ)) → is_seen x ts ≡ false → is_seen x (take m ts) ≡ false
 is_seen-take x zero ts h = refl
 is_seen-take x (suc m) [] h = refl
-is_seen-take x (suc m) (t ∷ ts) h = let r = or_false (bytes_eq x t) _ h in or_of_false _ _ r.0 (is_seen-take x m ts r.1)
+is_seen-take x (suc m) (t ∷ ts) h = let r = or_parts (bytes_eq x t) _ h in or_from _ _ r.0 (is_seen-take x m ts r.1)
 
 pub no_repeats-take : (m : ℕ) (ts : List (List ℕ)) → no_repeats ts ≡ true → no_repeats (take m ts) ≡ true
 no_repeats-take zero ts d = refl
@@ -52,12 +53,12 @@ no_repeats-push t ps qs false k v d h e = ap (λ l. no_repeats (entry_texts (ent
 
 module _ {K V : Type 0} (k : List ℕ) where
   is_seen-cut_by : (b : Bool) (x : List ℕ) (e : Entry K V) (es : List (Entry K V)) → is_seen x (entry_texts (e ∷ es)) ≡ false → is_seen x (entry_texts (cut_entry k es)) ≡ false → is_seen x (entry_texts (if b then es else e ∷ cut_entry k es)) ≡ false
-  is_seen-cut_by true x e es h m = (or_false (bytes_eq x e.0.1) _ h).1
-  is_seen-cut_by false x e es h m = or_of_false _ _ (or_false (bytes_eq x e.0.1) _ h).0 m
+  is_seen-cut_by true x e es h m = (or_parts (bytes_eq x e.0.1) _ h).1
+  is_seen-cut_by false x e es h m = or_from _ _ (or_parts (bytes_eq x e.0.1) _ h).0 m
 
   is_seen-cut : (x : List ℕ) (es : List (Entry K V)) → is_seen x (entry_texts es) ≡ false → is_seen x (entry_texts (cut_entry k es)) ≡ false
   is_seen-cut x [] h = h
-  is_seen-cut x (e ∷ es) h = is_seen-cut_by (bytes_eq k e.0.1) x e es h (is_seen-cut x es (or_false (bytes_eq x e.0.1) _ h).1)
+  is_seen-cut x (e ∷ es) h = is_seen-cut_by (bytes_eq k e.0.1) x e es h (is_seen-cut x es (or_parts (bytes_eq x e.0.1) _ h).1)
 
   no_repeats-cut_by : (b : Bool) (e : Entry K V) (es : List (Entry K V)) → no_repeats (entry_texts (e ∷ es)) ≡ true → no_repeats (entry_texts (cut_entry k es)) ≡ true → no_repeats (entry_texts (if b then es else e ∷ cut_entry k es)) ≡ true
   no_repeats-cut_by true e es d m = (not_and (is_seen e.0.1 (entry_texts es)) _ d).1

@@ -1,9 +1,10 @@
 -- Members put back that were taken out one after another.
-use Rattle.std.proofs.Common.{◌≡◌, ◌<◌, ◌≤◌, ℕ, Bool, true, false, not, ◌&&◌, nat_lt, nat_le, List, [], ◌∷◌, ◌++◌, length, refl, sym, ap, ◌∙◌, subst, arith}
+use Rattle.std.proofs.Common.{◌≡◌, ◌<◌, ◌≤◌, ℕ, Bool, true, false, nat_lt, nat_le, List, [], ◌∷◌, ◌++◌, length, refl, sym, ap, ◌∙◌, subst, arith}
 use Rattle.std.specs.Bool.{if◌then◌else◌}
 use Rattle.std.specs.List.{insert}
 use Rattle.std.proofs.lemmas.Bool.Decides.{nat_tests}
 use Rattle.std.proofs.lemmas.List.Edits.{length-insert}
+use Rattle.std.proofs.lemmas.Bool.{not-true, and_parts}
 use Rattle.sj_text_core.specs.Keep.{is_seen}
 use Rattle.sj_object.specs.Texts.{no_repeats}
 use Rattle.sj_object.specs.Entries.{Entry, entry_texts, entries_of}
@@ -11,14 +12,6 @@ use Rattle.sj_object.specs.Rooms.{takes, restored, restored_all}
 use Rattle.sj_object.proofs.Position.{is_some-lookup}
 use Rattle.sj_object.proofs.Hashed.{entries-length}
 use Rattle.sj_object.proofs.Inserted.{no_repeats-insert, texts-insert, entries-insert}
-
-both : (a b : Bool) → a && b ≡ true → (a ≡ true) × (b ≡ true)
-both true b e = (refl, e)
-both false b e = cc
-
-none : (b : Bool) → not b ≡ true → b ≡ false
-none false e = refl
-none true e = cc
 
 module _ {K V : Type 0} (n i : ℕ) (k : List ℕ) (es : List (Entry K V)) where
   -- what is known where one is taken
@@ -29,12 +22,12 @@ module _ {K V : Type 0} (n i : ℕ) (k : List ℕ) (es : List (Entry K V)) where
 
   taken : takes n i k es ≡ true → IsTaken
   taken e =
-      let a = both _ _ e in
-      let b = both (nat_lt (length es) n) (nat_le i (length es)) a.0 in
+      let a = and_parts _ _ e in
+      let b = and_parts (nat_lt (length es) n) (nat_le i (length es)) a.0 in
       record {
         few = grind (arith, nat_tests);
         within = grind (arith, nat_tests);
-        unseen = sym (is_some-lookup k es) ∙ none _ a.1;
+        unseen = sym (is_some-lookup k es) ∙ not-true _ a.1;
       }
 
 module _ {K V : Type 0} (n i : ℕ) (q : K × List ℕ) (v : V) (es : List (Entry K V)) where

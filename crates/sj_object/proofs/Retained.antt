@@ -3,9 +3,10 @@ use Rattle.std.proofs.Common.{◌≡◌, ◌≤◌, ℕ, ◌+◌, Bool, true, fa
 use Rattle.std.specs.Bool.{if◌then◌else◌}
 use Rattle.std.proofs.lemmas.List.{append_assoc, append-nil}
 use Rattle.std.specs.Map.Calls.{RetainsPairs}
+use Rattle.std.proofs.lemmas.Bool.{or_parts, or_from}
 use Rattle.sj_text_core.specs.Keep.{is_seen}
 use Rattle.sj_object.specs.Texts.{no_repeats}
-use Rattle.sj_object.specs.inner.Texts.{or_false, or_of_false, not_and, not_and_of}
+use Rattle.sj_object.specs.inner.Texts.{not_and, not_and_of}
 use Rattle.sj_object.specs.Entries.{entry_texts, entries_of}
 use Rattle.sj_object.proofs.Hashed.{hashes}
 
@@ -67,9 +68,9 @@ module _ {F K V : Type 0} (T : F → K → V → Bool → V → F → Type 0) wh
 module _ {F K V : Type 0} (T : F → K → V → Bool → V → F → Type 0) (t : K → List ℕ) where
   retained_unseen : (k : List ℕ) (f : F) (ps qs : List (K × V)) → RetainsPairs T f ps qs → is_seen k (entry_texts (entries_of t ps)) ≡ false → is_seen k (entry_texts (entries_of t qs)) ≡ false
   retained_unseen k f [] qs r u = ap (λ l. is_seen k (entry_texts (entries_of t l))) r
-  retained_unseen k f (p ∷ ps) qs (b, w, g, rest, s, more, e) u = let parts = or_false (bytes_eq k (t p.0)) _ u in at b e parts.0 (retained_unseen k g ps rest more parts.1) where
+  retained_unseen k f (p ∷ ps) qs (b, w, g, rest, s, more, e) u = let parts = or_parts (bytes_eq k (t p.0)) _ u in at b e parts.0 (retained_unseen k g ps rest more parts.1) where
     at : (c : Bool) → qs ≡ cond c ((p.0, w) ∷ rest) rest → bytes_eq k (t p.0) ≡ false → is_seen k (entry_texts (entries_of t rest)) ≡ false → is_seen k (entry_texts (entries_of t qs)) ≡ false
-    at true e n unseen = ap (λ l. is_seen k (entry_texts (entries_of t l))) e ∙ or_of_false _ _ n unseen
+    at true e n unseen = ap (λ l. is_seen k (entry_texts (entries_of t l))) e ∙ or_from _ _ n unseen
     at false e n unseen = ap (λ l. is_seen k (entry_texts (entries_of t l))) e ∙ unseen
 
   -- no two keys that are kept have one text

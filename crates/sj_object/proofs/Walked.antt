@@ -5,8 +5,8 @@ use Rattle.std.proofs.Math.Seq.{drop-cons}
 use Rattle.std.proofs.lemmas.Bool.Decides.{nat_tests}
 use Rattle.std.proofs.lemmas.List.{drop_all}
 use Rattle.std.proofs.lemmas.List.Sums.{sum_by-drop_more}
+use Rattle.std.proofs.lemmas.Bool.{or_from}
 use Rattle.sj_text_core.specs.Keep.{is_seen}
-use Rattle.sj_object.specs.inner.Texts.{or_of_false}
 use Rattle.sj_object.specs.Chains.{is_in_bucket, last_below}
 use Rattle.sj_object.proofs.Chains.{last_le, last_again, place_in}
 
@@ -32,7 +32,7 @@ count_out : (n b : ℕ) (hs : List ℕ) (i : ℕ) → i < length hs → is_in_bu
 count_out n b hs i l e = let h : count n b hs i ≡ 0 + count n b hs (suc i) = count_at false n b hs i l e in omega arith
 
 unseen_at : (k : List ℕ) (ts : List (List ℕ)) (i : ℕ) → i < length ts → bytes_eq k (get_or ts i []) ≡ false → is_seen k (drop (suc i) ts) ≡ false → is_seen k (drop i ts) ≡ false
-unseen_at k ts i l e u = ap (is_seen k) (drop-cons ts i [] l) ∙ or_of_false (bytes_eq k (get_or ts i [])) (is_seen k (drop (suc i) ts)) e u
+unseen_at k ts i l e u = ap (is_seen k) (drop-cons ts i [] l) ∙ or_from (bytes_eq k (get_or ts i [])) (is_seen k (drop (suc i) ts)) e u
 
 module _ (n x : ℕ) (k : List ℕ) (hs : List ℕ) (ts : List (List ℕ)) (a : Agrees x k hs ts) where
   abbrev b : ℕ

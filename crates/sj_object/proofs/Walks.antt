@@ -1,17 +1,18 @@
 -- Members put one after another, in the order of a map.
 use Rattle.std.proofs.Common.{◌≡◌, ℕ, true, false, ◌||◌, List, [], ◌∷◌, ◌++◌, refl, sym, ap, ◌∙◌, append_assoc, append-nil, bytes_eq}
 use Rattle.std.specs.Bool.{if◌then◌else◌}
+use Rattle.std.proofs.lemmas.Bool.{or_parts}
 use Rattle.sj_text_core.specs.Tree.{Tree, Members, member}
 use Rattle.sj_text_core.specs.Edits as members
 use Rattle.sj_text_core.specs.Keep.{is_seen}
 use Rattle.sj_object.specs.Texts.{no_repeats}
-use Rattle.sj_object.specs.inner.Texts.{or_false, not_and, bytes_eq-sym}
+use Rattle.sj_object.specs.inner.Texts.{not_and, bytes_eq-sym}
 use Rattle.sj_object.specs.Entries.{Entry, entry_texts}
 use Rattle.sj_object.specs.Members.{entry_members}
 
 unseen_at : {K V : Type 0} (x : List ℕ) (ds : List (Entry K V)) (e : Entry K V) (es : List (Entry K V)) → is_seen x (entry_texts (ds ++ e ∷ es)) ≡ false → bytes_eq x e.0.1 ≡ false
-unseen_at x [] e es h = (or_false (bytes_eq x e.0.1) _ h).0
-unseen_at x (d ∷ ds) e es h = unseen_at x ds e es (or_false (bytes_eq x d.0.1) _ h).1
+unseen_at x [] e es h = (or_parts (bytes_eq x e.0.1) _ h).0
+unseen_at x (d ∷ ds) e es h = unseen_at x ds e es (or_parts (bytes_eq x d.0.1) _ h).1
 
 -- where no text stands twice, that of an entry is none before it
 unseen_before : {K V : Type 0} (ds : List (Entry K V)) (e : Entry K V) (es : List (Entry K V)) → no_repeats (entry_texts (ds ++ e ∷ es)) ≡ true → is_seen e.0.1 (entry_texts ds) ≡ false
@@ -31,7 +32,7 @@ module _ {K V : Type 0} (tree : V → Tree) where
   put_last : (ds : List (Entry K V)) (e : Entry K V) → is_seen e.0.1 (entry_texts ds) ≡ false → members.put e.0.1 (tree e.1) (all ds) ≡ all (ds ++ e ∷ [])
   put_last [] e h = refl
   put_last (d ∷ ds) e h =
-      let r = or_false (bytes_eq e.0.1 d.0.1) _ h in
+      let r = or_parts (bytes_eq e.0.1 d.0.1) _ h in
       (λ i. if r.0 i then member d.0.1 (tree e.1) (all ds) else member d.0.1 (tree d.1) (members.put e.0.1 (tree e.1) (all ds))) ∙ ap (member d.0.1 (tree d.1)) (put_last ds e r.1)
 
   put_all-onto : (ds es : List (Entry K V)) → no_repeats (entry_texts (ds ++ es)) ≡ true → put_all (all ds) es ≡ all (ds ++ es)

@@ -1,10 +1,11 @@
 -- What the calls of a map answer and leave, on its entries.
 use Rattle.std.specs.Prelude.{◌≡◌, ◌≤◌, ◌+◌, ℕ, zero, suc, Bool, true, false, if◌then◌else◌, List, [], ◌∷◌, length, Option, Some, None, option_map, refl, bytes_eq}
 use Rattle.std.proofs.Common.{arith}
+use Rattle.std.proofs.lemmas.Bool.{or_parts, or_from}
 use mathlib.Core.Path.{ap, ◌∙◌, sym, subst}
 use Rattle.sj_text_core.specs.Keep.{is_seen}
 use Rattle.sj_object.specs.Texts.{no_repeats}
-use Rattle.sj_object.specs.inner.Texts.{or_false, or_of_false, not_and, not_and_of, bytes_eq-sym}
+use Rattle.sj_object.specs.inner.Texts.{not_and, not_and_of, bytes_eq-sym}
 use Rattle.sj_object.specs.Entries.{Entry, entry_texts}
 use Rattle.sj_object.specs.HashMap.{Contents}
 use Rattle.sj_object.specs.Index.{buckets_for, HasRoom, HasRoom-more}
@@ -84,11 +85,11 @@ module _ {K V : Type 0} where
     by_test false h = omega (arith, h)
 
   unseen-put : (x : List ℕ) (q : K × List ℕ) (w : V) (es : List (Entry K V)) → bytes_eq x q.1 ≡ false → is_seen x (entry_texts es) ≡ false → is_seen x (entry_texts (put_entry q w es)) ≡ false
-  unseen-put x q w [] n u = or_of_false _ _ n refl
-  unseen-put x q w (e ∷ es) n u = let r = or_false (bytes_eq x e.0.1) _ u in by_test (bytes_eq q.1 e.0.1) r.0 (unseen-put x q w es n r.1) where
+  unseen-put x q w [] n u = or_from _ _ n refl
+  unseen-put x q w (e ∷ es) n u = let r = or_parts (bytes_eq x e.0.1) _ u in by_test (bytes_eq q.1 e.0.1) r.0 (unseen-put x q w es n r.1) where
     by_test : (b : Bool) → bytes_eq x e.0.1 ≡ false → is_seen x (entry_texts (put_entry q w es)) ≡ false → is_seen x (entry_texts (if b then (e.0, w) ∷ es else e ∷ put_entry q w es)) ≡ false
     by_test true r m = u
-    by_test false r m = or_of_false _ _ r m
+    by_test false r m = or_from _ _ r m
 
   pub no_repeats-put : (q : K × List ℕ) (w : V) (es : List (Entry K V)) → no_repeats (entry_texts es) ≡ true → no_repeats (entry_texts (put_entry q w es)) ≡ true
   no_repeats-put q w [] d = refl

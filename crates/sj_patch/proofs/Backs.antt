@@ -3,11 +3,12 @@ use Rattle.std.proofs.Common.{◌≡◌, ◌<◌, ◌≤◌, ◌&&◌, ℕ, zero
 use Rattle.std.specs.Option.{is_some}
 use Rattle.std.specs.List.{insert}
 use Rattle.std.proofs.lemmas.Bool.Decides.{nat_tests}
+use Rattle.std.proofs.lemmas.Bool.{or_parts, or_from}
 use Rattle.sj_text_core.specs.Tree.{Tree, Items, no_items, item, items_len, member, members_len}
 use Rattle.sj_text_core.specs.Find.{find_member, nth_item}
 use Rattle.sj_text_core.specs.Keep.{is_seen}
 use Rattle.sj_object.specs.Texts.{no_repeats}
-use Rattle.sj_object.specs.inner.Texts.{or_false, or_of_false, not_and, bytes_eq-sym}
+use Rattle.sj_object.specs.inner.Texts.{not_and, bytes_eq-sym}
 use Rattle.sj_object.specs.Entries.{Entry, entry_texts}
 use Rattle.sj_object.proofs.Position.{none_where_unseen}
 use Rattle.sj_object.proofs.Shown.{lookup-entry_members}
@@ -68,13 +69,13 @@ and_false true = refl
 and_false false = refl
 
 unseen-insert : (k x : List ℕ) (ts : List (List ℕ)) (i : ℕ) → is_seen x (insert ts i k) ≡ false → (is_seen x ts ≡ false) × (bytes_eq x k ≡ false)
-unseen-insert k x [] zero h = (refl, (or_false (bytes_eq x k) false h).0)
-unseen-insert k x [] (suc i) h = (refl, (or_false (bytes_eq x k) false h).0)
-unseen-insert k x (t ∷ ts) zero h = let r = or_false (bytes_eq x k) _ h in (r.1, r.0)
+unseen-insert k x [] zero h = (refl, (or_parts (bytes_eq x k) false h).0)
+unseen-insert k x [] (suc i) h = (refl, (or_parts (bytes_eq x k) false h).0)
+unseen-insert k x (t ∷ ts) zero h = let r = or_parts (bytes_eq x k) _ h in (r.1, r.0)
 unseen-insert k x (t ∷ ts) (suc i) h =
-    let r = or_false (bytes_eq x t) _ h in
+    let r = or_parts (bytes_eq x t) _ h in
     let s = unseen-insert k x ts i r.1 in
-    (or_of_false _ _ r.0 s.0, s.1)
+    (or_from _ _ r.0 s.0, s.1)
 
 -- where no text stands twice, one that was put was not there
 new-insert : (k : List ℕ) (ts : List (List ℕ)) (i : ℕ) → no_repeats (insert ts i k) ≡ true → is_seen k ts ≡ false
@@ -82,7 +83,7 @@ new-insert k [] i d = refl
 new-insert k (t ∷ ts) zero d = (not_and (is_seen k (t ∷ ts)) _ d).0
 new-insert k (t ∷ ts) (suc i) d =
     let n = not_and (is_seen t (insert ts i k)) _ d in
-    or_of_false _ _ (bytes_eq-sym t k (unseen-insert k t ts i n.0).1) (new-insert k ts i n.1)
+    or_from _ _ (bytes_eq-sym t k (unseen-insert k t ts i n.0).1) (new-insert k ts i n.1)
 
 module _ {K V : Type 0} where
   texts-inserted : (es : List (Entry K V)) (i : ℕ) (e : Entry K V) → entry_texts (insert es i e) ≡ insert (entry_texts es) i e.0.1

@@ -1,11 +1,8 @@
 -- Lists of tokens that begin with others.
 use Rattle.std.proofs.Common.{◌≡◌, ◌↔◌, ◌&&◌, ℕ, Bool, true, false, IsTrue, List, [], ◌∷◌, ◌++◌, bytes_eq, refl, sym, ap, ◌∙◌, true≢false}
 use Rattle.std.proofs.lemmas.Slice.Eq.{bytes_eq-Decides}
+use Rattle.std.proofs.lemmas.Bool.{and_parts}
 use Rattle.sj_patch.specs.Patch.{begins}
-
-both : (a b : Bool) → a && b ≡ true → (a ≡ true) × (b ≡ true)
-both true b h = (refl, h)
-both false b h = absurd (true≢false (sym h))
 
 begins-front : (ks rest : List (List ℕ)) → begins ks (ks ++ rest) ≡ true
 begins-front [] rest = refl
@@ -15,7 +12,7 @@ begins-rest : (ks ls : List (List ℕ)) → begins ks ls ≡ true → (rest : Li
 begins-rest [] ls h = (ls, refl)
 begins-rest (k ∷ ks) [] h = absurd (true≢false (sym h))
 begins-rest (k ∷ ks) (l ∷ ls) h =
-    let parts = both (bytes_eq k l) (begins ks ls) h in
+    let parts = and_parts (bytes_eq k l) (begins ks ls) h in
     let same : k ≡ l = (bytes_eq-Decides k l).0 parts.0 in
     let further = begins-rest ks ls parts.1 in
     (further.0, (λ j. sym same j ∷ further.1 j))

@@ -2,6 +2,7 @@
 use Rattle.std.proofs.Common.{◌≡◌, ℕ, ◌&&◌, Bool, true, false, List, [], ◌∷◌, ◌++◌, Option, Some, None, option_and_then, Result, Ok, Err, if◌then◌else◌, refl, sym, ap, ◌∙◌}
 use Rattle.std.proofs.lemmas.List.{map-append}
 use Rattle.std.proofs.lemmas.Slice.Eq.{bytes_eq-Decides}
+use Rattle.std.proofs.lemmas.Option.{same_Some}
 use Rattle.sj_text_core.specs.Tree.{Tree}
 use Rattle.sj_text_core.specs.Equal.{tree_eq}
 use Rattle.sj_text_core.specs.Paths.{by_token, set_found, change_found, tree_at, set_at}
@@ -16,9 +17,6 @@ use Rattle.sj_text_core.specs.declared.patch_fault.OperationFault.TheVariants.{D
 -- the tree with w at ks
 abbrev pub back : List (List ℕ) → Tree → Tree → Result Tree OperationFault
 back ks t w = Ok (set_pointed ks w t)
-
-some_is : (t u : Tree) → Some t ≡ Some u → t ≡ u
-some_is t u e = cc
 
 -- pointers in two parts
 pub pointed-join : (ks ls : List (List ℕ)) (t u : Tree) → pointed ks t ≡ Some u → pointed (ks ++ ls) t ≡ pointed ls u
@@ -60,7 +58,7 @@ module _ (f : List ℕ → Tree → Result Tree OperationFault) (k : List ℕ) (
 
   -- a change below ks is one of what they find
   below : (ks : List (List ℕ)) (t : Tree) → pointed ks t ≡ Some u → at_tokens f (ks ++ k ∷ p) t ≡ onwards (within f k p u) (back ks t)
-  below [] t e = ap (within f k p) (some_is t u e) ∙ sym (onwards-Ok (within f k p u))
+  below [] t e = ap (within f k p) (same_Some t u e) ∙ sym (onwards-Ok (within f k p u))
   below (l ∷ []) t e = below_by l [] t (token_into First l t) refl e (λ x g. below [] x g)
   below (l ∷ m ∷ ks) t e = below_by l (m ∷ ks) t (token_into First l t) refl e (λ x g. below (m ∷ ks) x g)
 

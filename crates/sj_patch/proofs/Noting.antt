@@ -1,5 +1,5 @@
 -- What is noted in turn.
-use Rattle.std.proofs.Common.{◌≡◌, ℕ, List, [], ◌∷◌, ◌++◌, map, append_assoc, append-nil, Result, Ok, Err, OnOk, refl, sym, ap, ◌∙◌, subst}
+use Rattle.std.proofs.Common.{◌≡◌, ℕ, List, [], ◌∷◌, ◌++◌, map, append_assoc, append-nil, refl, sym, ap, ◌∙◌, subst}
 use Rattle.std.proofs.lemmas.List.{map-append}
 use Rattle.sj_text_core.specs.Tree.{Tree, obj}
 use Rattle.sj_text_core.specs.Same.{Same}
@@ -90,8 +90,3 @@ notes-there p q x k before after t u v e f h = subst (λ s. Notes s before after
 -- more operations, all of them known
 pub noted-more : (p q : List (List ℕ)) (before middle after ops more all : List PlainOperation) → middle ≡ before ++ map (under p) ops → q ≡ p → after ≡ middle ++ map (under q) more → all ≡ ops ++ more → after ≡ before ++ map (under p) all
 noted-more p q before middle after ops more all h e n f = n ∙ (λ i. h i ++ map (under (e i)) more) ∙ append_assoc before (map (under p) ops) (map (under p) more) ∙ ap (λ x. before ++ x) (sym (map-append (under p) ops more)) ∙ ap (λ x. before ++ map (under p) x) (sym f)
-
--- what follows of the value of a result
-pub on-ok : {A E P Q : Type 0} (r : Result A E) → (P → Q) → OnOk r P → OnOk r Q
-on-ok (Ok x) f h = f h
-on-ok (Err e) f h = tt

@@ -3,6 +3,7 @@ use Rattle.std.proofs.Common.{◌≡◌, ◌<◌, ◌≤◌, ℕ, suc, Bool, tru
 use Rattle.std.specs.Option.{IsSome, is_some}
 use Rattle.std.proofs.Math.Seq.{drop-cons, take-suc}
 use Rattle.std.proofs.lemmas.List.{map-append}
+use Rattle.std.proofs.lemmas.Option.{same_Some}
 use Rattle.sj_text_core.specs.Tree.{Tree, null, boolean, int, text, list, obj, Members, no_members, member}
 use Rattle.sj_text_core.specs.Edits.{put}
 use Rattle.sj_text_core.specs.Reads.{as_members}
@@ -16,9 +17,6 @@ use Rattle.sj_pointer.specs.Pointed.{token_into, pointed, set_pointed}
 use Rattle.sj_path.proofs.Ways.{set_further}
 use Rattle.sj_path.specs.Made.{nested, member_added, set_within, set_made}
 use Rattle.sj_path.specs.inner.Made.{IsEndOf}
-
-pub some_is : (t u : Tree) → Some t ≡ Some u → t ≡ u
-some_is t u e = cc
 
 -- where tokens find something, it is set
 found_by : (o : Option Tree) (k : List ℕ) (ks : List (List ℕ)) (u x t : Tree) → token_into First k t ≡ o → option_and_then (pointed ks) o ≡ Some x → ((v : Tree) → pointed ks v ≡ Some x → set_made ks u v ≡ Some (set_pointed ks u v))
@@ -49,7 +47,7 @@ below_by (Some v) q p k r u x t e f ih =
 
 pub made_below : (p : List (List ℕ)) (k : List ℕ) (r : List (List ℕ)) (u x t : Tree) → pointed p t ≡ Some x → token_into First k x ≡ None → set_made (p ++ k ∷ r) u t ≡ option_map (λ w. set_pointed p w t) (member_added k (nested r u) x)
 made_below [] k r u x t e n =
-    ap (set_made (k ∷ r) u) (some_is t x e) ∙ ap (λ o. set_within o k (set_made r u) (nested r u) x) n ∙ itself (member_added k (nested r u) x)
+    ap (set_made (k ∷ r) u) (same_Some t x e) ∙ ap (λ o. set_within o k (set_made r u) (nested r u) x) n ∙ itself (member_added k (nested r u) x)
 made_below (q ∷ p) k r u x t e n = below_by (token_into First q t) q p k r u x t refl e (λ v f. made_below p k r u x v f n)
 
 module _ (k : List ℕ) (u : Tree) where

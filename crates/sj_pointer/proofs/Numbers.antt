@@ -1,9 +1,9 @@
 -- Numbers as digits write them.
 use Rattle.std.proofs.Common.{◌≡◌, ◌≤◌, ◌<◌, ◌+◌, ◌-◌, ◌*◌, ◌^◌, ◌&&◌, ℕ, Bool, true, false, nat_lt, List, [], ◌∷◌, length, get_or, drop, fold, Some, None, if◌then◌else◌, refl, sym, ap, ◌∙◌, arith}
-use Rattle.std.proofs.lemmas.Bool.Decides.{nat_tests}
 use Rattle.std.proofs.lemmas.List.{at_drop_more, at_drop_all}
 use Rattle.std.specs.Char.{is_ascii_digit}
 use Rattle.std.specs.List.{list_all}
+use Rattle.std.proofs.lemmas.Bool.{lt-ltb, le-ltb}
 use Rattle.sj_text_core.specs.Grammar.{value_of}
 
 -- the number that more digits make of n
@@ -18,12 +18,6 @@ more_is_more n (c ∷ s) = omega (arith, more_is_more (n * 10 + (c - 48)) s)
 pub more_by_one : (s : List ℕ) (i n : ℕ) → i < length s → more n (drop i s) ≡ more (n * 10 + (get_or s i 0 - 48)) (drop (i + 1) s)
 more_by_one s i n h = at_drop_more (more n) s i 0 h
 
-not_below : (n m : ℕ) → m ≤ n → nat_lt n m ≡ false
-not_below n m h = grind (arith, nat_tests)
-
-below : (n m : ℕ) → n < m → nat_lt n m ≡ true
-below n m h = grind (arith, nat_tests)
-
 none_by : (a : Bool) (n : ℕ) → nat_lt n (2 ^ 64) ≡ false → None ≡ (if a && nat_lt n (2 ^ 64) then Some n else None)
 none_by true n e = ap (λ b. if b then Some n else None) (sym e)
 none_by false n e = refl
@@ -32,10 +26,10 @@ none_by false n e = refl
 pub past : (s : List ℕ) (i n : ℕ) → i < length s → more n (drop i s) ≡ value_of s → 2 ^ 64 ≤ n * 10 + (get_or s i 0 - 48)
     → None ≡ (if list_all is_ascii_digit s && nat_lt (value_of s) (2 ^ 64) then Some (value_of s) else None)
 past s i n h e f =
-    none_by (list_all is_ascii_digit s) (value_of s) (not_below (value_of s) (2 ^ 64) (omega (arith, f, e, more_by_one s i n h, more_is_more (n * 10 + (get_or s i 0 - 48)) (drop (i + 1) s))))
+    none_by (list_all is_ascii_digit s) (value_of s) (le-ltb (value_of s) (2 ^ 64) (omega (arith, f, e, more_by_one s i n h, more_is_more (n * 10 + (get_or s i 0 - 48)) (drop (i + 1) s))))
 
 some_by : (a : Bool) (n m : ℕ) → a ≡ true → n ≡ m → n < 2 ^ 64 → Some n ≡ (if a && nat_lt m (2 ^ 64) then Some m else None)
-some_by true n m e f h = ap Some f ∙ ap (λ b. if b then Some m else None) (sym (below m (2 ^ 64) (omega (arith, f, h))))
+some_by true n m e f h = ap Some f ∙ ap (λ b. if b then Some m else None) (sym (lt-ltb m (2 ^ 64) (omega (arith, f, h))))
 some_by false n m e f h = cc
 
 -- none are to come

@@ -1,6 +1,6 @@
 -- The steps of the loop that puts a text between quotes.
-use Rattle.std.proofs.Common.{◌≡◌, ℕ, suc, ◌+◌, ◌-◌, ◌<◌, ◌≤◌, Bool, true, false, not, cond, ◌==◌, ◌||◌, List, [], ◌∷◌, ◌++◌, length, take, drop, get_or, flat_map, refl, sym, ap, ◌∙◌, arith, append_assoc, append-nil, drop-drop}
-use Rattle.std.proofs.lemmas.Bool.{or_parts, not-true, eqb-false, ltb-false}
+use Rattle.std.proofs.Common.{◌≡◌, ℕ, suc, ◌+◌, ◌-◌, ◌<◌, ◌≤◌, Bool, true, false, cond, ◌==◌, ◌||◌, List, [], ◌∷◌, ◌++◌, length, take, drop, get_or, flat_map, refl, sym, ap, ◌∙◌, arith, append_assoc, append-nil, drop-drop}
+use Rattle.std.proofs.lemmas.Bool.{or_parts, not-true, eqb-false, ltb-false, not-false}
 use Rattle.std.proofs.lemmas.List.{drop_more, drop_all, get_or-drop, length-drop}
 use Rattle.std.proofs.lemmas.List.Sums.{prefix_len_stops}
 use Rattle.std.proofs.Math.Seq.{take-length}
@@ -47,11 +47,7 @@ stops_at d i stop is within =
     let n = prefix_len is_plain (drop i d) in
     let here : n < length (drop i d) = omega (arith, length-drop i d) in
     let fails : is_plain (get_or d stop 0) ≡ false = ap (λ k. is_plain (get_or d k 0)) is ∙ ap is_plain (sym (get_or-drop i d n 0)) ∙ prefix_len_stops is_plain (drop i d) 0 here in
-    flipped _ fails
-  where
-    flipped : (b : Bool) → not b ≡ false → b ≡ true
-    flipped true e = refl
-    flipped false e = sym e
+    not-false _ fails
 
 -- plain bytes stand for themselves
 pub escaped_all_plain : (d : List ℕ) → prefix_len is_plain d ≡ length d → flat_map escaped d ≡ d

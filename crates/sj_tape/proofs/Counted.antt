@@ -3,6 +3,7 @@ use Rattle.std.proofs.Common.{◌≡◌, ℕ, zero, suc, max, ◌≤◌, arith, 
 use Rattle.std.specs.Option.{option_or}
 use Rattle.std.proofs.lemmas.List.{drop-map}
 use Rattle.std.proofs.lemmas.Slice.Eq.{bytes_eq-Decides}
+use Rattle.std.proofs.lemmas.Bool.{or_from}
 use Rattle.sj_text_core.specs.Tree.{Tree, list, obj, depth, Items, no_items, item, items_len, items_from, listed, Members, no_members, member, members_depth, paired}
 use Rattle.sj_text_core.specs.Find.{find_member}
 use Rattle.sj_text_core.specs.Keep.{is_seen}
@@ -152,16 +153,12 @@ Counted d ms ns ahead = (k : List ℕ) → is_seen k (pair_keys (paired ms)) ≡
 pub counted_none : (d : Repeats) (ms ns : Members) (ahead : List (List ℕ × Tree)) → ahead ≡ paired ms → Counted d ms ns ahead
 counted_none d ms ns ahead e = λ k s n. absurd (true≢false (sym s ∙ ap (λ ps. is_seen k (pair_keys ps)) (sym e) ∙ n))
 
-neither : (b x : Bool) → b ≡ false → x ≡ false → (b || x) ≡ false
-neither true x e f = e
-neither false x e f = f
-
 module _ (d : Repeats) (ms ns : Members) (k : List ℕ) (t : Tree) (ahead rest : List (List ℕ × Tree)) (step : ahead ≡ (k, t) ∷ rest) where
   -- a member behind which its text stands again
   pub counted_again : is_seen k (pair_keys rest) ≡ true → Counted d ms ns ahead → Counted d ms ns rest
   counted_again b h = λ l s n. by_either (bytes_eq l k) _
       (λ e. absurd (true≢false (sym b ∙ ap (λ k. is_seen k (pair_keys rest)) (sym ((bytes_eq-Decides l k).0 e)) ∙ n)))
-      (λ e. h l s (ap (λ ps. is_seen l (pair_keys ps)) step ∙ neither (bytes_eq l k) (is_seen l (pair_keys rest)) e n))
+      (λ e. h l s (ap (λ ps. is_seen l (pair_keys ps)) step ∙ or_from (bytes_eq l k) (is_seen l (pair_keys rest)) e n))
 
   both_some : (x : Tree) (f g : Option Tree) → f ≡ Some t → g ≡ Some x → Same (keep_last t) (by_first d x) → SameFound (option_map keep_last f) (option_map (by_first d) g)
   both_some x f g e i s = subst (λ f. SameFound (option_map keep_last f) (option_map (by_first d) g)) (sym e) (subst (λ g. SameFound (Some (keep_last t)) (option_map (by_first d) g)) (sym i) s)
@@ -174,7 +171,7 @@ module _ (d : Repeats) (ms ns : Members) (k : List ℕ) (t : Tree) (ahead rest :
     pub counted_same : (x : Tree) → find_member_by d k ns ≡ Some x → Same (keep_last t) (by_first d x) → Counted d ms ns ahead → Counted d ms ns rest
     counted_same x f s h = λ l z n. by_either (bytes_eq l k) _
         (λ e. subst (λ l. CountSame d l ms ns) (sym ((bytes_eq-Decides l k).0 e)) (both_some x _ _ mine f s))
-        (λ e. h l z (ap (λ ps. is_seen l (pair_keys ps)) step ∙ neither (bytes_eq l k) (is_seen l (pair_keys rest)) e n))
+        (λ e. h l z (ap (λ ps. is_seen l (pair_keys ps)) step ∙ or_from (bytes_eq l k) (is_seen l (pair_keys rest)) e n))
 
     pub same_last : (x : Tree) → find_member_by d k ns ≡ Some x → SameBy Last d (obj ms) (obj ns) → Same (keep_last t) (by_first d x)
     same_last x f h = subst (λ g. SameFound (Some (keep_last t)) (option_map (by_first d) g)) f (subst (λ f. SameFound (option_map keep_last f) (option_map (by_first d) (find_member_by d k ns))) mine (each_counts d ms ns h k))

@@ -1,5 +1,5 @@
 -- Parts that are read one after the other, as a loop does.
-use Rattle.std.proofs.Common.{◌≡◌, ℕ, zero, suc, ◌+◌, ◌-◌, ◌<◌, Bool, true, false, not, List, [], ◌∷◌, ◌++◌, length, option_map, Some, None, refl, sym, ap, ◌∙◌, arith, append_assoc, append-nil, length-append}
+use Rattle.std.proofs.Common.{◌≡◌, ℕ, zero, suc, ◌+◌, ◌-◌, ◌<◌, Bool, true, false, List, [], ◌∷◌, ◌++◌, length, option_map, Some, None, refl, sym, ap, ◌∙◌, arith, append_assoc, append-nil, length-append}
 use Rattle.sj_text_core.specs.Tree.{Tree, items_len, members_len}
 use Rattle.sj_text_core.specs.Nodes.{Mark, flat, flat_items, flat_members, string}
 use Rattle.sj_text_core.specs.inner.Parse.{Reading, parts_at, separator_at, with_first}
@@ -104,16 +104,6 @@ items_len-from (t ∷ ts) = ap (λ n. suc n) (items_len-from ts)
 pub members_len-from : (ms : List (List ℕ × Tree)) → members_len (members_from ms) ≡ length ms
 members_len-from [] = refl
 members_len-from (m ∷ ms) = ap (λ n. suc n) (members_len-from ms)
-
--- what is false where its negation is true
-pub not-true : (b : Bool) → not b ≡ true → b ≡ false
-not-true true h = sym h
-not-true false h = refl
-
--- what is true where its negation is false
-pub not-false : (b : Bool) → not b ≡ false → b ≡ true
-not-false true h = refl
-not-false false h = sym h
 
 module _ {X : Type 0} (close : ℕ) (read : List ℕ → Reading X) (flats : List X → List Mark) (one : X → List Mark) (law : (xs : List X) (x : X) → flats (xs ++ x ∷ []) ≡ flats xs ++ one x) where
   fuel : (n len : ℕ) → len < n → n - len ≡ suc (n - (len + 1))

@@ -1,6 +1,7 @@
 -- What is read is spelled.
 use Rattle.std.proofs.Common.{◌≡◌, ◌⊎◌, ℕ, zero, suc, ◌+◌, ◌≤◌, Bool, true, false, cond, List, [], ◌∷◌, ◌++◌, length, take, drop, get_or, option_map, Option, Some, None, refl, sym, ap, subst, ◌∙◌, arith, append_assoc, inl, inr, ⊎_elim, codes, ◌==◌, nat_lt, nat_le, ◌&&◌, ◌^◌, ℤ, pos, neg_ℤ, eqb-true}
 use Rattle.std.specs.List.{AllByRecursion, starts_with}
+use Rattle.std.proofs.lemmas.Bool.{and_parts}
 use Rattle.std.proofs.lemmas.Bool.Decides.{nat_tests}
 use Rattle.std.proofs.lemmas.Option.{none-some, same_Some, option_and_then_some, cond_some, some_pair_parts}
 use Rattle.std.proofs.lemmas.List.{take-append-drop}
@@ -184,13 +185,6 @@ text_sound b s r e =
     }
 
 -- words
-and_parts : (a b : Bool) → (a && b) ≡ true → (a ≡ true) × (b ≡ true)
-and_parts true b e = (refl, e)
-and_parts false b e = absurd (false-true e)
-  where
-    false-true : false ≡ true → ⊥
-    false-true h = cc
-
 starts_are : (w b : List ℕ) → starts_with ◌==◌ b w ≡ true → b ≡ w ++ drop (length w) b
 starts_are [] b e = refl
 starts_are (x ∷ w) [] e = absurd (false-true e)

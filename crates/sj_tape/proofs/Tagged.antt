@@ -1,8 +1,8 @@
 -- Look-ups by key that pass members by their tags.
-use Rattle.std.proofs.Common.{◌≡◌, ◌==◌, ◌||◌, ℕ, zero, suc, ◌+◌, ◌<◌, ◌≤◌, Bool, true, false, List, length, take, drop, get_or, bytes_eq, refl, sym, ap, ◌∙◌, arith}
-use Rattle.std.proofs.lemmas.Bool.Decides.{nat_tests}
+use Rattle.std.proofs.Common.{◌≡◌, ◌==◌, ℕ, zero, suc, ◌+◌, ◌<◌, ◌≤◌, Bool, true, false, List, length, take, drop, get_or, bytes_eq, refl, sym, ap, ◌∙◌, arith}
 use Rattle.std.proofs.lemmas.List.{drop_more}
 use Rattle.std.proofs.lemmas.Slice.Eq.{bytes_eq-Decides}
+use Rattle.std.proofs.lemmas.Bool.{eq-eqb, or_parts}
 use Rattle.sj_text_core.specs.Find.{find_member}
 use Rattle.sj_text_core.specs.Repeats.{visited}
 use Rattle.sj_text_core.specs.Tree.{members_len}
@@ -12,15 +12,8 @@ use Rattle.sj_tape.specs.inner.Ahead.{members_at}
 use Rattle.sj_tape.specs.inner.Tags.{AreTags, member_node, key_tag, tag, has_tag}
 use Rattle.sj_tape.proofs.Ahead.{next_at, at_next, find_pass, visit_pass}
 
-same_number : (m n : ℕ) → m ≡ n → (m == n) ≡ true
-same_number m n e = grind (arith, nat_tests)
-
-neither : (x y : Bool) → (x || y) ≡ false → (x ≡ false) × (y ≡ false)
-neither true y e = absurd (let f : true ≡ false = e in cc)
-neither false y e = (refl, e)
-
 other_key : (k key : List ℕ) (u : ℕ) (b : Bool) → bytes_eq k key ≡ b → u ≡ tag key → (u == tag k) ≡ false → b ≡ false
-other_key k key u true d its e = absurd (let f : true ≡ false = sym (same_number u (tag k) (its ∙ ap tag (sym ((bytes_eq-Decides k key).0 d)))) ∙ e in cc)
+other_key k key u true d its e = absurd (let f : true ≡ false = sym (eq-eqb u (tag k) (its ∙ ap tag (sym ((bytes_eq-Decides k key).0 d)))) ∙ e in cc)
 other_key k key u false d its e = refl
 
 -- a look-up from one position on is one from another, where none between has the key
@@ -47,7 +40,7 @@ module _ (ns : List Mark) (k : List ℕ) (tags : List ℕ) (are : AreMembers ns)
         fewer = omega (arith, ap (λ j. visited k (members_at ns (member_node ns j))) here);
       }
   pass_some (suc n) i l e =
-      let both = neither (get_or tags i 0 == tag k) (has_tag (tag k) (take n (drop (i + 1) tags))) (ap (λ ts. has_tag (tag k) (take (suc n) ts)) (sym (drop_more tags i 0 (omega (arith, l)))) ∙ e) in
+      let both = or_parts (get_or tags i 0 == tag k) (has_tag (tag k) (take n (drop (i + 1) tags))) (ap (λ ts. has_tag (tag k) (take (suc n) ts)) (sym (drop_more tags i 0 (omega (arith, l)))) ∙ e) in
       let one = pass_one i (omega (arith, l)) both.0 in
       let others = pass_some n (i + 1) (omega (arith, l)) both.1 in
       let end : i + suc n ≡ i + 1 + n = omega arith in

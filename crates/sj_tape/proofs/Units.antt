@@ -1,9 +1,10 @@
 -- Escapes at a place of the bytes.
-use Rattle.std.proofs.Common.{◌≡◌, ◌≢◌, ◌⊎◌, ℕ, ◌+◌, ◌-◌, ◌*◌, ◌<◌, ◌≤◌, Bool, true, false, List, length, drop, get_or, option_map, option_and_then, Option, Some, None, refl, sym, ap, ◌∙◌, arith, length-drop, ⊎_elim, inl, inr, ◌==◌, ◌&&◌, if◌then◌else◌, nat_lt, Result, Ok, Err, IfOk, OnErr}
+use Rattle.std.proofs.Common.{◌≡◌, ◌≢◌, ◌⊎◌, ℕ, ◌+◌, ◌-◌, ◌*◌, ◌<◌, ◌≤◌, true, false, List, length, drop, get_or, option_map, option_and_then, Option, Some, None, refl, sym, ap, ◌∙◌, arith, length-drop, ⊎_elim, inl, inr, ◌==◌, ◌&&◌, if◌then◌else◌, nat_lt, Result, Ok, Err, IfOk, OnErr}
 use Rattle.std.specs.Char.{digit_value, IsScalar, OutOfScalarRange}
 use Rattle.std.specs.Char.Utf16.{surrogate_pair_char}
 use Rattle.std.proofs.lemmas.Bool.Decides.{nat_tests, eqb_tells}
 use Rattle.std.proofs.lemmas.List.{drop-drop, get_or-drop}
+use Rattle.std.proofs.lemmas.Bool.{eq-eqb, and_right}
 use Rattle.sj_text_core.specs.Grammar.{short_escape}
 use Rattle.sj_text_core.specs.inner.Parse.{unit_at, is_high, is_low, pair_with, pair_at, code_with, code_at, escape_at}
 use Rattle.sj_text_core.specs.declared.error.ErrorKind.{ErrorKind}
@@ -67,9 +68,6 @@ unit_no b at w x y z e f g h i = sym (units b at w x y z e f g h ∙ refused i)
 no_test : (x n : ℕ) → x ≢ n → (x == n) ≡ false
 no_test x n h = ⊎_elim (λ q. absurd (h q.1)) (λ q. q.0) (eqb_tells x n)
 
-is_test : (x n : ℕ) → x ≡ n → (x == n) ≡ true
-is_test x n h = ⊎_elim (λ q. q.0) (λ q. absurd (q.1 h)) (eqb_tells x n)
-
 pairs : (h : ℕ) (b : List ℕ) (at : ℕ) → pair_at h (drop at b) ≡ (if (get_or b at 0 == 92) && (get_or b (at + 1) 0 == 117) then option_and_then (λ low. pair_with h low) (unit_at (drop (at + 2) b)) else None)
 pairs h b at =
     let i = first_at b at in
@@ -77,22 +75,18 @@ pairs h b at =
     let k : drop 2 (drop at b) ≡ drop (at + 2) b = drop-drop 2 at b ∙ ap (λ n. drop n b) (omega arith) in
     λ t. if (i t == 92) && (j t == 117) then option_and_then (λ low. pair_with h low) (unit_at (k t)) else None
 
-false_and : (a c : Bool) → c ≡ false → (a && c) ≡ false
-false_and true c e = e
-false_and false c e = refl
-
 -- no second escape
 pub pair_no_backslash : (h : ℕ) (b : List ℕ) (at : ℕ) → get_or b at 0 ≢ 92 → pair_at h (drop at b) ≡ None
 pair_no_backslash h b at n = pairs h b at ∙ ap (λ t. if t && (get_or b (at + 1) 0 == 117) then option_and_then (λ low. pair_with h low) (unit_at (drop (at + 2) b)) else None) (no_test (get_or b at 0) 92 n)
 
 -- a second escape of another kind
 pub pair_no_u : (h : ℕ) (b : List ℕ) (at : ℕ) → get_or b (at + 1) 0 ≢ 117 → pair_at h (drop at b) ≡ None
-pair_no_u h b at n = pairs h b at ∙ ap (λ t. if t then option_and_then (λ low. pair_with h low) (unit_at (drop (at + 2) b)) else None) (false_and (get_or b at 0 == 92) _ (no_test (get_or b (at + 1) 0) 117 n))
+pair_no_u h b at n = pairs h b at ∙ ap (λ t. if t then option_and_then (λ low. pair_with h low) (unit_at (drop (at + 2) b)) else None) (and_right (get_or b at 0 == 92) _ (no_test (get_or b (at + 1) 0) 117 n))
 
 pair_opened : (h : ℕ) (b : List ℕ) (at u : ℕ) → get_or b at 0 ≡ 92 → get_or b (at + 1) 0 ≡ 117 → Some u ≡ unit_at (drop (at + 2) b) → pair_at h (drop at b) ≡ pair_with h u
 pair_opened h b at u m n e =
     pairs h b at
-    ∙ (λ t. if is_test (get_or b at 0) 92 m t && is_test (get_or b (at + 1) 0) 117 n t then option_and_then (λ low. pair_with h low) (sym e t) else None)
+    ∙ (λ t. if eq-eqb (get_or b at 0) 92 m t && eq-eqb (get_or b (at + 1) 0) 117 n t then option_and_then (λ low. pair_with h low) (sym e t) else None)
 
 -- a second unit that is no low one
 pub pair_not_low : (h : ℕ) (b : List ℕ) (at u : ℕ) → get_or b at 0 ≡ 92 → get_or b (at + 1) 0 ≡ 117 → Some u ≡ unit_at (drop (at + 2) b) → (u < 56320) ⊎ ((56320 ≤ u) × (57344 ≤ u)) → pair_at h (drop at b) ≡ None
@@ -169,7 +163,7 @@ escapes b at =
     λ t. if first_at b at t == 117 then code_at (k t) else option_map {U = ℕ × ℕ} (λ c. (c, 1)) (short_escape (first_at b at t))
 
 escape_u : (b : List ℕ) (at : ℕ) → get_or b at 0 ≡ 117 → escape_at (drop at b) ≡ code_at (drop (at + 1) b)
-escape_u b at e = escapes b at ∙ ap (λ t. if t then code_at (drop (at + 1) b) else option_map {U = ℕ × ℕ} (λ c. (c, 1)) (short_escape (get_or b at 0))) (is_test (get_or b at 0) 117 e)
+escape_u b at e = escapes b at ∙ ap (λ t. if t then code_at (drop (at + 1) b) else option_map {U = ℕ × ℕ} (λ c. (c, 1)) (short_escape (get_or b at 0))) (eq-eqb (get_or b at 0) 117 e)
 
 escape_other : (b : List ℕ) (at : ℕ) → get_or b at 0 ≢ 117 → escape_at (drop at b) ≡ option_map {U = ℕ × ℕ} (λ c. (c, 1)) (short_escape (get_or b at 0))
 escape_other b at e = escapes b at ∙ ap (λ t. if t then code_at (drop (at + 1) b) else option_map {U = ℕ × ℕ} (λ c. (c, 1)) (short_escape (get_or b at 0))) (no_test (get_or b at 0) 117 e)

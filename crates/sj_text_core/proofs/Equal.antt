@@ -1,9 +1,9 @@
 -- The test of sameness decides it, and so it is an equivalence.
-use Rattle.std.proofs.Common.{◌≡◌, ℕ, Bool, true, false, ◌&&◌, ◌||◌, List, [], ◌∷◌, Option, Some, None, is_some, refl, sym, ap, ◌∙◌, subst, bytes_eq, true≢false}
+use Rattle.std.proofs.Common.{◌≡◌, ℕ, Bool, true, false, ◌||◌, List, [], ◌∷◌, Option, Some, None, is_some, refl, sym, ap, ◌∙◌, subst, bytes_eq, true≢false}
 use Rattle.std.specs.Prelude.{MatchBool, MatchOption, if◌then◌else◌}
 use Rattle.std.specs.Bool.{Decides}
 use Rattle.std.specs.Cmp.{IsEquivalence, booleans_Decides, signed_Decides}
-use Rattle.std.proofs.lemmas.Bool.{and_parts}
+use Rattle.std.proofs.lemmas.Bool.{and_parts, and_from, or_from, or_parts}
 use Rattle.std.proofs.lemmas.Slice.Eq.{bytes_eq-Decides}
 use Rattle.sj_text_core.specs.Tree.{Tree, null, boolean, int, text, list, obj, Items, no_items, item, Members, no_members, member}
 use Rattle.sj_text_core.specs.Find.{find_member}
@@ -12,19 +12,9 @@ use Rattle.sj_text_core.specs.Same.{Same, SameItems, SameAt}
 use Rattle.sj_text_core.specs.Equal.{passes, has_all, tree_eq, items_eq, members_eq}
 use Rattle.sj_text_core.proofs.Equality.{same-refl, same-sym, same-trans, none_found_at}
 
-and_of : (a b : Bool) → a ≡ true → b ≡ true → (a && b) ≡ true
-and_of a b e f = λ i. e i && f i
-
 by_or : (a b : Bool) (P : Type 0) → (a || b) ≡ true → a ≡ false → (b ≡ true → P) → P
 by_or true b P e f g = absurd (true≢false f)
 by_or false b P e f g = g e
-
-or_none : (a b : Bool) → a ≡ false → b ≡ false → (a || b) ≡ false
-or_none a b e f = λ i. e i || f i
-
-none_parts : (a b : Bool) → (a || b) ≡ false → (a ≡ false) × (b ≡ false)
-none_parts true b e = absurd (true≢false e)
-none_parts false b e = (refl, e)
 
 -- where no text of the second is missing
 absent_by : (b : Bool) (t : Tree) (r : Option Tree) → (b ≡ true → ⊥) → r ≡ None → (if b then Some t else r) ≡ None
@@ -55,7 +45,7 @@ tail_absent false t r e = e
 absent-has : (ms ns : Members) → ((k : List ℕ) → find_member k ms ≡ None → find_member k ns ≡ None) → has_all ms ns ≡ true
 absent-has ms no_members h = refl
 absent-has ms (member l t ns) h =
-    and_of (is_some (find_member l ms)) (has_all ms ns) (has_by (find_member l ms) (λ e. some_none t (sym (found_head l t ns) ∙ h l e)))
+    and_from (is_some (find_member l ms)) (has_all ms ns) (has_by (find_member l ms) (λ e. some_none t (sym (found_head l t ns) ∙ h l e)))
     (absent-has ms ns (λ k e. tail_absent (bytes_eq k l) t (find_member k ns) (h k e))) where
       some_none : (t : Tree) → Some t ≡ None → ⊥
       some_none t e = cc
@@ -73,7 +63,7 @@ at_by : (k l : List ℕ) (t : Tree) (Q : Type 0) (ns : Members) (seen : List (Li
 at_by k l t Q ns seen true d s h g =
     let same : k ≡ l = (bytes_eq-Decides k l).0 d in
     subst (λ k. MatchOption (find_member k ns) ⊥ (λ u. Same t u)) (sym same) (h (ap (λ x. is_seen x seen) (sym same) ∙ s))
-at_by k l t Q ns seen false d s h g = g (or_none (bytes_eq k l) (is_seen k seen) d s) refl
+at_by k l t Q ns seen false d s h g = g (or_from (bytes_eq k l) (is_seen k seen) d s) refl
 
 head_absent : (b : Bool) (t : Tree) (r : Option Tree) → b ≡ false → r ≡ None → (if b then Some t else r) ≡ None
 head_absent true t r e f = absurd (true≢false e)
@@ -124,7 +114,7 @@ mutual
   same-eq (int n c) (int m d) h = (signed_Decides n m).1 h
   same-eq (list is) (list js) h = same-items_eq is js h
   same-eq (obj ms) (obj ns) h =
-      and_of (members_eq [] ms ns) (has_all ms ns) (at-members_eq [] ms ns (λ k s. h k)) (absent-has ms ns (λ k e. none_found_at k ms (find_member k ns) (h k) e))
+      and_from (members_eq [] ms ns) (has_all ms ns) (at-members_eq [] ms ns (λ k s. h k)) (absent-has ms ns (λ k e. none_found_at k ms (find_member k ns) (h k) e))
   same-eq (int n c) null h = absurd h
   same-eq (int n c) (boolean b) h = absurd h
   same-eq (int n c) (text s) h = absurd h
@@ -144,14 +134,14 @@ mutual
   same-items_eq : (is js : Items) → SameItems is js → items_eq is js ≡ true
   same-items_eq no_items js h = subst (λ js. items_eq no_items js ≡ true) (sym h) refl
   same-items_eq (item t is) no_items h = absurd h
-  same-items_eq (item t is) (item u js) h = and_of (tree_eq t u) (items_eq is js) (same-eq t u h.0) (same-items_eq is js h.1)
+  same-items_eq (item t is) (item u js) h = and_from (tree_eq t u) (items_eq is js) (same-eq t u h.0) (same-items_eq is js h.1)
 
   at-members_eq : (seen : List (List ℕ)) (ms ns : Members) → ((k : List ℕ) → is_seen k seen ≡ false → SameAt k ms (find_member k ns)) → members_eq seen ms ns ≡ true
   at-members_eq seen no_members ns h = refl
   at-members_eq seen (member l t ms) ns h =
-      and_of (is_seen l seen || passes (find_member l ns) (λ u. tree_eq t u)) (members_eq (l ∷ seen) ms ns)
+      and_from (is_seen l seen || passes (find_member l ns) (λ u. tree_eq t u)) (members_eq (l ∷ seen) ms ns)
       (seen_or (is_seen l seen) (passes (find_member l ns) (λ u. tree_eq t u)) (λ s. some-passes (find_member l ns) (λ u. tree_eq t u) (λ u. Same t u) (λ u g. same-eq t u g) (own l t ms ns (h l s))))
-      (at-members_eq (l ∷ seen) ms ns (λ k s. let p = none_parts (bytes_eq k l) (is_seen k seen) s in later (bytes_eq k l) _ (SameAt k ms (find_member k ns)) p.0 (h k p.1)))
+      (at-members_eq (l ∷ seen) ms ns (λ k s. let p = or_parts (bytes_eq k l) (is_seen k seen) s in later (bytes_eq k l) _ (SameAt k ms (find_member k ns)) p.0 (h k p.1)))
 
 pub tree_eq-decides : (t u : Tree) → Decides (tree_eq t u) (Same t u)
 tree_eq-decides t u = (λ e. eq-same t u e, λ h. same-eq t u h)

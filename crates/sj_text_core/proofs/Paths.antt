@@ -1,5 +1,6 @@
 -- Paths in what is kept, and what is written where it stands already.
 use Rattle.std.proofs.Common.{◌≡◌, ℕ, zero, suc, Bool, true, false, List, [], ◌∷◌, Option, Some, None, option_map, option_and_then, if◌then◌else◌, bytes_eq, refl, sym, ap, ◌∙◌}
+use Rattle.std.proofs.lemmas.Option.{same_Some}
 use Rattle.sj_text_core.specs.Tree.{Tree, null, boolean, int, text, list, obj, Items, no_items, item, Members, no_members, member}
 use Rattle.sj_text_core.specs.Find.{find_member, nth, nth_item}
 use Rattle.sj_text_core.specs.Keep.{keep}
@@ -62,12 +63,9 @@ tree_at-keep_by c (s ∷ p) t = ap (option_and_then (λ u. tree_at p u)) (step_i
 pub tree_at-keep : (p : List Step) (t : Tree) → tree_at p (keep t) ≡ option_map keep (tree_at p t)
 tree_at-keep p t = tree_at-keep_by First p t
 
-some_is : (t u : Tree) → Some t ≡ Some u → t ≡ u
-some_is t u e = cc
-
 put_by : (b : Bool) (k l : List ℕ) (u t : Tree) (ms : Members) → (if b then Some t else find_member k ms) ≡ Some u → (find_member k ms ≡ Some u → put k u ms ≡ ms)
     → (if b then member l u ms else member l t (put k u ms)) ≡ member l t ms
-put_by true k l u t ms e ih = ap (λ x. member l x ms) (sym (some_is t u e))
+put_by true k l u t ms e ih = ap (λ x. member l x ms) (sym (same_Some t u e))
 put_by false k l u t ms e ih = ap (member l t) (ih e)
 
 put_same : (k : List ℕ) (u : Tree) (ms : Members) → find_member k ms ≡ Some u → put k u ms ≡ ms
@@ -76,7 +74,7 @@ put_same k u (member l t ms) e = put_by (bytes_eq k l) k l u t ms e (put_same k 
 
 set_same : (i : ℕ) (u : Tree) (is : Items) → nth_item i is ≡ Some u → set_item i u is ≡ is
 set_same i u no_items e = refl
-set_same zero u (item t is) e = ap (λ x. item x is) (sym (some_is t u e))
+set_same zero u (item t is) e = ap (λ x. item x is) (sym (same_Some t u e))
 set_same (suc i) u (item t is) e = ap (item t) (set_same i u is e)
 
 placed_same : (o : Option ℕ) (u : Tree) (is : Items) → option_and_then (λ i. nth i (list is)) o ≡ Some u → set_placed o u is ≡ is

@@ -5,7 +5,7 @@ use Rattle.std.specs.List.{AllByRecursion}
 use Rattle.std.specs.Char.{digit_value}
 use Rattle.std.proofs.lemmas.Fmt.{decimal_by_steps_wide}
 use Rattle.std.proofs.lemmas.List.Sums.{fold-append}
-use Rattle.std.proofs.lemmas.Bool.{and_parts, cases_lt, cases_eq, ne_eqb, le-ltb}
+use Rattle.std.proofs.lemmas.Bool.{and_parts, cases_lt, cases_eq, ne_eqb, le-ltb, lt-ltb}
 use Rattle.std.proofs.lemmas.Bool.Decides.{nat_tests}
 use Rattle.std.proofs.lemmas.Str.{encode_ascii, inside_one}
 use lib.Utf8.{scalar, scalars, encode, encodes, low_scalar}
@@ -78,9 +78,6 @@ above u64 n h = absurd h.0.le
 above i128 n h = let e : n ≤ 170141183460469231731687303715884105727 = leb→le n 170141183460469231731687303715884105727 h.0.le in omega (arith, e)
 above u128 n h = absurd h.0.le
 
-lt-true : (n k : ℕ) → n < k → nat_lt n k ≡ true
-lt-true n k h = grind (arith, nat_tests)
-
 -- a decimal spells its number
 number_spelled : (n : ℤ) (c : Carrier) → Carries c n → IsNumber (signed_decimal n) (int n (printed_carrier n))
 number_spelled (pos n) c h =
@@ -88,7 +85,7 @@ number_spelled (pos n) c h =
     let d = decimal_is n (omega (arith, small)) in
     inl (
       record { some = d.some; digits = d.digits; plain = d.plain },
-      ap (λ m. number_of false m) d.value ∙ pos_by n (nat_lt n (2 ^ 64)) (nat_lt n (2 ^ 128)) (lt-true n (2 ^ 128) small),
+      ap (λ m. number_of false m) d.value ∙ pos_by n (nat_lt n (2 ^ 64)) (nat_lt n (2 ^ 128)) (lt-ltb n (2 ^ 128) small),
     )
 number_spelled (negsuc n) c h =
     let small = above c n h in
@@ -97,7 +94,7 @@ number_spelled (negsuc n) c h =
       decimal (suc n),
       refl,
       record { some = d.some; digits = d.digits; plain = d.plain },
-      ap (λ m. number_of true m) d.value ∙ neg_by n (nat_le (suc n) (2 ^ 63)) (nat_lt n (2 ^ 63)) (nat_le (suc n) (2 ^ 127)) (less_or_next n (2 ^ 63)) (less_or_next n (2 ^ 127) ∙ lt-true n (2 ^ 127) small),
+      ap (λ m. number_of true m) d.value ∙ neg_by n (nat_le (suc n) (2 ^ 63)) (nat_lt n (2 ^ 63)) (nat_le (suc n) (2 ^ 127)) (less_or_next n (2 ^ 63)) (less_or_next n (2 ^ 127) ∙ lt-ltb n (2 ^ 127) small),
     )
 
 hex_value : (d : ℕ) → d < 16 → digit_value (hex_digit d) ≡ d
@@ -141,9 +138,9 @@ ascii_item c h = elim (cases_eq c 34) [
             | inr n12 ↦ elim (cases_eq c 13) [
               | inl e ↦ rw e (short_item 13 114 refl refl)
               | inr n13 ↦ elim (cases_lt c 16) [
-                | inl l ↦ rw (ne_eqb c 34 n34, ne_eqb c 92 n92, ne_eqb c 8 n8, ne_eqb c 9 n9, ne_eqb c 10 n10, ne_eqb c 12 n12, ne_eqb c 13 n13, lt-true c 16 l) (coded c 0 c (omega (arith, l)) l (omega arith) (omega arith))
+                | inl l ↦ rw (ne_eqb c 34 n34, ne_eqb c 92 n92, ne_eqb c 8 n8, ne_eqb c 9 n9, ne_eqb c 10 n10, ne_eqb c 12 n12, ne_eqb c 13 n13, lt-ltb c 16 l) (coded c 0 c (omega (arith, l)) l (omega arith) (omega arith))
                 | inr m ↦ elim (cases_lt c 32) [
-                  | inl l ↦ rw (ne_eqb c 34 n34, ne_eqb c 92 n92, ne_eqb c 8 n8, ne_eqb c 9 n9, ne_eqb c 10 n10, ne_eqb c 12 n12, ne_eqb c 13 n13, le-ltb c 16 m, lt-true c 32 l) (coded c 1 (c - 16) l (omega (arith, l, m)) (omega arith) (omega (arith, m)))
+                  | inl l ↦ rw (ne_eqb c 34 n34, ne_eqb c 92 n92, ne_eqb c 8 n8, ne_eqb c 9 n9, ne_eqb c 10 n10, ne_eqb c 12 n12, ne_eqb c 13 n13, le-ltb c 16 m, lt-ltb c 32 l) (coded c 1 (c - 16) l (omega (arith, l, m)) (omega arith) (omega (arith, m)))
                   | inr p ↦ inl (record { is = escaped_plain c n34 n92 p ∙ sym (encode_ascii c h); scalar = low_scalar c (omega (arith, h)); printed = p; no_quote = n34; no_backslash = n92 })
                 ]
               ]

@@ -1,6 +1,7 @@
 -- What is found after an edit, and what of two writes at one place counts.
 use Rattle.std.proofs.Common.{◌≡◌, ◌≢◌, ℕ, zero, suc, Bool, true, false, List, [], ◌∷◌, ◌++◌, Option, Some, None, option_and_then, if◌then◌else◌, bytes_eq, refl, sym, ap, ◌∙◌, true≢false}
 use Rattle.std.proofs.lemmas.Slice.Eq.{bytes_eq-Decides}
+use Rattle.std.proofs.lemmas.Option.{same_Some}
 use Rattle.sj_text_core.specs.Tree.{Tree, null, boolean, int, text, list, obj, Items, no_items, item, items_len, Members, no_members, member}
 use Rattle.sj_text_core.specs.Find.{find_member, nth, nth_item}
 use Rattle.sj_text_core.specs.Keep.{HasSingle}
@@ -122,9 +123,6 @@ set_found-twice (by_token k) u v (boolean b) = refl
 set_found-twice (by_token k) u v (int n c) = refl
 set_found-twice (by_token k) u v (text x) = refl
 
-some_is : (t u : Tree) → Some t ≡ Some u → t ≡ u
-some_is t u e = cc
-
 module _ (s : Step) (p : List Step) (t : Tree) where
   set_further : (w u : Tree) → step_into s t ≡ Some w → set_at (s ∷ p) u t ≡ set_found s (set_at p u w) t
   set_further w u e = ap (λ o. change_found o s (set_at p u) t) e
@@ -160,7 +158,7 @@ tree_at-set (s ∷ p) u w t e = at_set_by s p t (step_into s t) refl u w e (λ x
 
 -- what stands there, set there, changes nothing
 pub set_at-same : (p : List Step) (u t : Tree) → tree_at p t ≡ Some u → set_at p u t ≡ t
-set_at-same [] u t e = sym (some_is t u e)
+set_at-same [] u t e = sym (same_Some t u e)
 set_at-same (s ∷ p) u t e = same_by s p t (step_into s t) refl u e (λ x f. set_at-same p u x f)
 
 -- where nothing stands, nothing is set
@@ -187,5 +185,5 @@ join_by s p q u w t None f e ih = cc
 join_by s p q u w t (Some x) f e ih = set_further s (p ++ q) t x u f ∙ ap (λ y. set_found s y t) (ih x e) ∙ sym (set_further s p t x (set_at q u w) f)
 
 pub set_at-join : (p q : List Step) (u w t : Tree) → tree_at p t ≡ Some w → set_at (p ++ q) u t ≡ set_at p (set_at q u w) t
-set_at-join [] q u w t e = ap (set_at q u) (some_is t w e)
+set_at-join [] q u w t e = ap (set_at q u) (same_Some t w e)
 set_at-join (s ∷ p) q u w t e = join_by s p q u w t (step_into s t) refl e (λ x f. set_at-join p q u w x f)

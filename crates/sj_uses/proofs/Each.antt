@@ -1,5 +1,5 @@
 -- Lists taken over one by one.
-use Rattle.std.proofs.Common.{◌≡◌, ℕ, ◌+◌, ◌<◌, ◌++◌, List, [], ◌∷◌, length, map, take, get_or, Option, Some, None, Result, Ok, Err, IfOk, MatchOption, sym, ap, ◌∙◌, subst}
+use Rattle.std.proofs.Common.{◌≡◌, ℕ, ◌+◌, ◌<◌, ◌++◌, List, [], ◌∷◌, length, map, take, get_or, Option, Some, None, Ok, MatchOption, sym, ap, ◌∙◌, subst}
 use Rattle.std.proofs.lemmas.List.{take_more}
 use Rattle.sj_text_core.specs.Tree.{Tree, Items, items_from, listed, list}
 use Rattle.sj_text_core.specs.Reads.{read_as, as_items}
@@ -43,7 +43,3 @@ module _ {D X : Type 0} (f : D → Tree) (R : Tree → X → Type 0) where
   -- what is made of such documents
   pub made_means : (u : Tree) (es : List D) (xs : List X) → SameEach (λ d x. R (f d) x) es xs → ((ds : List D) × SameEach (λ d x. d ≡ x) ds es × (u ≡ list (items_from (map f ds)))) → MatchOption (as_items u) ⊥ (λ is. SameEach R (listed is) xs)
   made_means u es xs h m = list_means (as_items u) es xs (ap (λ ds. Some (items_from (map f ds))) (sym (same_list m.0 es m.1)) ∙ sym (ap as_items m.2)) h
-
-pub if_ok : {A E : Type 0} (r : Result A E) (P Q : A → Type 0) → ((x : A) → P x → Q x) → IfOk r P → IfOk r Q
-if_ok (Ok x) P Q f h = f x h
-if_ok (Err e) P Q f h = h

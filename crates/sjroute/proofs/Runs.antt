@@ -1,6 +1,7 @@
 -- Lines routed one after another.
 use Rattle.std.proofs.Common.{◌≡◌, ◌≢◌, ℕ, Bool, true, List, [], ◌∷◌, Option, Some, None, Result, Ok, Err, IsUtf8, refl, sym, ap, ◌∙◌, subst, inl, inr}
 use Rattle.std.specs.Prelude.{◌⊎◌, ◌↔◌, IsTrue}
+use Rattle.std.proofs.lemmas.Option.{same_Some}
 use Rattle.sj_text_core.specs.Tree.{Tree, IsWithin}
 use Rattle.sj_text_core.specs.Grammar.{IsReadable, Spells}
 use Rattle.sj_text_core.specs.declared.error.ErrorKind.{ErrorKind}
@@ -48,14 +49,11 @@ taken-text old new text a told e s =
       subst (λ (x : List ℕ). IsRead x a (current new)) same s.2,
     )
 
-some-is : (t u : Tree) → Some t ≡ Some u → t ≡ u
-some-is t u e = ap (λ (o : Option Tree). elim o [ Some v ↦ v | None ↦ t ]) e
-
 -- a line that was read is a message
 pub is-message : (s : List ℕ) (n : ℕ) (o : Option Tree) (t : Tree) (rs ms : List Route) (met : Bool) → IsRead s (Ok n) o → Some t ≡ o → (IsTrue met ↔ MeetsAny t rs)
     → AllTaken (TakesMessage met t) (line_to s t) rs ms → IsMessage s rs ms
 is-message s n o t rs ms met r e any taken =
-    let same = some-is t r.0 (e ∙ r.1) in
+    let same = same_Some t r.0 (e ∙ r.1) in
     (t, subst (λ (u : Tree). Spells s u) (sym same) r.2, subst (λ (u : Tree). IsWithin u) (sym same) r.3, (met, any, taken))
 
 unreadable : (k : ErrorKind) (b : List ℕ) → (k ≡ InvalidUtf8 ↔ (IsUtf8 b → ⊥)) → (k ≢ InvalidUtf8 → k ≢ OutOfMemory → IsReadable b → ⊥) → k ≢ OutOfMemory → IsReadable b → ⊥

@@ -1,15 +1,8 @@
 -- What private clauses alone cite beside Texts.
-use Rattle.std.specs.Prelude.{◌≡◌, ℕ, Bool, true, false, not, ◌&&◌, ◌||◌, List, refl, bytes_eq}
+use Rattle.std.specs.Prelude.{◌≡◌, ℕ, Bool, true, false, not, ◌&&◌, List, refl, bytes_eq}
 use mathlib.Core.Path.{sym, ◌∙◌}
 use Rattle.std.proofs.Common.{true≢false}
 use Rattle.std.proofs.lemmas.Slice.Eq.{bytes_eq-Decides}
-
-pub or_false : (a b : Bool) → a || b ≡ false → (a ≡ false) × (b ≡ false)
-or_false false b e = (refl, e)
-or_false true b e = absurd (true≢false e)
-
-pub or_of_false : (a b : Bool) → a ≡ false → b ≡ false → a || b ≡ false
-or_of_false a b p q = λ i. p i || q i
 
 pub not_and : (a b : Bool) → not a && b ≡ true → (a ≡ false) × (b ≡ true)
 not_and false b e = (refl, e)

@@ -1,5 +1,6 @@
 -- A text spells one tree, so trees that print alike differ in carriers alone.
-use Rattle.std.proofs.Common.{◌≡◌, ℕ, ◌≤◌, max, List, [], ◌++◌, Some, option_and_then, refl, sym, ap, ◌∙◌, subst, arith, append-nil, unwrap_or}
+use Rattle.std.proofs.Common.{◌≡◌, ℕ, ◌≤◌, max, List, [], ◌++◌, Some, option_and_then, refl, sym, ap, ◌∙◌, subst, arith, append-nil}
+use Rattle.std.proofs.lemmas.Option.{same_Some}
 use Rattle.sj_text_core.specs.Tree.{Tree, depth, IsProper}
 use Rattle.sj_text_core.specs.Grammar.{Spells}
 use Rattle.sj_text_core.specs.inner.Parse.{read_tree, read_value, after_blank, read_whole}
@@ -16,11 +17,8 @@ complete d b t s h =
     ∙ (ap (λ o. option_and_then (λ p. read_whole p.0 (after_blank p.1)) o) (read_again t d s.word (s.after ++ []) s.spelled h (ends_blank s.after [] s.blank_after (record { digits = refl; plain = refl })))
     ∙ ap (λ l. read_whole t l) (after_blank-append s.after [] s.blank_after))
 
-some_same : (t u : Tree) → Some t ≡ Some u → t ≡ u
-some_same t u e = ap (λ o. unwrap_or o t) e
-
 pub one_tree : (b : List ℕ) (t u : Tree) → Spells b t → Spells b u → t ≡ u
-one_tree b t u s r = some_same t u (sym (complete (max (depth t) (depth u)) b t s (omega arith)) ∙ complete (max (depth t) (depth u)) b u r (omega arith))
+one_tree b t u s r = same_Some t u (sym (complete (max (depth t) (depth u)) b t s (omega arith)) ∙ complete (max (depth t) (depth u)) b u r (omega arith))
 
 -- trees whose texts are one differ in carriers alone
 text_one : (b c : List ℕ) (t u : Tree) → Spells b (recarry t) → Spells c (recarry u) → b ≡ c → recarry t ≡ recarry u

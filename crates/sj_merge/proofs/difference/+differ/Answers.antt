@@ -1,6 +1,7 @@
 use Rattle.std.proofs.Common.{◌≡◌, false, Some, option_map, sym, ap, ◌∙◌, subst, arith, true≢false}
 use Rattle.std.specs.Option.{option_copied}
 use Rattle.std.specs.Prelude.{IfOk}
+use Rattle.std.proofs.lemmas.Result.{IfOk-weaker}
 use Rattle.sj_text_core.specs.Tree.{obj, depth, members_depth}
 use Rattle.sj_text_core.specs.Find.{find_member}
 use Rattle.sj_text_core.specs.Edits as members
@@ -13,7 +14,7 @@ use Rattle.sj_merge.specs.MergeDiff.{patch_members}
 use Rattle.sj_merge.specs.inner.Change.{IsChange}
 use Rattle.sj_merge.specs.declared.difference.Change.TheVariants.{Stays, Impossible, Becomes}
 use Rattle.sj_merge.proofs.Told.{is_same}
-use Rattle.sj_merge.proofs.Changes.{single_object, single_found, impossible, not_empty, no_object, stays, empty_entries, patch_of, if_ok}
+use Rattle.sj_merge.proofs.Changes.{single_object, single_found, impossible, not_empty, no_object, stays, empty_entries, patch_of}
 use Rattle.sj_merge.proofs.Putting.{put_each, told_begin, told_stays, told_impossible, told_becomes}
 use Rattle.sj_merge.proofs.difference.+differ.Goals.{change_object-else-is_empty-via-then-is_empty+else-has_members, change_object-else-is_empty-via-else-is_empty}
 use Rattle.sj_merge.proofs.difference.+differ.Goals as goal
@@ -67,7 +68,7 @@ patch_from-returns-in-Object g r c =
     let ns = entry_members (document_tree t) c.args.wanted.now.entries in
     let here = ap (document_tree t) c.in-Object.is ∙ tree-Object t c.in-Object.members ∙ ap (λ m. obj (entry_members (document_tree t) m.entries)) (sym c.deref.ensures) in
     let old = ap (λ o. option_map (document_tree t) (option_copied o)) c.in-Some.is ∙ ap Some here in
-    if_ok c.patch_object.result _ _ (λ r h. patch_of (option_map (document_tree t) (option_copied c.args.found)) ms ns (option_map (λ (m : Map g.row.T.Denot). entry_members (document_tree t) m.entries) r) old h) c.patch_object.ensures
+    IfOk-weaker c.patch_object.result _ _ (λ r h. patch_of (option_map (document_tree t) (option_copied c.args.found)) ms ns (option_map (λ (m : Map g.row.T.Denot). entry_members (document_tree t) m.entries) r) old h) c.patch_object.ensures
 
 pub patch_object-loop-key-init : goal.patch_object-loop-key-init
 patch_object-loop-key-init g r c =

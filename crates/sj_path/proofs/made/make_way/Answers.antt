@@ -1,6 +1,7 @@
 use Rattle.std.proofs.Common.{rules, ◌≡◌, Some, Err, IfErr, true, false, map, drop, string_bytes, sym, ap, ◌∙◌, subst}
 use Rattle.std.specs.Option.{IsSome}
 use Rattle.std.proofs.lemmas.List.{take_rest}
+use Rattle.std.proofs.lemmas.Option.{same_Some}
 use Rattle.sj_text_core.specs.Tree.{null}
 use Rattle.sj_text_core.specs.Reads.{as_members}
 use Rattle.sj_text_core.specs.declared.error.AccessError.TheVariants.{NotAnObject, OutOfMemory}
@@ -8,7 +9,7 @@ use Rattle.sj_document.specs.Document.{document_tree, edit_fault, with_member}
 use Rattle.sj_pointer.specs.Pointed.{set_pointed}
 use Rattle.sj_path.specs.Made.{nested, set_made}
 use Rattle.sj_path.proofs.Changed.{put_back}
-use Rattle.sj_path.proofs.Nested.{some_is, why_some, shut_way, is_open, open_way, wants_memory}
+use Rattle.sj_path.proofs.Nested.{why_some, shut_way, is_open, open_way, wants_memory}
 use Rattle.sj_path.proofs.made.make_way.Goals as goal
 
 pub returns-then-not-is_object-clause-kind : goal.returns-then-not-is_object-clause-kind
@@ -47,7 +48,7 @@ returns-in-Ok-answer-clause-after g c =
     let old = document_tree t c.args.value.now in
     let h = c.in-Ok.ensures.changed in
     let takes : r.2 ≡ true = search rules in
-    let there : f.0 ≡ document_tree t h.0 = some_is f.0 (document_tree t h.0) (sym f.1 ∙ h.2) in
+    let there : f.0 ≡ document_tree t h.0 = same_Some f.0 (document_tree t h.0) (sym f.1 ∙ h.2) in
     let k : t c.owned.result ≡ string_bytes c.first-item.result = search rules in
     let n : document_tree t c.in_ok-nest.field-0 ≡ nested (map string_bytes (drop 1 r.1.now)) null = c.in_ok-nest.ensures ∙ ap (λ ts. nested (map string_bytes ts) null) (take_rest r.1.now 1) in
     let m : document_tree t h.1 ≡ with_member (t c.owned.result) (document_tree t c.in_ok-nest.field-0) (document_tree t h.0) = rw c.in-Ok-answer.is at h.3.made in
@@ -68,7 +69,7 @@ returns-in-Ok-clause-kind g c =
     let old = document_tree t c.args.value.now in
     let h = c.in-Ok.ensures.changed in
     let takes : r.2 ≡ true = search rules in
-    let there : f.0 ≡ document_tree t h.0 = some_is f.0 (document_tree t h.0) (sym f.1 ∙ h.2) in
+    let there : f.0 ≡ document_tree t h.0 = same_Some f.0 (document_tree t h.0) (sym f.1 ∙ h.2) in
     let o = is_open r.0.now r.1.now c.args.tokens.now c.first-item.result old f.0 r.2 c.in-len1-up.len_at_least c.first-item.is c.split_found-is_object.ensures.joined f.1 f.2 takes in
     let w = wants_memory r.0.now r.1.now c.args.tokens.now c.first-item.result old f.0 r.2 c.in-len1-up.len_at_least c.first-item.is c.split_found-is_object.ensures.joined f.1 f.2 takes in
     let k : c.in-Err-answer.refused.why ≡ edit_fault NotAnObject (as_members (document_tree t h.0)) = rw c.in-Err-answer.is at h.3.kind in

@@ -2,6 +2,7 @@ use Rattle.std.proofs.Common.{◌≡◌, ℕ, List, suc, ◌<◌, ◌≤◌, ◌
 use Rattle.std.proofs.lemmas.Bool.Decides.{nat_tests}
 use Rattle.std.proofs.lemmas.List.{get_or_default, get_or-drop, length-drop}
 use Rattle.std.proofs.lemmas.Nat.{pow_pos}
+use Rattle.std.proofs.lemmas.Bool.{false_from_ne_true}
 use Rattle.sj_text_core.specs.Keep.{is_seen}
 use Rattle.sj_object.specs.Entries.{entry_texts, entries_of}
 use Rattle.sj_object.specs.Steps.{walk}
@@ -175,11 +176,6 @@ returns-then-is_key-clause-exact g c =
     let m = at_member n x k hs (entry_texts (entries_of t ps)) a (p - T.gone) i (omega (arith, y, z)) v.stands in
     omega (arith, w, m, c.is_key.ensures.step, v.counted)
 
--- a test that can't be true
-fails : (b : Bool) → (b ≡ true → ⊥) → b ≡ false
-fails false f = refl
-fails true f = absurd (f refl)
-
 pub loop-place-smaller : goal.loop-place-smaller
 loop-place-smaller g c =
     let T = c.args.table.now in
@@ -219,7 +215,7 @@ loop-place-preserved g c =
       | then-index-hash+else-is_key w ↦
           let y : o - (w.len.result - w.pass-passed.result) - 1 - T.gone ≡ i = ap (λ r. r - 1 - T.gone) (lower T o w.pass-passed.result w.deref.result.now w.deref.ensures.value w.len.result (w.len.ensures ∙ T.holes.ok.0) w.pass-passed.ensures.place) in
           ap (bytes_eq k) (text_at t ps i w.pair_at.result.now j (w.pair_at.ensures ∙ ap (λ m. get_or ps m w.pair_at.result.now) y)) ∙ sym w.is_key.ensures.answer ∙ w.if-is_key.false
-      | else-index-hash w ↦ fails (bytes_eq k (get_or ts i [])) (λ y. w.if-index-hash.false (hash_there T q o i (v.within, v.there) e l c.index.result.now c.index.ensures ∙ a.same i (omega (arith, a.size, l)) y))
+      | else-index-hash w ↦ false_from_ne_true (bytes_eq k (get_or ts i [])) (λ y. w.if-index-hash.false (hash_there T q o i (v.within, v.there) e l c.index.result.now c.index.ensures ∙ a.same i (omega (arith, a.size, l)) y))
     ] in
     let m = at_next n x k hs ts a (p - T.gone) i (lowered_by T.holes.items c.index-place-in-loop-place.result.now - T.gone) (omega (arith, e)) v.stands b s.1.0 in
     let kept : (c.if-index-hash.passed ≤ length T.holes.items) × ((r : ℕ) → r ≤ o → lowered_by (drop c.if-index-hash.passed T.holes.items) r ≡ lowered_by T.holes.items r) = elim c.if-index-hash.branch [

@@ -1,4 +1,5 @@
 use Rattle.std.proofs.Common.{rules, ◌<◌, ◌^◌, [], ◌∷◌, map, length, refl, sym, ap, ◌∙◌, arith}
+use Rattle.std.proofs.lemmas.Result.{on_ok_weaker}
 use Rattle.sj_text_core.specs.Tree.{obj}
 use Rattle.sj_text_core.proofs.Equality.{same-refl}
 use Rattle.sj_object.specs.Entries.{entries_of}
@@ -8,7 +9,7 @@ use Rattle.sj_document.proofs.Trees.{tree-Object}
 use Rattle.sj_document.proofs.Compared.{each_there, near_there}
 use Rattle.sj_patch.specs.Patch.{remove}
 use Rattle.sj_patch.specs.inner.Noted.{token_meant, array}
-use Rattle.sj_patch.proofs.Noting.{single-array, notes-as, notes-nothing, noted-there, noted-here, notes-there, on-ok}
+use Rattle.sj_patch.proofs.Noting.{single-array, notes-as, notes-nothing, noted-there, noted-here, notes-there}
 use Rattle.sj_patch.proofs.NotedItems.{between-first, notes-pair, notes-arrays}
 use Rattle.sj_patch.proofs.NotedMembers.{pairs, left, object-pairs, single-pairs, pair-found, pair-absent, compares-none, compares-found, compares-gone, compares-all}
 use Rattle.sj_patch.proofs.differences.Differences.+compare.Goals as goal
@@ -71,7 +72,7 @@ compare_members-returns-clause-notes g r c =
     let f = document_tree t in
     let i = c.loop-key.invariant in
     let new = object-pairs f c.args.new.now.entries in
-    on-ok c.add_members.result
+    on_ok_weaker c.add_members.result
     (λ n. notes-as _ _ _ _ _ _ _ _ _ (object-pairs f c.args.old.now.entries) new new
     (compares-all _ _ _ _ _ _ _ i.compares (ap (left f t) c.in-None.ensures.steps.0) (single-pairs t c.args.new.now) (noted-here _ _ _ _ _ (ap (map token_meant) i.place) n)))
     c.add_members.ensures.noted
@@ -107,7 +108,7 @@ compare_items-returns-clause-notes g r c =
     let back = c.same_from_the_back-last.ensures in
     let pairs = c.in_ok-compare_pairs.ensures in
     let gone = c.in_ok-remove_items.ensures in
-    on-ok c.add_items.result
+    on_ok_weaker c.add_items.result
     (λ n. notes-arrays (document_tree t) c.args.old.now c.args.new.now c.same_from_the_front-first.result c.same_from_the_back-last.result c.min-end.result back.in_old back.in_new c.min-end.ensures few also _ _ _ _ _ pairs.notes
     (noted-here _ _ _ _ _ (ap (map token_meant) pairs.place) gone.noted) (noted-here _ _ _ _ _ (ap (map token_meant) (gone.place ∙ pairs.place)) n)
     front.same back.same (single-array t c.args.new.now) c.if-old-new.false)
