@@ -11,9 +11,12 @@ use Rattle.sj_text_core.specs.Repeats.{find_member_by, find_last_member, keep_by
 use Rattle.sj_text_core.specs.Tree.{Tree, obj, Members, no_members, member, members_from}
 use Rattle.sj_text_core.specs.declared.repeats.Repeats.{Repeats}
 use Rattle.sj_text_core.specs.declared.repeats.Repeats.TheVariants.{First, Last}
+use Rattle.sj_text_core.proofs.Texts.{absent_parts}
+use Rattle.sj_text_core.proofs.Equal.{found_head}
+use Rattle.sj_tape.proofs.Counted.{absent_first}
 use Rattle.sj_canonical.proofs.Alike.{find-canonical, strict-canonical}
 use Rattle.sj_canonical.proofs.Ordered.{none_before-less, none_before-sort_in}
-use Rattle.sj_canonical.proofs.Strict.{AllAfter, IsStrict, HasTexts, some_none, find-sort_in, none_parts, found_first, one_strict}
+use Rattle.sj_canonical.proofs.Strict.{AllAfter, IsStrict, HasTexts, some_none, find-sort_in, one_strict}
 use Rattle.sj_canonical.proofs.Texts.{order, tied}
 use Rattle.sj_canonical.specs.Canonical.{is_before, sort_in, canonical, canonical_members, canonical_by, NoneBefore}
 use Rattle.sj_canonical.specs.inner.Picks.{sorted_in, sorted, thinned_from, thinned, by_choice, picked, AreTexts}
@@ -77,39 +80,28 @@ found-thinned k (p ∷ ps) = found-thinned_from k p ps
 found-picked : (c : Repeats) (k : List ℕ) (ps : Pairs) → find_member k (members_from (picked c ps)) ≡ find_member_by c k (members_from ps)
 found-picked c k ps = found-thinned k (sorted (by_choice c ps)) ∙ found-sorted k (by_choice c ps) ∙ found-choice c k ps
 
--- what is nowhere is not the last
-none_last : (k : List ℕ) (ms : Members) → find_member k ms ≡ None → find_last_member k ms ≡ None
-none_last k no_members e = refl
-none_last k (member l t ms) e =
-    let p = none_parts (bytes_eq k l) t (find_member k ms) e in
-    ap (λ r. option_or r (if bytes_eq k l then Some t else None)) (none_last k ms p.1) ∙ ap (λ b. if b then Some t else None) p.0
-
-none_by : (c : Repeats) (k : List ℕ) (ms : Members) → find_member k ms ≡ None → find_member_by c k ms ≡ None
-none_by First k ms e = e
-none_by Last k ms e = none_last k ms e
-
 -- texts that are UTF-8
 
 texts-tail : (p : List ℕ × Tree) (ps : Pairs) → AreTexts (p ∷ ps) → AreTexts ps
-texts-tail p ps h k n = h k (λ e. n (none_parts (bytes_eq k p.0) p.1 (find_member k (members_from ps)) e).1)
+texts-tail p ps h k n = h k (λ e. n (absent_parts (bytes_eq k p.0) p.1 (find_member k (members_from ps)) e).1)
 
 texts-head : (p : List ℕ × Tree) (ps : Pairs) → AreTexts (p ∷ ps) → IsUtf8 p.0
-texts-head p ps h = h p.0 (λ e. some_none p.1 (sym (found_first p.0 p.1 (members_from ps)) ∙ e))
+texts-head p ps h = h p.0 (λ e. some_none p.1 (sym (found_head p.0 p.1 (members_from ps)) ∙ e))
 
 texts-second : (p q : List ℕ × Tree) (ps : Pairs) → AreTexts (p ∷ q ∷ ps) → AreTexts (p ∷ ps)
 texts-second p q ps h k n = h k (λ e. n (by_test (bytes_eq k p.0) e))
   where
     by_test : (b : Bool) → (if b then Some p.1 else find_member k (members_from (q ∷ ps))) ≡ None → (if b then Some p.1 else find_member k (members_from ps)) ≡ None
     by_test true e = e
-    by_test false e = (none_parts (bytes_eq k q.0) q.1 (find_member k (members_from ps)) e).1
+    by_test false e = (absent_parts (bytes_eq k q.0) q.1 (find_member k (members_from ps)) e).1
 
 texts-sorted : (c : Repeats) (ps : Pairs) → AreTexts ps → AreTexts (sorted (by_choice c ps))
-texts-sorted c ps h k n = h k (λ e. n (found-sorted k (by_choice c ps) ∙ found-choice c k ps ∙ none_by c k (members_from ps) e))
+texts-sorted c ps h k n = h k (λ e. n (found-sorted k (by_choice c ps) ∙ found-choice c k ps ∙ absent_first c k (members_from ps) e))
 
 texts_from : (ms : Members) → ((k : List ℕ) → (find_member k ms ≡ None → ⊥) → IsUtf8 k) → HasTexts ms
 texts_from no_members h = tt {0}
 texts_from (member k t ms) h =
-    (h k (λ e. some_none t (sym (found_first k t ms) ∙ e)), texts_from ms (λ l n. h l (λ e. n (none_parts (bytes_eq l k) t (find_member l ms) e).1)))
+    (h k (λ e. some_none t (sym (found_head k t ms) ∙ e)), texts_from ms (λ l n. h l (λ e. n (absent_parts (bytes_eq l k) t (find_member l ms) e).1)))
 
 -- the order
 
@@ -214,7 +206,7 @@ single-kept First ms = single-keep_by First (obj ms)
 single-kept Last ms = single-keep_by Last (obj ms)
 
 texts-kept : (c : Repeats) (ps : Pairs) → AreTexts ps → HasTexts (kept c (members_from ps))
-texts-kept c ps h = texts_from (kept c (members_from ps)) (λ k n. h k (λ e. n (found-kept c k (members_from ps) ∙ ap (option_map (keep_by c)) (none_by c k (members_from ps) e))))
+texts-kept c ps h = texts_from (kept c (members_from ps)) (λ k n. h k (λ e. n (found-kept c k (members_from ps) ∙ ap (option_map (keep_by c)) (absent_first c k (members_from ps) e))))
 
 mapped_twice : (c : Repeats) (r : Option Tree) → option_map canonical (option_map (keep_by c) r) ≡ option_map (canonical_by c) r
 mapped_twice c None = refl

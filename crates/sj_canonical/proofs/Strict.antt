@@ -6,6 +6,8 @@ use Rattle.std.proofs.lemmas.Option.{same_Some}
 use Rattle.sj_text_core.specs.Find.{find_member}
 use Rattle.sj_text_core.specs.Print.{recarry_members}
 use Rattle.sj_text_core.specs.Tree.{Tree, Members, no_members, member}
+use Rattle.sj_text_core.proofs.Texts.{absent_parts}
+use Rattle.sj_text_core.proofs.Equal.{found_head}
 use Rattle.sj_canonical.specs.Canonical.{is_before, sort_in}
 use Rattle.sj_canonical.proofs.Texts.{not_before_itself, before_far, tied}
 
@@ -70,10 +72,6 @@ all_after-sort_in j k t (member l u ms) e h = by_test (is_before l k) (all_after
     by_test true r = (h.0, r)
     by_test false r = (e, h)
 
-pub none_parts : (b : Bool) (u : Tree) (r : Option Tree) → (if b then Some u else r) ≡ None → (b ≡ false) × (r ≡ None)
-none_parts true u r e = absurd (some_none u e)
-none_parts false u r e = (refl, e)
-
 unequal : (k l : List ℕ) → bytes_eq k l ≡ false → k ≡ l → ⊥
 unequal k l e f = true≢false (sym ((bytes_eq-Decides k l).1 f) ∙ e)
 
@@ -89,7 +87,7 @@ texts-sort_in k t (member l v ms) u h = by_test (is_before l k) (texts-sort_in k
 pub strict-sort_in : (k : List ℕ) (t : Tree) (ms : Members) → IsUtf8 k → HasTexts ms → IsStrict ms → find_member k ms ≡ None → IsStrict (sort_in k t ms)
 strict-sort_in k t no_members u p r n = (tt {0}, tt {0})
 strict-sort_in k t (member l v ms) u p r n =
-    let new = none_parts (bytes_eq k l) v (find_member k ms) n in
+    let new = absent_parts (bytes_eq k l) v (find_member k ms) n in
     by_test (is_before l k) (is_before k l) refl refl new.0 (strict-sort_in k t ms u p.1 r.1 new.1)
   where
     by_test : (b c : Bool) → is_before l k ≡ b → is_before k l ≡ c → bytes_eq k l ≡ false → IsStrict (sort_in k t ms) → IsStrict (if b then member l v (sort_in k t ms) else member k t (member l v ms))
@@ -114,9 +112,6 @@ none_after : (k : List ℕ) (ms : Members) → AllAfter k ms → find_member k m
 none_after k no_members h = refl
 none_after k (member l t ms) h = skip (bytes_eq k l) t (find_member k ms) (apart k l h.0) ∙ none_after k ms h.1
 
-pub found_first : (k : List ℕ) (t : Tree) (ms : Members) → find_member k (member k t ms) ≡ Some t
-found_first k t ms = ap (λ b. if b then Some t else find_member k ms) ((bytes_eq-Decides k k).1 refl)
-
 -- nor is what is before the first
 none_before : (k l : List ℕ) (u : Tree) (ms : Members) → is_before k l ≡ true → AllAfter l ms → find_member k (member l u ms) ≡ None
 none_before k l u ms e h = none_after k (member l u ms) (e, all_after-less k l ms e h)
@@ -140,8 +135,8 @@ tail_found x k t u ms ns g h e = by_test (bytes_eq x k) refl e
 -- members in strict order in which each text finds the same are one
 pub one_strict : (ms ns : Members) → IsStrict ms → IsStrict ns → ((k : List ℕ) → find_member k ms ≡ find_member k ns) → ms ≡ ns
 one_strict no_members no_members r s h = refl
-one_strict no_members (member l u ns) r s h = absurd (some_none u (sym (h l ∙ found_first l u ns)))
-one_strict (member k t ms) no_members r s h = absurd (some_none t (sym (found_first k t ms) ∙ h k))
+one_strict no_members (member l u ns) r s h = absurd (some_none u (sym (h l ∙ found_head l u ns)))
+one_strict (member k t ms) no_members r s h = absurd (some_none t (sym (found_head k t ms) ∙ h k))
 one_strict (member k t ms) (member l u ns) r s h = by_tests (is_before k l) (is_before l k) refl refl (one_strict ms ns r.1)
   where
     head : (b : Bool) → bytes_eq k l ≡ b → is_before l k ≡ false → (if b then Some u else find_member k ns) ≡ Some t → (k ≡ l) × (t ≡ u)
@@ -149,9 +144,9 @@ one_strict (member k t ms) (member l u ns) r s h = by_tests (is_before k l) (is_
     head false d f e = absurd (true≢false (sym (found_after k l t ns s.0 e) ∙ f))
 
     by_tests : (p q : Bool) → is_before k l ≡ p → is_before l k ≡ q → (IsStrict ns → ((k : List ℕ) → find_member k ms ≡ find_member k ns) → ms ≡ ns) → member k t ms ≡ member l u ns
-    by_tests true q e f g = absurd (some_none t (sym (found_first k t ms) ∙ h k ∙ none_before k l u ns e s.0))
-    by_tests false true e f g = absurd (some_none u (sym (found_first l u ns) ∙ sym (h l) ∙ none_before l k t ms f r.0))
+    by_tests true q e f g = absurd (some_none t (sym (found_head k t ms) ∙ h k ∙ none_before k l u ns e s.0))
+    by_tests false true e f g = absurd (some_none u (sym (found_head l u ns) ∙ sym (h l) ∙ none_before l k t ms f r.0))
     by_tests false false e f g =
-        let same = head (bytes_eq k l) refl f (sym (h k) ∙ found_first k t ms) in
+        let same = head (bytes_eq k l) refl f (sym (h k) ∙ found_head k t ms) in
         let rest = g s.1 (λ x. tail_found x k t u ms ns r.0 (subst (λ y. AllAfter y ns) (sym same.0) s.0) (h x ∙ ap (λ y. find_member x (member y u ns)) (sym same.0))) in
         λ i. member (same.0 i) (same.1 i) (rest i)

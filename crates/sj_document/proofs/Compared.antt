@@ -7,7 +7,7 @@ use Rattle.std.proofs.lemmas.List.{drop_all}
 use Rattle.std.proofs.lemmas.Option.{MatchOption-at_some, MatchOption-at_none}
 use Rattle.std.proofs.lemmas.Slice.Eq.{bytes_eq-Decides}
 use Rattle.std.proofs.lemmas.Bool.{or_parts}
-use Rattle.sj_text_core.specs.Tree.{Tree, obj, items_len as items_count, items_from, Members, no_members, member}
+use Rattle.sj_text_core.specs.Tree.{Tree, obj, items_from, Members, no_members, member}
 use Rattle.sj_text_core.specs.Find.{find_member}
 use Rattle.sj_text_core.specs.Keep.{is_seen}
 use Rattle.sj_text_core.specs.Same.{Same, SameItems}
@@ -17,13 +17,15 @@ use Rattle.sj_text_core.proofs.Equal.{tree_eq-decides}
 use Rattle.sj_text_core.proofs.Equality.{found_from_at, at_from_found, none_on, same-sym}
 use Rattle.sj_text_core.proofs.Comparing.{by_either, absent_by, there_by}
 use Rattle.sj_text_core.proofs.Shapes.{same_items_len}
+use Rattle.sj_text_core.proofs.Texts.{bytes_eq-sym}
 use Rattle.sj_object.specs.Texts.{no_repeats}
-use Rattle.sj_object.specs.inner.Texts.{not_and, bytes_eq-sym}
+use Rattle.sj_object.specs.inner.Texts.{not_and}
 use Rattle.sj_object.specs.Entries.{Entry, entry_texts, entries_of}
 use Rattle.sj_object.specs.Edits.{lookup}
 use Rattle.sj_object.specs.Members.{entry_members}
 use Rattle.sj_object.proofs.Shown.{lookup-entry_members}
 use Rattle.sj_document.proofs.Subsets.{Within, within_len, within_back}
+use Rattle.sj_document.proofs.Arrays.{length-items}
 
 -- each member finds a same one in the others
 abbrev pub EachFound : Members → Members → Type 0
@@ -143,10 +145,7 @@ module _ {A B : Type 0} (f : A → Tree) (g : B → Tree) where
   SameFrom i xs ys = SameItems (items_from (map f (drop i xs))) (items_from (map g (drop i ys)))
 
   pub lens_same : (xs : List A) (ys : List B) → SameFrom 0 xs ys → length xs ≡ length ys
-  lens_same xs ys h = sym (counted f xs) ∙ same_items_len _ _ h ∙ counted g ys where
-    counted : {C : Type 0} (f : C → Tree) (xs : List C) → items_count (items_from (map f xs)) ≡ length xs
-    counted f [] = refl
-    counted f (x ∷ xs) = ap (λ n. suc n) (counted f xs)
+  lens_same xs ys h = length-items f xs ∙ same_items_len _ _ h ∙ sym (length-items g ys)
 
   module _ (i : ℕ) (xs : List A) (ys : List B) (x : A) (y : B) (hx : i < length xs) (hy : i < length ys) (ex : x ≡ get_or xs i x) (ey : y ≡ get_or ys i y) where
     abbrev Both : List A → List B → Type 0

@@ -7,12 +7,13 @@ use Rattle.std.proofs.lemmas.Slice.Eq.{bytes_eq-Decides}
 use Rattle.std.proofs.lemmas.Bool.{or_parts, or_from}
 use Rattle.sj_text_core.specs.Keep.{is_seen}
 use Rattle.sj_object.specs.Texts.{no_repeats}
-use Rattle.sj_object.specs.inner.Texts.{not_and, not_and_of, bytes_eq-sym}
+use Rattle.sj_object.specs.inner.Texts.{not_and, not_and_of}
 use Rattle.sj_object.specs.Entries.{Entry, entry_texts}
 use Rattle.sj_object.specs.Edits.{lookup}
 use Rattle.sj_document.specs.SameWith.{SameIn, value_of_text, SameEntries}
 use Rattle.sj_document.specs.inner.SameWith.{EachHas}
 use Rattle.sj_text_core.proofs.Comparing.{by_either}
+use Rattle.sj_text_core.proofs.Texts.{bytes_eq-sym}
 use Rattle.sj_document.proofs.Compared.{seen_by, contra, texts_len}
 use Rattle.sj_document.proofs.Subsets.{Within, within_len, within_back}
 

@@ -7,14 +7,11 @@ use Rattle.std.proofs.lemmas.List.Sums.{sum_by-cons, sum_by-append, sum_by_push,
 use Rattle.std.proofs.Math.Nat.{mul-le-mul}
 use Rattle.sj_object.specs.Entries.{Entry, entries_of}
 use Rattle.sj_object.specs.Edits.{set_value_at, nth_value}
+use Rattle.sj_object.proofs.Hashed.{sum_by-map}
 use Rattle.sj_document.specs.inner.Nodes.{nodes, nodes_of, entry_nodes, work, level_nodes}
 use Rattle.sj_document.specs.declared.value.Document.TheOpen.{Document-F}
 use Rattle.sj_document.specs.declared.value.Document.{Document, Array, Object, the_lemmas, ind-Document, fold-roll-Document}
 use Rattle.sj_document.proofs.Trees.{Map}
-
-sum_by-map : {X Y : Type 0} (F : Y → ℕ) (f : X → Y) (xs : List X) → sum_by F (map f xs) ≡ sum_by (λ x. F (f x)) xs
-sum_by-map F f [] = refl
-sum_by-map F f (x ∷ xs) = sum_by-cons F (f x) (map f xs) ∙ ap (λ m. F (f x) + m) (sum_by-map F f xs) ∙ sym (sum_by-cons (λ y. F (f y)) x xs)
 
 pub falls : (a p b q : ℕ) → b + q + 1 ≤ a + p → work b q < work a p
 falls a p b q h =

@@ -10,8 +10,9 @@ use Rattle.sj_text_core.specs.Agree.{pair_keys}
 use Rattle.sj_text_core.specs.Repeats.{find_member_by}
 use Rattle.sj_text_core.specs.declared.repeats.Repeats.{Repeats}
 use Rattle.sj_text_core.specs.declared.repeats.Repeats.TheVariants.{First, Last}
+use Rattle.sj_text_core.proofs.Texts.{bytes_eq-sym}
 use Rattle.sj_object.specs.Texts.{no_repeats}
-use Rattle.sj_object.specs.inner.Texts.{not_and, bytes_eq-sym}
+use Rattle.sj_object.specs.inner.Texts.{not_and}
 use Rattle.sj_document.specs.SameWith.{SameIn, value_of_text}
 use Rattle.sj_document.proofs.Subsets.{Within, within_len, within_back}
 use Rattle.sj_lazy.specs.SameMap.{SameTexts}

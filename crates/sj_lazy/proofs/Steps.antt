@@ -1,6 +1,5 @@
 -- Steps of an upgrade.
-use Rattle.std.proofs.Common.{◌≡◌, Option, Some, None, sym}
-use Rattle.std.specs.Option.{OnSome}
+use Rattle.std.proofs.Common.{◌≡◌, Some, sym}
 use Rattle.sj_text_core.specs.Keep.{keep}
 use Rattle.sj_document.specs.declared.value.Document.{Document}
 use Rattle.sj_document.proofs.Kept.{tree_kept}
@@ -9,10 +8,6 @@ use Rattle.std.specs.Cow.{cow_str_bytes}
 use Rattle.sj_lazy.specs.Value.{Text, lent_tree, shared_tree}
 use Rattle.sj_lazy.specs.declared.value.Shared.{Shared}
 use Rattle.sj_lazy.specs.declared.value.Shared.TheVariants.{Borrowed, Owned}
-
-pub on_some : {X : Type 0} {A B : Type 0} (r : Option X) → (A → B) → OnSome r A → OnSome r B
-on_some None f h = h
-on_some (Some x) f h = f h
 
 pub some_is : {A : Type 0} (x u : A) → Some x ≡ Some u → x ≡ u
 some_is x u e = cc

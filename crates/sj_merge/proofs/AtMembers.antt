@@ -5,13 +5,14 @@ use Rattle.sj_text_core.specs.Tree.{Tree, null, obj, Members}
 use Rattle.sj_text_core.specs.Find.{find_member}
 use Rattle.sj_text_core.specs.Edits.{put, cut}
 use Rattle.sj_text_core.proofs.Writes.{find-put_same, put-twice}
+use Rattle.sj_text_core.proofs.Paths.{put_same}
 use Rattle.sj_document.specs.Document.{document_tree}
 use Rattle.sj_document.specs.declared.value.Document.{Document}
 use Rattle.sj_merge.specs.Merge.{is_null, merged, merged_members}
 use Rattle.sj_merge.specs.inner.Log.{with_changed, without_last_member, in_object, finished_one, finished, log_undone, MergesPair, MergesAt, MergesValue, ChangesValue}
 use Rattle.sj_merge.specs.declared.in_place.Logged.{Logged, Goes, Added, Swapped, Within}
 use Rattle.sj_merge.proofs.Pairs.{merged_pair-cut, merged_pair-put}
-use Rattle.sj_merge.proofs.Passing.{cut-passes, changed-passes, same-passes, passes_as, changed-found, put-same, last-put}
+use Rattle.sj_merge.proofs.Passing.{cut-passes, changed-passes, same-passes, passes_as, changed-found, last-put}
 use Rattle.sj_merge.proofs.Logs.{finished-Goes, finished-Added, finished-Swapped, finished-Within, undone-Goes, undone-Added, undone-Swapped, undone-Within}
 
 module _ {T : Type 0} (t : T → List ℕ) where
@@ -37,19 +38,19 @@ module _ {T : Type 0} (t : T → List ℕ) where
     finish = λ f p.
         h.finish (f ns) (p.finds ns ∙ ap (find_member k) e ∙ find-put_same k w ms) ∙ ap (put k (merged (Some u) v)) (ap f e ∙ p.puts w ms) ∙ put-twice k (merged (Some u) v) w (f ms)
         ∙ ap (λ o. put k (merged o v) (f ms)) (sym (p.finds ms ∙ found)) ∙ sym (merged_pair-put k v (f ms) q);
-    undo = h.undo ns (ap (find_member k) e ∙ find-put_same k w ms) ∙ ap (put k u) e ∙ put-twice k u w ms ∙ put-same k u ms found;
+    undo = h.undo ns (ap (find_member k) e ∙ find-put_same k w ms) ∙ ap (put k u) e ∙ put-twice k u w ms ∙ put_same k u ms found;
     apart = h.apart;
   }
 
   -- the same of what the calls answer
   pub at_member : (k : List ℕ) (v u w : Tree) (ms ns : Members) (r : Result (Logged T) AllocError) → is_null v ≡ false → find_member k ms ≡ Some u → ns ≡ put k w ms → ChangesValue t k v u w r → MergesAt t k v ms ns r
   at_member k v u w ms ns (Ok x) q found e h = at_found k v u w ms ns x q found e h
-  at_member k v u w ms ns (Err x) q found e h = e ∙ ap (λ w. put k w ms) h ∙ put-same k u ms found
+  at_member k v u w ms ns (Err x) q found e h = e ∙ ap (λ w. put k w ms) h ∙ put_same k u ms found
 
   -- one that was exchanged
   pub swapped : (key : T) (u : Document T) (v before w : Tree) → document_tree t u ≡ before → w ≡ merged (Some before) v → MergesValue t (t key) v before w (Swapped key u)
   swapped key u v before w p e = record {
-    finish = λ ms f. finished-Swapped t key u ms ∙ sym (put-same (t key) w ms f) ∙ ap (λ w. put (t key) w ms) e;
+    finish = λ ms f. finished-Swapped t key u ms ∙ sym (put_same (t key) w ms f) ∙ ap (λ w. put (t key) w ms) e;
     undo = λ ms f. undone-Swapped t key u ms ∙ changed-found (t key) (λ _. document_tree t u) w ms f ∙ ap (λ u. put (t key) u ms) p;
     apart = λ l n. passes_as l (finished_one t (Swapped key u)) (λ ms. ms) (finished-Swapped t key u) (same-passes l);
   }

@@ -4,13 +4,12 @@ use Rattle.std.specs.Option.{option_copied}
 use Rattle.std.specs.Prelude.{IfSome, IsTrue, ◌↔◌}
 use Rattle.std.proofs.lemmas.Bool.{false_from_ne_true}
 use Rattle.sj_text_core.specs.Tree.{Tree, null, boolean, int, text, list, obj, Members, no_members}
-use Rattle.sj_text_core.specs.Keep.{IsKept, IsSingle, HasSingle}
+use Rattle.sj_text_core.specs.Keep.{IsSingle, HasSingle}
 use Rattle.sj_text_core.specs.Same.{Same}
 use Rattle.sj_text_core.specs.Equal.{tree_eq}
 use Rattle.sj_text_core.specs.Reads.{as_members}
-use Rattle.sj_text_core.specs.declared.repeats.Repeats.TheVariants.{First}
 use Rattle.sj_text_core.proofs.Equal.{tree_eq-decides}
-use Rattle.sj_text_core.proofs.Single.{single-keep_by}
+use Rattle.sj_text_core.proofs.Single.{SingleFound, single-kept}
 use Rattle.sj_object.specs.Entries.{Entry}
 use Rattle.sj_object.specs.Members.{entry_members}
 use Rattle.sj_object.proofs.Kept.{object_kept}
@@ -21,13 +20,10 @@ use Rattle.sj_document.proofs.Trees.{Map}
 use Rattle.sj_merge.specs.Merge.{merged}
 use Rattle.sj_merge.specs.MergeDiff.{removals, merge_patch, patch_members}
 use Rattle.sj_merge.proofs.Told.{is_same}
-use Rattle.sj_merge.proofs.Leads.{SingleFound, is_same_of, leads}
+use Rattle.sj_merge.proofs.Leads.{is_same_of, leads}
 use Rattle.sj_merge.proofs.Without.{without, nothing}
 
 -- documents repeat no text
-single-kept : (u : Tree) → IsKept u → IsSingle u
-single-kept u e = subst IsSingle e (single-keep_by First u)
-
 module _ {T : Type 0} (t : T → List ℕ) where
   pub single_object : (m : Map T) → HasSingle (entry_members (document_tree t) m.entries)
   single_object m = single-kept (obj (entry_members (document_tree t) m.entries)) (object_kept (document_tree t) (tree_kept t) m)

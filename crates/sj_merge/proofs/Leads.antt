@@ -8,23 +8,11 @@ use Rattle.sj_text_core.specs.Same.{Same}
 use Rattle.sj_text_core.specs.inner.Agree.{SameFound}
 use Rattle.sj_text_core.proofs.Equal.{tree_eq-decides}
 use Rattle.sj_text_core.proofs.Equality.{at_from_found, same-refl}
+use Rattle.sj_text_core.proofs.Single.{SingleFound, single-member}
 use Rattle.sj_merge.specs.Merge.{is_null, target_members, merged, merged_members}
 use Rattle.sj_merge.specs.MergeDiff.{removals, merge_patch, patch_members}
 use Rattle.sj_merge.proofs.MergedFinds.{apart-single, found_merged, find-merged}
 use Rattle.sj_merge.proofs.Told.{is_same, Told, stays, changes, told, told-absent, told-apart, told-no_null, found_told, find-removals, removals-apart}
-
--- what was found, if anything was
-abbrev pub SingleFound : Option Tree → Type 0
-SingleFound None = Unit {0}
-SingleFound (Some t) = IsSingle t
-
-found_by : (b : Bool) (t : Tree) (r : Option Tree) → IsSingle t → SingleFound r → SingleFound (if b then Some t else r)
-found_by true t r s h = s
-found_by false t r s h = h
-
-pub single-member : (k : List ℕ) (ms : Members) → HasSingle ms → SingleFound (find_member k ms)
-single-member k no_members h = tt
-single-member k (member l t ms) h = found_by (bytes_eq k l) t (find_member k ms) h.1 (single-member k ms h.2)
 
 pub single-target : (old : Option Tree) → SingleFound old → HasSingle (target_members old)
 single-target None h = tt

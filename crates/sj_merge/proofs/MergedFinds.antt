@@ -7,6 +7,7 @@ use Rattle.sj_text_core.specs.Edits.{put, cut}
 use Rattle.sj_text_core.specs.Keep.{HasSingle}
 use Rattle.sj_text_core.proofs.Last.{find-put}
 use Rattle.sj_text_core.proofs.Writes.{find-cut_other}
+use Rattle.sj_text_core.proofs.Texts.{bytes_eq-sym}
 use Rattle.sj_merge.specs.Merge.{is_null, merged, merged_members}
 use Rattle.sj_merge.specs.inner.Merge.{merged_pair}
 
@@ -21,12 +22,6 @@ apart-single (member k t ms) h = (h.0, apart-single ms h.2)
 
 differs : {P : Type 0} (b : Bool) → b ≡ false → b ≡ true → P
 differs b e f = absurd (true≢false (sym f ∙ e))
-
-pub other_way : (k l : List ℕ) → bytes_eq k l ≡ false → bytes_eq l k ≡ false
-other_way k l e = by_test (bytes_eq l k) refl where
-  by_test : (b : Bool) → bytes_eq l k ≡ b → b ≡ false
-  by_test true f = differs (bytes_eq k l) e ((bytes_eq-Decides k l).1 (sym ((bytes_eq-Decides l k).0 f)))
-  by_test false f = refl
 
 -- cuts
 cut_same_by : (b : Bool) (k l : List ℕ) (t : Tree) (ms : Members) → bytes_eq k l ≡ b → AreApart (member l t ms) → find_member k (cut k ms) ≡ None → find_member k (if b then ms else member l t (cut k ms)) ≡ None
@@ -54,7 +49,7 @@ apart-cut k (member l t ms) h = cut_apart_by (bytes_eq k l) k l t ms refl h (apa
 -- puts
 put_apart_by : (b : Bool) (k l : List ℕ) (t u : Tree) (ms : Members) → bytes_eq k l ≡ b → AreApart (member l u ms) → AreApart (put k t ms) → AreApart (if b then member l t ms else member l u (put k t ms))
 put_apart_by true k l t u ms e h rest = (h.0, h.1)
-put_apart_by false k l t u ms e h rest = (find-put l k t ms ∙ ap (λ b. if b then Some t else find_member l ms) (other_way k l e) ∙ h.0, rest)
+put_apart_by false k l t u ms e h rest = (find-put l k t ms ∙ ap (λ b. if b then Some t else find_member l ms) (bytes_eq-sym k l e) ∙ h.0, rest)
 
 pub apart-put : (k : List ℕ) (t : Tree) (ms : Members) → AreApart ms → AreApart (put k t ms)
 apart-put k t no_members h = (refl, tt)

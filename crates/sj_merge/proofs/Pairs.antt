@@ -72,11 +72,3 @@ merged_whole o (int n c) e = refl
 merged_whole o (text s) e = refl
 merged_whole o (list is) e = refl
 merged_whole o (obj ps) e = cc
-
-pub members_of : (v : Tree) (ms : Members) → Some ms ≡ as_members v → v ≡ obj ms
-members_of null ms e = cc
-members_of (boolean b) ms e = cc
-members_of (int n c) ms e = cc
-members_of (text s) ms e = cc
-members_of (list is) ms e = cc
-members_of (obj ps) ms e = cc

@@ -5,13 +5,8 @@ use Rattle.sj_text_core.specs.Tree.{Tree, Members, no_members, member}
 use Rattle.sj_text_core.specs.Find.{find_member}
 use Rattle.sj_text_core.specs.Edits.{put, cut}
 use Rattle.sj_text_core.proofs.Writes.{find-cut_other}
+use Rattle.sj_text_core.proofs.Texts.{ne_bytes_eq}
 use Rattle.sj_merge.specs.inner.Log.{with_changed, without_last_member, Passes}
-
-differ : (k l : List ℕ) → k ≢ l → bytes_eq k l ≡ false
-differ k l n = by_test (bytes_eq k l) refl where
-  by_test : (b : Bool) → bytes_eq k l ≡ b → b ≡ false
-  by_test true e = absurd (n ((bytes_eq-Decides k l).0 e))
-  by_test false e = refl
 
 same : (k l : List ℕ) → bytes_eq k l ≡ true → k ≡ l
 same k l = (bytes_eq-Decides k l).0
@@ -19,10 +14,10 @@ same k l = (bytes_eq-Decides k l).0
 module _ (k l m : List ℕ) (n : k ≢ l) (u t : Tree) (ms : Members) where
   -- where the first member has the one text, it hasn't the other
   not_first : bytes_eq k m ≡ true → bytes_eq l m ≡ false
-  not_first e = differ l m (λ q. n (same k m e ∙ sym q))
+  not_first e = ne_bytes_eq l m (λ q. n (same k m e ∙ sym q))
 
   nor_first : bytes_eq l m ≡ true → bytes_eq k m ≡ false
-  nor_first e = differ k m (λ q. n (q ∙ sym (same l m e)))
+  nor_first e = ne_bytes_eq k m (λ q. n (q ∙ sym (same l m e)))
 
   cut_puts_by : (b c : Bool) → bytes_eq k m ≡ b → bytes_eq l m ≡ c → cut l (put k u ms) ≡ put k u (cut l ms)
       → cut l (if b then member m u ms else member m t (put k u ms)) ≡ put k u (if c then ms else member m t (cut l ms))
@@ -44,14 +39,14 @@ module _ (k l m : List ℕ) (n : k ≢ l) (u t : Tree) (ms : Members) where
   changed_finds_by f false e h = ap (λ o. if bytes_eq k m then Some t else o) h
 
 cut_puts : (k l : List ℕ) → k ≢ l → (u : Tree) (ms : Members) → cut l (put k u ms) ≡ put k u (cut l ms)
-cut_puts k l n u no_members = λ j. if differ l k (λ q. n (sym q)) j then no_members else member k u no_members
+cut_puts k l n u no_members = λ j. if ne_bytes_eq l k (λ q. n (sym q)) j then no_members else member k u no_members
 cut_puts k l n u (member m t ms) = cut_puts_by k l m n u t ms (bytes_eq k m) (bytes_eq l m) refl refl (cut_puts k l n u ms)
 
 pub cut-passes : (k l : List ℕ) → k ≢ l → Passes k (cut l)
 cut-passes k l n = record { finds = λ ms. find-cut_other k l ms n; puts = cut_puts k l n }
 
 changed_puts : (k l : List ℕ) (f : Tree → Tree) → k ≢ l → (u : Tree) (ms : Members) → with_changed l f (put k u ms) ≡ put k u (with_changed l f ms)
-changed_puts k l f n u no_members = λ j. if differ l k (λ q. n (sym q)) j then member k (f u) no_members else member k u no_members
+changed_puts k l f n u no_members = λ j. if ne_bytes_eq l k (λ q. n (sym q)) j then member k (f u) no_members else member k u no_members
 changed_puts k l f n u (member m t ms) = changed_puts_by k l m n u t ms f (bytes_eq k m) (bytes_eq l m) refl refl (changed_puts k l f n u ms)
 
 changed_finds : (k l : List ℕ) (f : Tree → Tree) → k ≢ l → (ms : Members) → find_member k (with_changed l f ms) ≡ find_member k ms
@@ -95,16 +90,6 @@ absent_change_by false k l f t ms e h = ap (member l t) (h e)
 pub changed-absent : (k : List ℕ) (f : Tree → Tree) (ms : Members) → find_member k ms ≡ None → with_changed k f ms ≡ ms
 changed-absent k f no_members e = refl
 changed-absent k f (member l t ms) e = absent_change_by (bytes_eq k l) k l f t ms e (changed-absent k f ms)
-
-put_same_by : (b : Bool) (k l : List ℕ) (u t : Tree) (ms : Members) → (if b then Some t else find_member k ms) ≡ Some u → (find_member k ms ≡ Some u → put k u ms ≡ ms)
-    → (if b then member l u ms else member l t (put k u ms)) ≡ member l t ms
-put_same_by true k l u t ms e h = let q : u ≡ t = cc in ap (λ x. member l x ms) q
-put_same_by false k l u t ms e h = ap (member l t) (h e)
-
--- the value that is there, put there
-pub put-same : (k : List ℕ) (u : Tree) (ms : Members) → find_member k ms ≡ Some u → put k u ms ≡ ms
-put-same k u no_members e = cc
-put-same k u (member l t ms) e = put_same_by (bytes_eq k l) k l u t ms e (put-same k u ms)
 
 last_by : (b : Bool) (l m : List ℕ) (t u v : Tree) (ms ns : Members) → without_last_member (member l t (if b then member m u ms else member m v ns)) ≡ member l t (without_last_member (if b then member m u ms else member m v ns))
 last_by true l m t u v ms ns = refl

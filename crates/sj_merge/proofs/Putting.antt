@@ -4,39 +4,25 @@ use Rattle.sj_text_core.specs.Tree.{Tree, null, Members, no_members, member}
 use Rattle.sj_text_core.specs.Find.{find_member}
 use Rattle.sj_text_core.specs.Edits.{put}
 use Rattle.sj_text_core.specs.Keep.{HasSingle}
+use Rattle.sj_text_core.proofs.Texts.{bytes_eq-sym, absent_parts}
+use Rattle.sj_text_core.proofs.Single.{joined, joined-nothing, joined-joined}
 use Rattle.sj_document.specs.Document.{document_tree}
 use Rattle.sj_document.specs.declared.value.Document.{Document}
 use Rattle.sj_merge.specs.Merge.{is_null}
 use Rattle.sj_merge.specs.MergeDiff.{removals, merge_patch, patch_members}
 use Rattle.sj_merge.specs.inner.Change.{IsChange}
 use Rattle.sj_merge.specs.declared.difference.Change.TheVariants.{Stays, Impossible, Becomes}
-use Rattle.sj_merge.proofs.MergedFinds.{AreApart, apart-single, other_way}
+use Rattle.sj_merge.proofs.MergedFinds.{AreApart, apart-single}
 use Rattle.sj_merge.proofs.Told.{is_same, told-absent, told-apart, removals-apart}
 
 abbrev pub put_each : Members → Members → Members
 put_each done no_members = done
 put_each done (member k v ps) = put_each (put k v done) ps
 
-abbrev joined : Members → Members → Members
-joined no_members ns = ns
-joined (member k t ms) ns = member k t (joined ms ns)
-
-joined-nothing : (ms : Members) → joined ms no_members ≡ ms
-joined-nothing no_members = refl
-joined-nothing (member k t ms) = ap (member k t) (joined-nothing ms)
-
-joined-joined : (done : Members) (k : List ℕ) (v : Tree) (ps : Members) → joined (joined done (member k v no_members)) ps ≡ joined done (member k v ps)
-joined-joined no_members k v ps = refl
-joined-joined (member l u done) k v ps = ap (member l u) (joined-joined done k v ps)
-
 -- where a text stands behind others, none of them has it
-there_by : (b : Bool) (t : Tree) (r : Option Tree) → (if b then Some t else r) ≡ None → (b ≡ false) × (r ≡ None)
-there_by true t r e = cc
-there_by false t r e = (refl, e)
-
 not_behind : (done : Members) (k l : List ℕ) (v : Tree) (ps : Members) → find_member l (joined done (member k v ps)) ≡ None → bytes_eq l k ≡ false
-not_behind no_members k l v ps e = (there_by (bytes_eq l k) v (find_member l ps) e).0
-not_behind (member m u done) k l v ps e = not_behind done k l v ps (there_by (bytes_eq l m) u (find_member l (joined done (member k v ps))) e).1
+not_behind no_members k l v ps e = (absent_parts (bytes_eq l k) v (find_member l ps) e).0
+not_behind (member m u done) k l v ps e = not_behind done k l v ps (absent_parts (bytes_eq l m) u (find_member l (joined done (member k v ps))) e).1
 
 new_by : (b : Bool) (l : List ℕ) (u : Tree) (there stays last : Members) → b ≡ false → stays ≡ last → (if b then there else member l u stays) ≡ member l u last
 new_by true l u there stays last e h = absurd (true≢false e)
@@ -45,7 +31,7 @@ new_by false l u there stays last e h = ap (member l u) h
 put-new : (done : Members) (k : List ℕ) (v : Tree) (ps : Members) → AreApart (joined done (member k v ps)) → put k v done ≡ joined done (member k v no_members)
 put-new no_members k v ps a = refl
 put-new (member l u done) k v ps a =
-    new_by (bytes_eq k l) l u (member l v done) (put k v done) (joined done (member k v no_members)) (other_way l k (not_behind done k l v ps a.0)) (put-new done k v ps a.1)
+    new_by (bytes_eq k l) l u (member l v done) (put k v done) (joined done (member k v no_members)) (bytes_eq-sym l k (not_behind done k l v ps a.0)) (put-new done k v ps a.1)
 
 put_each-joined : (done ps : Members) → AreApart (joined done ps) → put_each done ps ≡ joined done ps
 put_each-joined done no_members a = sym (joined-nothing done)

@@ -4,6 +4,7 @@ use Rattle.std.proofs.lemmas.Slice.Eq.{bytes_eq-Decides}
 use Rattle.sj_text_core.specs.Tree.{Tree, null, boolean, int, text, list, obj, Members, no_members, member}
 use Rattle.sj_text_core.specs.Find.{find_member}
 use Rattle.sj_text_core.specs.Equal.{passes, tree_eq}
+use Rattle.sj_text_core.proofs.Texts.{absent_parts}
 use Rattle.sj_merge.specs.Merge.{is_null, target_members}
 use Rattle.sj_merge.specs.MergeDiff.{removals, merge_patch, patch_members}
 use Rattle.sj_merge.proofs.MergedFinds.{AreApart}
@@ -33,17 +34,13 @@ module _ (ms : Members) (l : List ℕ) (w : Tree) (ns ps : Members) where
   pub told : patch_members ms (member l w ns) ≡ Some ps → Told ms l w ns ps
   told h = told_by (is_same (find_member l ms) w) (is_null w) refl refl h
 
-behind_by : (b : Bool) (t : Tree) (r : Option Tree) → (if b then Some t else r) ≡ None → r ≡ None
-behind_by true t r e = cc
-behind_by false t r e = e
-
 ahead_by : (b : Bool) (t p : Tree) (r s : Option Tree) → (if b then Some t else r) ≡ None → (r ≡ None → s ≡ None) → (if b then Some p else s) ≡ None
 ahead_by true t p r s e h = cc
 ahead_by false t p r s e h = h e
 
 absent_told : (k : List ℕ) (ms : Members) (l : List ℕ) (w : Tree) (ns ps : Members) → ((qs : Members) → patch_members ms ns ≡ Some qs → find_member k ns ≡ None → find_member k qs ≡ None)
     → Told ms l w ns ps → (if bytes_eq k l then Some w else find_member k ns) ≡ None → find_member k ps ≡ None
-absent_told k ms l w ns ps ih (stays d h) n = ih ps h (behind_by (bytes_eq k l) w (find_member k ns) n)
+absent_told k ms l w ns ps ih (stays d h) n = ih ps h (absent_parts (bytes_eq k l) w (find_member k ns) n).1
 absent_told k ms l w ns ps ih (changes p qs d y f h q) n = ap (find_member k) q ∙ ahead_by (bytes_eq k l) w p (find_member k ns) (find_member k qs) n (ih qs h)
 
 -- a text that the wanted has not is told of by none of its members

@@ -7,11 +7,12 @@ use Rattle.sj_text_core.specs.Keep.{IsSingle, HasSingle}
 use Rattle.sj_text_core.specs.Same.{Same}
 use Rattle.sj_text_core.specs.inner.Agree.{SameFound}
 use Rattle.sj_text_core.proofs.Equality.{found_from_at}
+use Rattle.sj_text_core.proofs.Single.{SingleFound, single-member}
 use Rattle.sj_merge.specs.Merge.{is_null, target_members, merged, merged_members}
 use Rattle.sj_merge.specs.MergeDiff.{removals, merge_patch, patch_members}
 use Rattle.sj_merge.proofs.MergedFinds.{apart-single, found_merged, find-merged}
 use Rattle.sj_merge.proofs.Told.{is_same}
-use Rattle.sj_merge.proofs.Leads.{SingleFound, single-member, single-target, is_same_of}
+use Rattle.sj_merge.proofs.Leads.{single-target, is_same_of}
 
 -- each wanted member is what P says of it
 abbrev pub Each : (List ℕ → Tree → Type 0) → Members → Type 0

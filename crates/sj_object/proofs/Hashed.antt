@@ -30,7 +30,7 @@ text_at t [] i q l e = absurd (omega arith)
 text_at t (p ∷ ps) zero q l e = ap (λ r. t r.0) (sym e)
 text_at t (p ∷ ps) (suc i) q l e = text_at t ps i q (omega arith) e
 
-sum_by-map : {X Y : Type 0} (F : Y → ℕ) (f : X → Y) (xs : List X) → sum_by F (map f xs) ≡ sum_by (λ x. F (f x)) xs
+pub sum_by-map : {X Y : Type 0} (F : Y → ℕ) (f : X → Y) (xs : List X) → sum_by F (map f xs) ≡ sum_by (λ x. F (f x)) xs
 sum_by-map F f [] = refl
 sum_by-map F f (x ∷ xs) = sum_by-cons F (f x) (map f xs) ∙ ap (λ m. F (f x) + m) (sum_by-map F f xs) ∙ sym (sum_by-cons (λ y. F (f y)) x xs)
 

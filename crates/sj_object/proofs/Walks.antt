@@ -5,8 +5,9 @@ use Rattle.std.proofs.lemmas.Bool.{or_parts}
 use Rattle.sj_text_core.specs.Tree.{Tree, Members, member}
 use Rattle.sj_text_core.specs.Edits as members
 use Rattle.sj_text_core.specs.Keep.{is_seen}
+use Rattle.sj_text_core.proofs.Texts.{bytes_eq-sym}
 use Rattle.sj_object.specs.Texts.{no_repeats}
-use Rattle.sj_object.specs.inner.Texts.{not_and, bytes_eq-sym}
+use Rattle.sj_object.specs.inner.Texts.{not_and}
 use Rattle.sj_object.specs.Entries.{Entry, entry_texts}
 use Rattle.sj_object.specs.Members.{entry_members}
 

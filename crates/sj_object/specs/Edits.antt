@@ -4,8 +4,9 @@ use Rattle.std.proofs.Common.{arith}
 use Rattle.std.proofs.lemmas.Bool.{or_parts, or_from}
 use mathlib.Core.Path.{ap, ◌∙◌, sym, subst}
 use Rattle.sj_text_core.specs.Keep.{is_seen}
+use Rattle.sj_text_core.proofs.Texts.{bytes_eq-sym}
 use Rattle.sj_object.specs.Texts.{no_repeats}
-use Rattle.sj_object.specs.inner.Texts.{not_and, not_and_of, bytes_eq-sym}
+use Rattle.sj_object.specs.inner.Texts.{not_and, not_and_of}
 use Rattle.sj_object.specs.Entries.{Entry, entry_texts}
 use Rattle.sj_object.specs.HashMap.{Contents}
 use Rattle.sj_object.specs.Index.{buckets_for, HasRoom, HasRoom-more}

@@ -16,10 +16,12 @@ use Rattle.sj_pointer.specs.Pointed.{token_into, pointed}
 use Rattle.sj_document.specs.Items.{remove_at}
 use Rattle.sj_patch.specs.Patch.{PlainOperation, add, remove, replace, move, copy, test, or_missing, onwards, within, place_among, added_at, added_in, removed_at, removed_in, added, removed, replaced, stayed, begins, copied, tested, moved, applied, next, patched_from}
 use Rattle.sj_patch.specs.Laws.{SameOutcome, HasSingleValue}
-use Rattle.sj_patch.proofs.SameEdits.{by_same, found-same, same-put, same-cut, same-insert_at, same-remove_at, same-nth_item, same-items_len, same-token, same-set_found, same-pointed, same-set_pointed}
-use Rattle.sj_patch.proofs.SingleEdits.{SingleFound, single-put, single-cut, single-insert_at, single-remove_at, single-token, single-set_found, single-pointed, single-set_pointed}
+use Rattle.sj_patch.proofs.SameEdits.{by_same, found-same, same-put, same-cut, same-insert_at, same-remove_at, same-nth_item, same-token, same-set_found, same-pointed, same-set_pointed}
+use Rattle.sj_patch.proofs.SingleEdits.{single-cut, single-insert_at, single-remove_at, single-token, single-set_found, single-pointed, single-set_pointed}
 use Rattle.sj_text_core.specs.declared.patch_fault.OperationFault.{OperationFault}
 use Rattle.sj_text_core.specs.declared.patch_fault.OperationFault.TheVariants.{Differs, IntoItself}
+use Rattle.sj_text_core.proofs.Single.{SingleFound, single-put}
+use Rattle.sj_text_core.proofs.Shapes.{same_items_len}
 
 -- two trees that are the same, in each of which a text names one member
 abbrev pub Twins : Tree → Tree → Type 0
@@ -64,7 +66,7 @@ added_item (Some i) v w is js s h x y = (same-insert_at i v w is js s.0 h, singl
 added_in-alike : (v w : Tree) → Twins v w → (k : List ℕ) (t u : Tree) → Twins t u → Alike (added_in v k t) (added_in w k u)
 added_in-alike v w s k t u h = by_same (λ t u. IsSingle t → IsSingle u → Alike (added_in v k t) (added_in w k u))
     (λ x y. refl) (λ b x y. refl) (λ n m c d e x y. refl) (λ r x y. refl)
-    (λ is js g x y. subst (λ n. Alike (added_at (place_among (items_len is) k) v is) (added_at (place_among n k) w js)) (same-items_len is js g) (added_item (place_among (items_len is) k) v w is js s g x y))
+    (λ is js g x y. subst (λ n. Alike (added_at (place_among (items_len is) k) v is) (added_at (place_among n k) w js)) (same_items_len is js g) (added_item (place_among (items_len is) k) v w is js s g x y))
     (λ ms ns g x y. (same-put k v w ms ns s.0 g, single-put k v ms s.1 x, single-put k w ns s.2 y)) t u h.0 h.1 h.2
 
 mapped : (o p : Option Tree) (t u : Tree) → SameFound o p → Twins t u → Alike (or_missing (option_map (λ _. t) o)) (or_missing (option_map (λ _. u) p))

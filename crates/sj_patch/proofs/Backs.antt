@@ -1,6 +1,5 @@
 -- Members and items that go back to their places.
-use Rattle.std.proofs.Common.{◌≡◌, ◌<◌, ◌≤◌, ◌&&◌, ℕ, zero, suc, Bool, true, false, List, [], ◌∷◌, length, Option, Some, None, Ok, Err, refl, sym, ap, ◌∙◌, arith, bytes_eq, option_map}
-use Rattle.std.specs.Option.{is_some}
+use Rattle.std.proofs.Common.{◌≡◌, ◌<◌, ◌≤◌, ◌&&◌, ℕ, zero, suc, Bool, true, false, List, [], ◌∷◌, length, Some, None, Ok, Err, refl, sym, ap, ◌∙◌, arith, bytes_eq, option_map}
 use Rattle.std.specs.List.{insert}
 use Rattle.std.proofs.lemmas.Bool.Decides.{nat_tests}
 use Rattle.std.proofs.lemmas.Bool.{or_parts, or_from}
@@ -8,7 +7,7 @@ use Rattle.sj_text_core.specs.Tree.{Tree, Items, no_items, item, items_len, memb
 use Rattle.sj_text_core.specs.Find.{find_member, nth_item}
 use Rattle.sj_text_core.specs.Keep.{is_seen}
 use Rattle.sj_object.specs.Texts.{no_repeats}
-use Rattle.sj_object.specs.inner.Texts.{not_and, bytes_eq-sym}
+use Rattle.sj_object.specs.inner.Texts.{not_and}
 use Rattle.sj_object.specs.Entries.{Entry, entry_texts}
 use Rattle.sj_object.proofs.Position.{none_where_unseen}
 use Rattle.sj_object.proofs.Shown.{lookup-entry_members}
@@ -16,6 +15,7 @@ use Rattle.sj_object.specs.Members.{entry_members}
 use Rattle.sj_document.specs.Items.{insert_at, remove_at}
 use Rattle.sj_patch.specs.inner.Changed.{insert_member, where_so, is_placed}
 use Rattle.sj_text_core.specs.declared.patch_fault.OperationFault.TheVariants.{Missing}
+use Rattle.sj_text_core.proofs.Texts.{bytes_eq-sym}
 
 pub placed : (len n i : ℕ) → len < n → i ≤ len → is_placed len n i ≡ true
 placed len n i l h = grind (arith, nat_tests)
@@ -59,10 +59,6 @@ pub found-within : (i : ℕ) (u : Tree) (is : Items) → nth_item i is ≡ Some 
 found-within i u no_items f = cc
 found-within zero u (item t is) f = omega arith
 found-within (suc i) u (item t is) f = omega (arith, found-within i u is f)
-
-pub some-map : {A B : Type 0} (f : A → B) (o : Option A) → is_some (option_map f o) ≡ is_some o
-some-map f None = refl
-some-map f (Some x) = refl
 
 pub and_false : (b : Bool) → b && false ≡ false
 and_false true = refl

@@ -22,7 +22,9 @@ use Rattle.sj_object.specs.Rooms.{places, takes, restored, restored_all}
 use Rattle.sj_object.specs.declared.map.kept_room.Room.{Room}
 use Rattle.sj_object.proofs.Shown.{lookup-entry_members}
 use Rattle.sj_patch.specs.Patch.{removed}
-use Rattle.sj_document.proofs.Arrays.{items_seen}
+use Rattle.sj_document.proofs.Arrays.{items_seen, length-items}
+use Rattle.sj_document.proofs.Placed.{items-insert}
+use Rattle.sj_merge.proofs.Changes.{some_map}
 use Rattle.sj_patch.specs.inner.Changed.{stepped, filled_below, or_same, is_placed, where_so, insert_member, member_back, item_back, member_step, item_step, items_filled, gaps_filled, gap_filled, IsFirstGap, Takes, reversed_in, reversed_whole, undone_at}
 use Rattle.sj_patch.specs.declared.gaps.Gap.{Gap}
 use Rattle.sj_patch.specs.declared.gaps.Gap.TheVariants as gap
@@ -33,9 +35,8 @@ use Rattle.sj_patch.specs.declared.reversal.Reversal.{Reversal}
 use Rattle.sj_patch.specs.declared.reversal.Reversal.TheVariants as reversal
 use Rattle.sj_patch.proofs.Within.{changed_below}
 use Rattle.sj_patch.proofs.Logged.{take-removed}
-use Rattle.sj_patch.proofs.Items.{items-insert, items_len-seen}
 use Rattle.sj_patch.proofs.Stepped.{stepped-last, stepped-none, filled-after, filled-last, full}
-use Rattle.sj_patch.proofs.Backs.{some-map, members-insert, members_len-seen, placed-within}
+use Rattle.sj_patch.proofs.Backs.{members-insert, members_len-seen, placed-within}
 
 -- whatever the token
 pub member_any : (n i : ℕ) (k l m : List ℕ) (v u : Tree) → member_back n i k v l u ≡ member_back n i k v m u
@@ -67,7 +68,7 @@ module _ {T : Type 0} (t : T → List ℕ) where
   fill_placed n i v vs ws gs fs q w e =
       let is = items_seen t vs in
       ap (λ l. items_filled t n fs (list (items_seen t l))) w
-      ∙ ap (items_filled t n fs) (ap list (items-insert t vs i v (placed-within _ n i q)) ∙ sym (item_placed n i v is (ap (λ m. is_placed m n i) (items_len-seen t vs) ∙ q)))
+      ∙ ap (items_filled t n fs) (ap list (items-insert t vs i v (placed-within _ n i q)) ∙ sym (item_placed n i v is (ap (λ m. is_placed m n i) (sym (length-items (document_tree t) vs)) ∙ q)))
       ∙ sym (stepped-last (item_step t n) fs (i, v) (list is)) ∙ ap (λ gs. items_filled t n gs (list is)) (sym e)
 
   -- one has no place
@@ -75,12 +76,12 @@ module _ {T : Type 0} (t : T → List ℕ) where
       → items_filled t n fs (list (items_seen t vs)) ≡ items_filled t n gs (list (items_seen t vs))
   fill_unplaced n i v vs gs fs q e =
       let is = items_seen t vs in
-      ap (items_filled t n fs) (sym (item_unplaced n i v is (ap (λ m. is_placed m n i) (items_len-seen t vs) ∙ q)))
+      ap (items_filled t n fs) (sym (item_unplaced n i v is (ap (λ m. is_placed m n i) (sym (length-items (document_tree t) vs)) ∙ q)))
       ∙ sym (stepped-last (item_step t n) fs (i, v) (list is)) ∙ ap (λ gs. items_filled t n gs (list is)) (sym e)
 
   -- none has a place where all are taken
   pub fill_full : (n : ℕ) (vs : List (Document T)) (gs : List (ℕ × Document T)) → n ≤ length vs → items_filled t n gs (list (items_seen t vs)) ≡ list (items_seen t vs)
-  fill_full n vs gs h = stepped-none (item_step t n) gs (list (items_seen t vs)) (λ g. item_unplaced n g.0 g.1 (items_seen t vs) (full _ n g.0 (omega (arith, h, items_len-seen t vs))))
+  fill_full n vs gs h = stepped-none (item_step t n) gs (list (items_seen t vs)) (λ g. item_unplaced n g.0 g.1 (items_seen t vs) (full _ n g.0 (omega (arith, h, length-items (document_tree t) vs))))
 
   -- gaps of members are none of an array's, nor those of items an object's
   pub members_in_list : (n : ℕ) (gs : List (ℕ × T × Document T)) (is : Items) → stepped (member_step t n) gs (list is) ≡ list is
@@ -145,7 +146,7 @@ module _ {T : Type 0} (t : T → List ℕ) where
   -- what a map makes of a member that goes back is what the tree makes of it
   taken_seen : (n i : ℕ) (k : List ℕ) (es : List (Entry T (Document T))) → (is_placed (members_len (entry_members (document_tree t) es)) n i && not (is_some (find_member k (entry_members (document_tree t) es)))) ≡ takes n i k es
   taken_seen n i k es =
-      let found : is_some (find_member k (entry_members (document_tree t) es)) ≡ is_some (lookup k es) = ap is_some (sym (lookup-entry_members (document_tree t) k es)) ∙ some-map (document_tree t) (lookup k es) in
+      let found : is_some (find_member k (entry_members (document_tree t) es)) ≡ is_some (lookup k es) = ap is_some (sym (lookup-entry_members (document_tree t) k es)) ∙ some_map (document_tree t) (lookup k es) in
       (λ j. is_placed (members_len-seen (document_tree t) es j) n i && not (found j))
 
   placed_of : (a b : Boolean) → a && b ≡ true → a ≡ true

@@ -1,31 +1,29 @@
 -- Operations that lead from one object to another, member by member.
 use Rattle.std.proofs.Common.{◌≡◌, ℕ, Bool, true, false, List, [], ◌∷◌, ◌++◌, map, Option, Some, None, option_map, option_and_then, if◌then◌else◌, bytes_eq, refl, ap, ◌∙◌, subst}
 use Rattle.std.specs.Option.{option_or}
-use Rattle.std.proofs.lemmas.Slice.Eq.{bytes_eq-Decides}
 use Rattle.sj_text_core.specs.Tree.{Tree, obj, Members, member, members_from}
 use Rattle.sj_text_core.specs.Keep.{IsSingle}
 use Rattle.sj_text_core.specs.Edits.{put, cut}
 use Rattle.sj_text_core.specs.Paths.{by_token, change_found}
 use Rattle.sj_text_core.proofs.Equality.{same-refl}
 use Rattle.sj_text_core.proofs.Comparing.{found}
+use Rattle.sj_text_core.proofs.Single.{single-put}
+use Rattle.sj_text_core.proofs.Texts.{bytes_eq-self}
 use Rattle.sj_pointer.specs.Pointed.{pointed, set_pointed}
 use Rattle.sj_patch.specs.Patch.{PlainOperation, add, remove, or_missing, next, patched_from}
 use Rattle.sj_patch.specs.Locality.{under}
-use Rattle.sj_patch.proofs.SingleEdits.{single-put, single-cut}
+use Rattle.sj_patch.proofs.SingleEdits.{single-cut}
 use Rattle.sj_patch.specs.inner.Noted.{Leads, Pairs, object, new_first, unmatched}
 use Rattle.sj_patch.proofs.Leading.{leads-below}
 
 -- an edit at the first pair of a text
 module _ (k : List ℕ) where
-  itself : bytes_eq k k ≡ true
-  itself = (bytes_eq-Decides k k).1 refl
-
   found_step : (b : Bool) (t u : Tree) (r s : Option Tree) → (if b then Some u else r) ≡ None → (r ≡ None → s ≡ Some t) → (if b then Some u else s) ≡ Some t
   found_step true t u r s e h = cc
   found_step false t u r s e h = h e
 
   pub found-at : (t : Tree) (done rest : Pairs) → found k done ≡ None → found k (done ++ (k, t) ∷ rest) ≡ Some t
-  found-at t [] rest e = ap (λ b. if b then Some t else found k rest) itself
+  found-at t [] rest e = ap (λ b. if b then Some t else found k rest) (bytes_eq-self k)
   found-at t (p ∷ done) rest e = found_step (bytes_eq k p.0) t p.1 (found k done) (found k (done ++ (k, t) ∷ rest)) e (found-at t done rest)
 
   put_step : (b : Bool) (w x : Tree) (l : List ℕ) (r : Option Tree) (ms ns : Members) → (if b then Some x else r) ≡ None → (r ≡ None → put k w ms ≡ ns) → (if b then member l w ms else member l x (put k w ms)) ≡ member l x ns
@@ -33,7 +31,7 @@ module _ (k : List ℕ) where
   put_step false w x l r ms ns e h = ap (member l x) (h e)
 
   put-at : (t w : Tree) (done rest : Pairs) → found k done ≡ None → put k w (members_from (done ++ (k, t) ∷ rest)) ≡ members_from (done ++ (k, w) ∷ rest)
-  put-at t w [] rest e = ap (λ b. if b then member k w (members_from rest) else member k t (put k w (members_from rest))) itself
+  put-at t w [] rest e = ap (λ b. if b then member k w (members_from rest) else member k t (put k w (members_from rest))) (bytes_eq-self k)
   put-at t w (p ∷ done) rest e = put_step (bytes_eq k p.0) w p.1 p.0 (found k done) (members_from (done ++ (k, t) ∷ rest)) (members_from (done ++ (k, w) ∷ rest)) e (put-at t w done rest)
 
   put-last : (w : Tree) (done : Pairs) → found k done ≡ None → put k w (members_from done) ≡ members_from (done ++ (k, w) ∷ [])
@@ -45,7 +43,7 @@ module _ (k : List ℕ) where
   cut_step false x l r ms ns e h = ap (member l x) (h e)
 
   cut-at : (t : Tree) (done rest : Pairs) → found k done ≡ None → cut k (members_from (done ++ (k, t) ∷ rest)) ≡ members_from (done ++ rest)
-  cut-at t [] rest e = ap (λ b. if b then members_from rest else member k t (cut k (members_from rest))) itself
+  cut-at t [] rest e = ap (λ b. if b then members_from rest else member k t (cut k (members_from rest))) (bytes_eq-self k)
   cut-at t (p ∷ done) rest e = cut_step (bytes_eq k p.0) p.1 p.0 (found k done) (members_from (done ++ (k, t) ∷ rest)) (members_from (done ++ rest)) e (cut-at t done rest)
 
   -- a member changed

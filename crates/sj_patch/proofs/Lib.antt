@@ -1,4 +1,3 @@
-pub mod Items
 pub mod Setting
 pub mod Reverting
 pub mod Joined

@@ -30,11 +30,11 @@ begins-join [] ps qs = refl
 begins-join (k ∷ ks) ps qs = ap (λ b. b && begins (ks ++ ps) (ks ++ qs)) ((bytes_eq-Decides k k).1 refl) ∙ begins-join ks ps qs
 
 -- what was put back is put back once more
-onwards-Ok : (r : Result Tree OperationFault) → onwards r (λ w. Ok w) ≡ r
+pub onwards-Ok : (r : Result Tree OperationFault) → onwards r (λ w. Ok w) ≡ r
 onwards-Ok (Ok t) = refl
 onwards-Ok (Err w) = refl
 
-set_on : (r : Result Tree OperationFault) (g h : Tree → Tree) → onwards (onwards r (λ w. Ok (g w))) (λ w. Ok (h w)) ≡ onwards r (λ w. Ok (h (g w)))
+pub set_on : (r : Result Tree OperationFault) (g h : Tree → Tree) → onwards (onwards r (λ w. Ok (g w))) (λ w. Ok (h w)) ≡ onwards r (λ w. Ok (h (g w)))
 set_on (Ok t) g h = refl
 set_on (Err w) g h = refl
 

@@ -2,12 +2,13 @@
 use Rattle.std.proofs.Common.{◌≡◌, ℕ, zero, suc, ◌+◌, ◌-◌, ◌<◌, ◌≤◌, ◌^◌, List, [], ◌∷◌, ◌++◌, map, length, take, drop, get_or, append_assoc, append-nil, min, Some, refl, sym, ap, ◌∙◌, subst, arith, length-append}
 use Rattle.std.specs.Fmt.{decimal}
 use Rattle.std.proofs.lemmas.List.{length-take, length-drop, length-map, map-append, take-append-drop, drop-append-le, take-map, drop-map, drop_more, take_more, map_more, take_all, drop_all, take-take}
-use Rattle.sj_text_core.specs.Tree.{Tree, items_len, items_from}
+use Rattle.sj_text_core.specs.Tree.{Tree, items_from}
 use Rattle.sj_text_core.specs.Same.{Same}
 use Rattle.sj_text_core.specs.Keep.{IsSingle}
 use Rattle.sj_text_core.specs.Places.{place_of}
 use Rattle.sj_text_core.proofs.Equality.{same-refl}
 use Rattle.sj_text_core.proofs.Shapes.{same_items_len}
+use Rattle.sj_tape.proofs.Parts.{items_len-from}
 use Rattle.sj_patch.specs.Patch.{PlainOperation, add, remove}
 use Rattle.sj_patch.specs.Locality.{under}
 use Rattle.sj_patch.specs.inner.Noted.{Leads, Notes, array, between, removals_at, additions}
@@ -63,10 +64,7 @@ pub same-at : (i : ℕ) (xs ys : List Tree) (x y : Tree) (vs ws : List Tree) →
 same-at i xs ys x y vs ws e f h = (subst (λ r. Same (array (x ∷ vs)) (array r)) f (subst (λ r. Same (array r) (array (drop i ys))) e (same-from i xs ys h))).0
 
 pub same-length : (xs ys : List Tree) → Same (array xs) (array ys) → length xs ≡ length ys
-same-length xs ys h = sym (counted xs) ∙ same_items_len (items_from xs) (items_from ys) h ∙ counted ys where
-  counted : (ts : List Tree) → items_len (items_from ts) ≡ length ts
-  counted [] = refl
-  counted (t ∷ ts) = ap suc (counted ts)
+same-length xs ys h = sym (items_len-from xs) ∙ same_items_len (items_from xs) (items_from ys) h ∙ items_len-from ys
 
 -- the items up to a position are those of the other array, but for the first that are the same
 module _ (first : ℕ) (xs ys : List Tree) where

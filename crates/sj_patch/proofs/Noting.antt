@@ -4,6 +4,7 @@ use Rattle.std.proofs.lemmas.List.{map-append}
 use Rattle.sj_text_core.specs.Tree.{Tree, obj}
 use Rattle.sj_text_core.specs.Same.{Same}
 use Rattle.sj_text_core.specs.Keep.{IsSingle}
+use Rattle.sj_text_core.proofs.Single.{single-kept}
 use Rattle.sj_object.specs.HashMap.{Contents}
 use Rattle.sj_object.specs.Members.{entry_members}
 use Rattle.sj_object.proofs.Kept.{object_kept}
@@ -15,7 +16,6 @@ use Rattle.sj_patch.specs.Locality.{under}
 use Rattle.sj_patch.specs.Diff.{Becomes}
 use Rattle.sj_patch.specs.inner.Noted.{Leads, Notes, array}
 use Rattle.sj_patch.proofs.Leading.{leads-same, leads-whole, under-join, under-nothing, under-whole}
-use Rattle.sj_patch.proofs.SingleEdits.{single-kept}
 
 -- documents mean trees in which no text names two members
 module _ {T : Type 0} (t : T → List ℕ) where

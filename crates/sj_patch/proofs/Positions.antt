@@ -1,25 +1,17 @@
 -- The token that names a position.
-use Rattle.std.proofs.Common.{◌≡◌, ℕ, ◌+◌, ◌-◌, ◌*◌, ◌/◌, ◌%◌, ◌<◌, ◌≤◌, ◌^◌, List, [], ◌∷◌, ◌++◌, length, slice_index, fold, Some, refl, sym, ap, ◌∙◌, arith, length-append}
+use Rattle.std.proofs.Common.{◌≡◌, ℕ, ◌+◌, ◌-◌, ◌*◌, ◌/◌, ◌%◌, ◌<◌, ◌≤◌, ◌^◌, List, [], ◌∷◌, ◌++◌, fold, Some, sym, ap, ◌∙◌, arith, length-append}
 use Rattle.std.specs.Fmt.{decimal}
-use Rattle.std.specs.List.{AllByRecursion}
 use Rattle.std.proofs.lemmas.Fmt.{decimal_by_steps}
 use Rattle.std.proofs.lemmas.List.Sums.{fold-append}
-use Rattle.sj_text_core.specs.Grammar.{IsDigit, IsNumeral, value_of}
+use Rattle.sj_text_core.specs.Grammar.{IsNumeral, value_of}
 use Rattle.sj_text_core.specs.Places.{place_of}
+use Rattle.sj_text_core.proofs.Printed.{digits_more, first_stays}
 use Rattle.sj_pointer.proofs.Numerals.{places_are}
 
 -- the numeral of n
 record Writes (n : ℕ) (ds : List ℕ) : Type 0 where
   numeral : IsNumeral ds
   value : value_of ds ≡ n
-
-digits_more : (ds : List ℕ) (c : ℕ) → AllByRecursion IsDigit ds → IsDigit c → AllByRecursion IsDigit (ds ++ c ∷ [])
-digits_more [] c h d = (d, tt)
-digits_more (e ∷ ds) c h d = (h.0, digits_more ds c h.1 d)
-
-first_stays : (ds : List ℕ) (c : ℕ) → 0 < length ds → slice_index (ds ++ c ∷ []) 0 ≡ slice_index ds 0
-first_stays [] c h = absurd (omega (arith, h))
-first_stays (d ∷ ds) c h = refl
 
 one : (n : ℕ) → n < 10 → Writes n ((48 + n) ∷ [])
 one n h = record { numeral = record { some = omega arith; digits = ((omega arith, omega (arith, h)), tt); plain = λ e. ap (λ c. c ∷ []) e }; value = omega arith }

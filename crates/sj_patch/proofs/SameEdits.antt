@@ -1,7 +1,7 @@
 -- Edits of trees that are the same leave trees that are the same.
 use Rattle.std.proofs.Common.{◌≡◌, ℕ, zero, suc, ℤ, Bool, true, false, List, [], ◌∷◌, Option, Some, None, option_and_then, if◌then◌else◌, bytes_eq, refl, sym, ap, ◌∙◌, subst}
 use Rattle.std.proofs.lemmas.Slice.Eq.{bytes_eq-Decides}
-use Rattle.sj_text_core.specs.Tree.{Tree, Carrier, null, boolean, int, text, list, obj, Items, no_items, item, items_len, Members}
+use Rattle.sj_text_core.specs.Tree.{Tree, Carrier, null, boolean, int, text, list, obj, Items, no_items, item, Members}
 use Rattle.sj_text_core.specs.Find.{find_member, nth, nth_item}
 use Rattle.sj_text_core.specs.Same.{Same, SameItems}
 use Rattle.sj_text_core.specs.inner.Agree.{SameFound}
@@ -113,11 +113,6 @@ same-nth_item i no_items js h = ap (nth_item i) h
 same-nth_item i (item x is) no_items h = absurd h
 same-nth_item zero (item x is) (item y js) h = h.0
 same-nth_item (suc i) (item x is) (item y js) h = same-nth_item i is js h.1
-
-pub same-items_len : (is js : Items) → SameItems is js → items_len is ≡ items_len js
-same-items_len no_items js h = sym (ap items_len h)
-same-items_len (item x is) no_items h = absurd h
-same-items_len (item x is) (item y js) h = ap suc (same-items_len is js h.1)
 
 -- at a token
 found_placed : (o : Option ℕ) (is js : Items) → SameItems is js → SameFound (option_and_then (λ i. nth i (list is)) o) (option_and_then (λ i. nth i (list js)) o)

@@ -1,43 +1,19 @@
 -- Edits of trees in which each text names one member leave such trees.
-use Rattle.std.proofs.Common.{◌≡◌, ℕ, zero, suc, Bool, true, false, List, [], ◌∷◌, Option, Some, None, option_and_then, if◌then◌else◌, bytes_eq, refl, sym, ap, ◌∙◌, subst}
+use Rattle.std.proofs.Common.{◌≡◌, ℕ, zero, suc, Bool, true, false, List, [], ◌∷◌, Option, Some, None, option_and_then, if◌then◌else◌, bytes_eq, refl, sym, ◌∙◌}
 use Rattle.std.proofs.lemmas.Slice.Eq.{bytes_eq-Decides}
 use Rattle.sj_text_core.specs.Tree.{Tree, null, boolean, int, text, list, obj, Items, no_items, item, Members, no_members, member}
-use Rattle.sj_text_core.specs.Find.{find_member, nth, nth_item}
-use Rattle.sj_text_core.specs.Keep.{IsKept, IsSingle, AreSingle, HasSingle}
-use Rattle.sj_text_core.specs.Edits.{put, cut}
+use Rattle.sj_text_core.specs.Find.{nth, nth_item}
+use Rattle.sj_text_core.specs.Keep.{IsSingle, AreSingle, HasSingle}
+use Rattle.sj_text_core.specs.Edits.{cut}
 use Rattle.sj_text_core.specs.Places.{place_of}
 use Rattle.sj_text_core.specs.Paths.{by_token, set_item, set_placed, set_found, change_found}
 use Rattle.sj_text_core.specs.declared.repeats.Repeats.TheVariants.{First}
-use Rattle.sj_text_core.proofs.Last.{find-put}
-use Rattle.sj_text_core.proofs.Single.{single-keep_by}
+use Rattle.sj_text_core.proofs.Single.{SingleFound, single-put, single-member}
 use Rattle.sj_text_core.proofs.Writes.{find-cut_other}
 use Rattle.sj_pointer.specs.Pointed.{token_into, pointed, set_pointed}
 use Rattle.sj_document.specs.Items.{insert_at, remove_at}
 
--- where keeping drops nothing, no text names two members
-pub single-kept : (t : Tree) → IsKept t → IsSingle t
-single-kept t e = subst IsSingle e (single-keep_by First t)
-
--- what was found, if anything was
-abbrev pub SingleFound : Option Tree → Type 0
-SingleFound None = Unit {0}
-SingleFound (Some t) = IsSingle t
-
 -- members
-other_way : (k l : List ℕ) → bytes_eq k l ≡ false → bytes_eq l k ≡ false
-other_way k l e = by_test (bytes_eq l k) refl where
-  by_test : (b : Bool) → bytes_eq l k ≡ b → b ≡ false
-  by_test true f = let bad : true ≡ false = sym ((bytes_eq-Decides k l).1 (sym ((bytes_eq-Decides l k).0 f))) ∙ e in cc
-  by_test false f = refl
-
-put_by : (b : Bool) (k l : List ℕ) (t u : Tree) (ms : Members) → bytes_eq k l ≡ b → IsSingle t → HasSingle (member l u ms) → HasSingle (put k t ms) → HasSingle (if b then member l t ms else member l u (put k t ms))
-put_by true k l t u ms e s h rest = (h.0, s, h.2)
-put_by false k l t u ms e s h rest = (find-put l k t ms ∙ ap (λ b. if b then Some t else find_member l ms) (other_way k l e) ∙ h.0, h.1, rest)
-
-pub single-put : (k : List ℕ) (t : Tree) (ms : Members) → IsSingle t → HasSingle ms → HasSingle (put k t ms)
-single-put k t no_members s h = (refl, s, tt)
-single-put k t (member l u ms) s h = put_by (bytes_eq k l) k l t u ms refl s h (single-put k t ms s h.2)
-
 cut_by : (b : Bool) (k l : List ℕ) (u : Tree) (ms : Members) → bytes_eq k l ≡ b → HasSingle (member l u ms) → HasSingle (cut k ms) → HasSingle (if b then ms else member l u (cut k ms))
 cut_by true k l u ms e h rest = h.2
 cut_by false k l u ms e h rest = (find-cut_other l k ms (λ q. differs (sym e ∙ (bytes_eq-Decides k l).1 (sym q))) ∙ h.0, h.1, rest) where
@@ -47,14 +23,6 @@ cut_by false k l u ms e h rest = (find-cut_other l k ms (λ q. differs (sym e �
 pub single-cut : (k : List ℕ) (ms : Members) → HasSingle ms → HasSingle (cut k ms)
 single-cut k no_members h = tt
 single-cut k (member l u ms) h = cut_by (bytes_eq k l) k l u ms refl h (single-cut k ms h.2)
-
-found_by : (b : Bool) (t : Tree) (r : Option Tree) → IsSingle t → SingleFound r → SingleFound (if b then Some t else r)
-found_by true t r s h = s
-found_by false t r s h = h
-
-pub single-member : (k : List ℕ) (ms : Members) → HasSingle ms → SingleFound (find_member k ms)
-single-member k no_members h = tt
-single-member k (member l t ms) h = found_by (bytes_eq k l) t (find_member k ms) h.1 (single-member k ms h.2)
 
 -- items
 pub single-insert_at : (i : ℕ) (t : Tree) (is : Items) → IsSingle t → AreSingle is → AreSingle (insert_at i t is)

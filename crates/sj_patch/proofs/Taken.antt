@@ -17,11 +17,11 @@ use Rattle.sj_object.proofs.Shown.{lookup-entry_members, entry_members-cut}
 use Rattle.sj_document.specs.Document.{document_tree}
 use Rattle.sj_document.specs.declared.value.Document.{Document}
 use Rattle.sj_document.specs.Items.{remove_at}
-use Rattle.sj_document.proofs.Arrays.{items_seen, item_at}
+use Rattle.sj_document.proofs.Arrays.{items_seen, item_at, length-items}
+use Rattle.sj_document.proofs.Placed.{items-remove}
 use Rattle.sj_patch.specs.inner.Changed.{Does, is_placed, item_back}
 use Rattle.sj_patch.specs.declared.change.Change.TheVariants.{Take}
 use Rattle.sj_patch.specs.declared.reversal.Reversal.TheVariants as reversal
-use Rattle.sj_patch.proofs.Items.{items-remove, items_len-seen}
 use Rattle.sj_patch.proofs.Leaves.{removed_item, removed_member}
 use Rattle.sj_patch.proofs.Backs.{so, placed, gone, insert-remove, remove-len, found-within, entries-longer, members-insert, members_len-seen}
 
@@ -36,7 +36,7 @@ module _ {T : Type 0} (t : T → List ℕ) where
       let found : nth_item i is ≡ Some u = item_at t vs i v l e in
       let rest : items_seen t ws ≡ remove_at i is = ap (items_seen t) w ∙ items-remove t vs i in
       let shorter = remove-len i u is found in
-      let size : items_len is ≡ length vs = items_len-seen t vs in
+      let size : items_len is ≡ length vs = sym (length-items (document_tree t) vs) in
       let q : is_placed (items_len (remove_at i is)) n i ≡ true = placed _ n i (omega (arith, shorter, size, r)) (omega (arith, shorter, found-within i u is found)) in
       record {
         made = removed_item k i is u p found ∙ ap (λ is. Ok (list is)) (sym rest);

@@ -18,18 +18,11 @@ use Rattle.sj_patch.specs.declared.change.Change.TheVariants.{Put, Take, Swap, U
 use Rattle.sj_patch.specs.declared.change.Done.{Done}
 use Rattle.sj_patch.specs.declared.reversal.Reversal.{Reversal}
 use Rattle.sj_document.specs.declared.value.Document.{Document}
+use Rattle.sj_patch.proofs.Local.{onwards-Ok, set_on}
 
 -- f at a token of what tokens find, put back in its place
 abbrev at_last : (List ℕ → Tree → Result Tree OperationFault) → List (List ℕ) → List ℕ → Tree → Result Tree OperationFault
 at_last f ls k t = onwards (or_missing (pointed ls t)) (λ u. onwards (f k u) (λ w. Ok (set_pointed ls w t)))
-
-onwards-Ok : (r : Result Tree OperationFault) → onwards r (λ w. Ok w) ≡ r
-onwards-Ok (Ok t) = refl
-onwards-Ok (Err w) = refl
-
-set_on : (r : Result Tree OperationFault) (g h : Tree → Tree) → onwards (onwards r (λ w. Ok (g w))) (λ w. Ok (h w)) ≡ onwards r (λ w. Ok (h (g w)))
-set_on (Ok t) g h = refl
-set_on (Err w) g h = refl
 
 below_by : (f : List ℕ → Tree → Result Tree OperationFault) (l : List ℕ) (ls : List (List ℕ)) (k : List ℕ) (t u : Tree) (o : Option Tree)
     → onwards (onwards (or_missing o) (λ x. onwards (f k x) (λ w. Ok (set_pointed ls w u)))) (λ w. Ok (set_found (by_token l) w t))

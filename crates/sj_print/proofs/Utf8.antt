@@ -3,13 +3,11 @@ use Rattle.std.proofs.Common.{◌≡◌, ℕ, zero, suc, ◌<◌, ◌≤◌, Boo
 use Rattle.std.proofs.lemmas.Bool.{and_parts, cases_lt, cases_eq}
 use Rattle.std.proofs.lemmas.Str.{IsUtf8-append, IsUtf8-nil, IsUtf8-encode, encode_ascii, inside_one}
 use Rattle.std.specs.Fmt.{decimal, signed_decimal}
-use lib.Utf8.{scalar, scalars, encode, encodes, low_scalar}
+use lib.Utf8.{scalar, scalars, encode, encodes}
 use Rattle.sj_text_core.specs.Tree.{boolean}
 use Rattle.sj_text_core.specs.Print.{escaped, quoted, compact}
 use Rattle.sj_text_core.proofs.Escapes.{escaped-append, escaped_high}
-
-ascii_then : (x : ℕ) (xs : List ℕ) → x < 128 → IsUtf8 xs → IsUtf8 (x ∷ xs)
-ascii_then x xs small u = IsUtf8-append (x ∷ []) xs (subst IsUtf8 (encode_ascii x small) (IsUtf8-encode x (low_scalar x (omega arith)))) u
+use Rattle.sj_text_core.proofs.Proper.{ascii}
 
 abbrev pub are_ascii : List ℕ → Bool
 are_ascii [] = true
@@ -17,7 +15,7 @@ are_ascii (x ∷ xs) = nat_lt x 128 && are_ascii xs
 
 pub IsUtf8-are_ascii : (xs : List ℕ) → are_ascii xs ≡ true → IsUtf8 xs
 IsUtf8-are_ascii [] e = IsUtf8-nil
-IsUtf8-are_ascii (x ∷ xs) e = let p = and_parts _ _ e in ascii_then x xs (ltb-true _ _ p.0) (IsUtf8-are_ascii xs p.1)
+IsUtf8-are_ascii (x ∷ xs) e = let p = and_parts _ _ e in ascii x xs (ltb-true _ _ p.0) (IsUtf8-are_ascii xs p.1)
 
 -- the escapes of the bytes below n are ASCII
 abbrev escapes_below : ℕ → Bool
@@ -56,12 +54,12 @@ IsUtf8-escaped s u = subst (λ l. IsUtf8 (flat_map escaped l)) u.1.1 (all_chars 
 
 -- a text between its quotes is a text
 pub IsUtf8-quoted : (s : List ℕ) → IsUtf8 s → IsUtf8 (quoted s)
-IsUtf8-quoted s u = ascii_then 34 _ (omega arith) (IsUtf8-append _ _ (IsUtf8-escaped s u) (IsUtf8-are_ascii (34 ∷ []) refl))
+IsUtf8-quoted s u = ascii 34 _ (omega arith) (IsUtf8-append _ _ (IsUtf8-escaped s u) (IsUtf8-are_ascii (34 ∷ []) refl))
 
 -- a number is a text as its digits are
 pub IsUtf8-signed : (z : ℤ) → IsUtf8 (decimal (unsigned_abs z)) → IsUtf8 (signed_decimal z)
 IsUtf8-signed (pos n) u = u
-IsUtf8-signed (negsuc n) u = ascii_then 45 _ (omega arith) u
+IsUtf8-signed (negsuc n) u = ascii 45 _ (omega arith) u
 
 pub IsUtf8-boolean : (b : Bool) → IsUtf8 (compact (boolean b))
 IsUtf8-boolean true = IsUtf8-are_ascii _ refl
@@ -69,11 +67,11 @@ IsUtf8-boolean false = IsUtf8-are_ascii _ refl
 
 spaces_utf8 : (n : ℕ) → IsUtf8 (replicate n 32)
 spaces_utf8 zero = IsUtf8-nil
-spaces_utf8 (suc n) = ascii_then 32 _ (omega arith) (spaces_utf8 n)
+spaces_utf8 (suc n) = ascii 32 _ (omega arith) (spaces_utf8 n)
 
 -- a line feed and spaces are a text
 pub IsUtf8-line : (n : ℕ) → IsUtf8 (10 ∷ replicate n 32)
-IsUtf8-line n = ascii_then 10 _ (omega arith) (spaces_utf8 n)
+IsUtf8-line n = ascii 10 _ (omega arith) (spaces_utf8 n)
 
 -- a text stays one where a text is put behind it, or nothing
 pub IsUtf8-written : {T E : Type 0} (r : Result T E) (old part new : List ℕ) → OnOk r (new ≡ old ++ part) → OnErr r (new ≡ old) → IsUtf8 old → IsUtf8 part → IsUtf8 new

@@ -9,6 +9,7 @@ use Rattle.sj_text_core.specs.Agree.{is_seen_before, pair_keys}
 use Rattle.sj_text_core.specs.inner.Agree.{HasTexts, Agree}
 use Rattle.sj_text_core.proofs.Comparing.{by_either, not_found, not_there, agree_repeat, agree_found, agree_in_step, texts_in_step, not_same_absent, same_first, same_first_in_step, all_agree, same_in_step, not_same_extra}
 use Rattle.sj_text_core.proofs.Shapes.{members_from-paired}
+use Rattle.sj_text_core.proofs.Texts.{bytes_eq-self}
 use Rattle.sj_tape.specs.Value.{as_scalar}
 
 -- a scalar is its tree
@@ -79,10 +80,7 @@ agree_less n m ps qs h a = λ k e. a k (before_later n m k ps h e)
 seen_before : (n : ℕ) (k : List ℕ) (ps : List (List ℕ × Tree)) → is_seen k (pair_keys (take n ps)) ≡ true → is_seen k (pair_keys ps) ≡ true
 seen_before zero k ps e = cc
 seen_before (suc n) k [] e = e
-seen_before (suc n) k (p ∷ ps) e = by (bytes_eq k p.0) (is_seen k (pair_keys (take n ps))) (is_seen k (pair_keys ps)) e (seen_before n k ps) where
-  by : (b x y : Bool) → (b || x) ≡ true → (x ≡ true → y ≡ true) → (b || y) ≡ true
-  by true x y e f = refl
-  by false x y e f = f e
+seen_before (suc n) k (p ∷ ps) e = either (bytes_eq k p.0) (is_seen k (pair_keys (take n ps))) (is_seen k (pair_keys ps)) e (seen_before n k ps)
 
 either_seen : (n : ℕ) (k : List ℕ) (ps : List (List ℕ × Tree)) (P : Type 0) → is_seen k (pair_keys ps) ≡ true → (is_seen k (pair_keys (take n ps)) ≡ true → P) → (is_seen k (drop n (pair_keys ps)) ≡ true → P) → P
 either_seen zero k ps P e f g = g e
@@ -115,7 +113,7 @@ key_there k l ks rest (suc n) ps e z f h s = absurd (omega (arith, z))
 
 -- the first key ahead is among those ahead
 pub key_ahead : (k : List ℕ) (ks rest : List (List ℕ)) → ks ≡ k ∷ rest → is_seen k ks ≡ true
-key_ahead k ks rest e = ap (is_seen k) e ∙ (λ i. (bytes_eq-Decides k k).1 refl i || is_seen k rest)
+key_ahead k ks rest e = ap (is_seen k) e ∙ (λ i. bytes_eq-self k i || is_seen k rest)
 
 -- one that is ahead of the next is ahead
 pub seen_ahead : (k l : List ℕ) (ks rest : List (List ℕ)) → ks ≡ l ∷ rest → is_seen k rest ≡ true → is_seen k ks ≡ true

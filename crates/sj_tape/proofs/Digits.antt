@@ -43,7 +43,7 @@ digit_range c e = (low c e, high c e)
     high : (c : ℕ) → is_ascii_digit c ≡ true → c ≤ 57
     high c e = grind (arith, nat_tests)
 
-one_more : (n c : ℕ) (l : List ℕ) → take (1 + n) (c ∷ l) ≡ c ∷ take n l
+pub one_more : (n c : ℕ) (l : List ℕ) → take (1 + n) (c ∷ l) ≡ c ∷ take n l
 one_more n c l = let e : 1 + n ≡ suc n = omega arith in ap (λ k. take k (c ∷ l)) e
 
 pub all_digits : (l : List ℕ) → AllDigits 10 (take (prefix_len is_ascii_digit l) l)

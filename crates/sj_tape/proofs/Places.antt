@@ -5,7 +5,7 @@ use Rattle.std.proofs.lemmas.List.{drop_more, drop_all, drop-drop}
 use Rattle.sj_text_core.specs.inner.Parse.{escape_at, with_front, read_text}
 use Rattle.sj_text_core.proofs.parse.Escapes.{text_skip, text_nil, text_quote, text_backslash, text_control, with_escape}
 
-at_byte : (b : List ℕ) (i c : ℕ) → i < length b → get_or b i 0 ≡ c → drop i b ≡ c ∷ drop (i + 1) b
+pub at_byte : (b : List ℕ) (i c : ℕ) → i < length b → get_or b i 0 ≡ c → drop i b ≡ c ∷ drop (i + 1) b
 at_byte b i c h e = drop_more b i 0 h ∙ ap (λ x. x ∷ drop (i + 1) b) e
 
 -- no text past the end

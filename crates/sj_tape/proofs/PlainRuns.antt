@@ -1,5 +1,5 @@
 -- The plain part of a text, up to the byte that stops it.
-use Rattle.std.proofs.Common.{◌≡◌, ◌≢◌, ℕ, suc, ◌+◌, ◌-◌, ◌<◌, ◌≤◌, Bool, true, false, List, [], ◌∷◌, length, take, drop, get_or, refl, sym, ap, subst, ◌∙◌, arith, cond, length-drop}
+use Rattle.std.proofs.Common.{◌≡◌, ◌≢◌, ℕ, ◌+◌, ◌-◌, ◌<◌, ◌≤◌, Bool, true, false, List, [], ◌∷◌, length, take, drop, get_or, refl, sym, ap, subst, ◌∙◌, arith, cond, length-drop}
 use Rattle.std.specs.Prelude.{slice_range}
 use Rattle.std.specs.List.{AllByRecursion, prefix_len}
 use Rattle.std.proofs.lemmas.Bool.Decides.{nat_tests}
@@ -9,6 +9,7 @@ use Rattle.sj_text_core.specs.inner.Parse.{with_front, read_text}
 use Rattle.sj_print.specs.inner.Runs.{is_plain, IsAllPlain}
 use Rattle.sj_text_core.proofs.parse.Escapes.{IsPlain, text_run}
 use Rattle.sj_tape.proofs.Places.{SoFar}
+use Rattle.sj_tape.proofs.Digits.{one_more}
 
 plain_is : (c : ℕ) → is_plain c ≡ true → IsPlain c
 plain_is c e = (low c e, quote c e, back c e)
@@ -21,9 +22,6 @@ plain_is c e = (low c e, quote c e, back c e)
 
     back : (c : ℕ) → is_plain c ≡ true → c ≢ 92
     back c e = grind (arith, nat_tests)
-
-one_more : (n c : ℕ) (l : List ℕ) → take (1 + n) (c ∷ l) ≡ c ∷ take n l
-one_more n c l = let e : 1 + n ≡ suc n = omega arith in ap (λ k. take k (c ∷ l)) e
 
 all_plain : (l : List ℕ) → AllByRecursion IsPlain (take (prefix_len is_plain l) l)
 all_plain [] = tt

@@ -1,5 +1,5 @@
 -- Runs of digits, sixteen at a step.
-use Rattle.std.proofs.Common.{◌≡◌, ◌≢◌, ℕ, zero, suc, ◌+◌, ◌-◌, ◌*◌, ◌/◌, ◌%◌, ◌^◌, ◌<◌, ◌≤◌, Bool, true, false, not, cond, ltb, ◌&&◌, ◌||◌, T, List, [], ◌∷◌, ◌++◌, map, length, take, drop, get_or, replicate, w8, Fits, refl, sym, ap, ap₂, ◌∙◌, subst, inl, inr, arith, lit<, drop-drop, take-add}
+use Rattle.std.proofs.Common.{◌≡◌, ◌≢◌, ℕ, zero, suc, ◌+◌, ◌-◌, ◌*◌, ◌/◌, ◌%◌, ◌^◌, ◌<◌, ◌≤◌, Bool, true, not, cond, ltb, ◌&&◌, ◌||◌, T, List, [], ◌∷◌, ◌++◌, map, length, take, drop, get_or, replicate, w8, Fits, refl, sym, ap, ap₂, ◌∙◌, subst, inl, inr, arith, lit<, drop-drop, take-add}
 use Rattle.std.proofs.Math.Nat.{pow-zero, pow-succ', pow-le-pow_right}
 use Rattle.std.proofs.lemmas.Bool.{cases_lt}
 use Rattle.std.proofs.lemmas.Bool.Decides.{nat_tests}
@@ -20,6 +20,7 @@ use lib.Count.{count_trailing_zeros}
 use lib.Lanes.{chunk, mask_l, number_l, digits_l, zip2, dots, Each1}
 use mir.Val.{zeroes}
 use Rattle.sj_print.proofs.Runs.{run_through, run_stops}
+use Rattle.sj_print.proofs.Lanes.{both}
 use Rattle.sj_tape.proofs.Digits.{all_digits, all_take}
 use Rattle.sj_tape.specs.inner.Lanes.{lane_of, is_other}
 
@@ -51,10 +52,6 @@ row n = chunk 0 16 (take (32 - n) (drop n ends))
 abbrev all_lanes : List ℕ → Bool
 all_lanes [] = true
 all_lanes (j ∷ js) = (zeroes 16 w8 j || ltb j 16) && all_lanes js
-
-both : (a b : Bool) → T (a && b) → T a × T b
-both true b h = (tt, h)
-both false b h = absurd h
 
 each_lane : (js : List ℕ) → T (all_lanes js) → Each1 (λ j. T (zeroes 16 w8 j || ltb j 16)) js
 each_lane [] h = tt

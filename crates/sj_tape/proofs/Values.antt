@@ -11,6 +11,7 @@ use Rattle.sj_text_core.specs.Tree.{items_from, members_from}
 use Rattle.std.proofs.Common.{Result, Ok, Err, IfErr}
 use Rattle.sj_text_core.specs.declared.error.ErrorKind.{ErrorKind}
 use Rattle.sj_tape.proofs.Parts.{item_flats, member_flats, items_len-from, members_len-from}
+use Rattle.sj_tape.proofs.Places.{at_byte}
 
 -- no value past the end
 pub value_at_end : (d : ℕ) (b : List ℕ) (i : ℕ) → length b ≤ i → read_value d (drop i b) ≡ None
@@ -25,28 +26,25 @@ by_obj f g b = refl
 by_other : (f g : List ℕ → Reading Tree) (c : ℕ) (b : List ℕ) → c ≢ 91 → c ≢ 123 → value_by f g (c ∷ b) ≡ value_by nothing_at nothing_at (c ∷ b)
 by_other f g c b h k = grind (arith, common_steps, nat_tests)
 
-starts_by : (b : List ℕ) (i c : ℕ) → i < length b → get_or b i 0 ≡ c → drop i b ≡ c ∷ drop (i + 1) b
-starts_by b i c h e = drop_more b i 0 h ∙ ap (λ k. k ∷ drop (i + 1) b) e
-
 -- no list where no level is left
 pub value_too_deep : (d : ℕ) (b : List ℕ) (i : ℕ) → i < length b → (get_or b i 0 ≡ 91) → d ≡ 0 → read_value d (drop i b) ≡ None
-value_too_deep d b i h e z = ap (λ l. read_value d l) (starts_by b i 91 h e) ∙ (ap (λ k. read_value k (91 ∷ drop (i + 1) b)) z ∙ value_is 0 (91 ∷ drop (i + 1) b))
+value_too_deep d b i h e z = ap (λ l. read_value d l) (at_byte b i 91 h e) ∙ (ap (λ k. read_value k (91 ∷ drop (i + 1) b)) z ∙ value_is 0 (91 ∷ drop (i + 1) b))
 
 -- no object where no level is left
 pub value_too_deep_2 : (d : ℕ) (b : List ℕ) (i : ℕ) → i < length b → (get_or b i 0 ≡ 123) → d ≡ 0 → read_value d (drop i b) ≡ None
-value_too_deep_2 d b i h e z = ap (λ l. read_value d l) (starts_by b i 123 h e) ∙ (ap (λ k. read_value k (123 ∷ drop (i + 1) b)) z ∙ value_is 0 (123 ∷ drop (i + 1) b))
+value_too_deep_2 d b i h e z = ap (λ l. read_value d l) (at_byte b i 123 h e) ∙ (ap (λ k. read_value k (123 ∷ drop (i + 1) b)) z ∙ value_is 0 (123 ∷ drop (i + 1) b))
 
 -- a value that is a list
 pub value_in_list : (d : ℕ) (b : List ℕ) (i : ℕ) → i < length b → get_or b i 0 ≡ 91 → d ≢ 0 → read_value d (drop i b) ≡ list_at (read_value (d - 1)) (drop (i + 1) b)
 value_in_list d b i h e nz =
     let k : d ≡ suc (d - 1) = omega arith in
-    ap (λ l. read_value d l) (starts_by b i 91 h e) ∙ (ap (λ m. read_value m (91 ∷ drop (i + 1) b)) k ∙ value_is (suc (d - 1)) (91 ∷ drop (i + 1) b))
+    ap (λ l. read_value d l) (at_byte b i 91 h e) ∙ (ap (λ m. read_value m (91 ∷ drop (i + 1) b)) k ∙ value_is (suc (d - 1)) (91 ∷ drop (i + 1) b))
 
 -- a value that is an object
 pub value_in_obj : (d : ℕ) (b : List ℕ) (i : ℕ) → i < length b → get_or b i 0 ≡ 123 → d ≢ 0 → read_value d (drop i b) ≡ obj_at (read_value (d - 1)) (drop (i + 1) b)
 value_in_obj d b i h e nz =
     let k : d ≡ suc (d - 1) = omega arith in
-    ap (λ l. read_value d l) (starts_by b i 123 h e) ∙ (ap (λ m. read_value m (123 ∷ drop (i + 1) b)) k ∙ value_is (suc (d - 1)) (123 ∷ drop (i + 1) b))
+    ap (λ l. read_value d l) (at_byte b i 123 h e) ∙ (ap (λ m. read_value m (123 ∷ drop (i + 1) b)) k ∙ value_is (suc (d - 1)) (123 ∷ drop (i + 1) b))
 
 -- a value that is neither
 pub value_scalar : (d : ℕ) (b : List ℕ) (i : ℕ) → i < length b → get_or b i 0 ≢ 91 → get_or b i 0 ≢ 123 → read_value d (drop i b) ≡ value_by nothing_at nothing_at (drop i b)

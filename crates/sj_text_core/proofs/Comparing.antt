@@ -9,6 +9,7 @@ use Rattle.sj_text_core.specs.Same.{Same}
 use Rattle.sj_text_core.specs.Agree.{pair_keys, is_seen_before}
 use Rattle.sj_text_core.specs.inner.Agree.{SameFound, Agree}
 use Rattle.sj_text_core.proofs.Equality.{found_from_at, at_from_found}
+use Rattle.sj_text_core.proofs.Texts.{bytes_eq-self}
 
 abbrev Pairs : Type 0
 Pairs = List (List ℕ × Tree)
@@ -39,9 +40,6 @@ there_by false x t r e h = h e
 pub not_there : (k : List ℕ) (ps : Pairs) → found k ps ≡ None → is_seen k (pair_keys ps) ≡ false
 not_there k [] e = refl
 not_there k (p ∷ ps) e = there_by (bytes_eq k p.0) (is_seen k (pair_keys ps)) p.1 (found k ps) e (not_there k ps)
-
-bytes_eq-self : (k : List ℕ) → bytes_eq k k ≡ true
-bytes_eq-self k = (bytes_eq-Decides k k).1 refl
 
 first_by : (b x : Bool) (t u : Tree) (r : Option Tree) → (b || x) ≡ false → (x ≡ false → r ≡ Some u) → (if b then Some t else r) ≡ Some u
 first_by true x t u r e h = cc

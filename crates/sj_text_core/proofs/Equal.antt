@@ -11,6 +11,7 @@ use Rattle.sj_text_core.specs.Keep.{is_seen}
 use Rattle.sj_text_core.specs.Same.{Same, SameItems, SameAt}
 use Rattle.sj_text_core.specs.Equal.{passes, has_all, tree_eq, items_eq, members_eq}
 use Rattle.sj_text_core.proofs.Equality.{same-refl, same-sym, same-trans, none_found_at}
+use Rattle.sj_text_core.proofs.Texts.{bytes_eq-self, absent_parts}
 
 by_or : (a b : Bool) (P : Type 0) → (a || b) ≡ true → a ≡ false → (b ≡ true → P) → P
 by_or true b P e f g = absurd (true≢false f)
@@ -35,18 +36,14 @@ has_by : (f : Option Tree) → (f ≡ None → ⊥) → is_some f ≡ true
 has_by None n = absurd (n refl)
 has_by (Some t) n = refl
 
-found_head : (l : List ℕ) (t : Tree) (ns : Members) → find_member l (member l t ns) ≡ Some t
-found_head l t ns = λ i. if (bytes_eq-Decides l l).1 refl i then Some t else find_member l ns
-
-tail_absent : (b : Bool) (t : Tree) (r : Option Tree) → (if b then Some t else r) ≡ None → r ≡ None
-tail_absent true t r e = cc
-tail_absent false t r e = e
+pub found_head : (l : List ℕ) (t : Tree) (ns : Members) → find_member l (member l t ns) ≡ Some t
+found_head l t ns = λ i. if bytes_eq-self l i then Some t else find_member l ns
 
 absent-has : (ms ns : Members) → ((k : List ℕ) → find_member k ms ≡ None → find_member k ns ≡ None) → has_all ms ns ≡ true
 absent-has ms no_members h = refl
 absent-has ms (member l t ns) h =
     and_from (is_some (find_member l ms)) (has_all ms ns) (has_by (find_member l ms) (λ e. some_none t (sym (found_head l t ns) ∙ h l e)))
-    (absent-has ms ns (λ k e. tail_absent (bytes_eq k l) t (find_member k ns) (h k e))) where
+    (absent-has ms ns (λ k e. (absent_parts (bytes_eq k l) t (find_member k ns) (h k e)).1)) where
       some_none : (t : Tree) → Some t ≡ None → ⊥
       some_none t e = cc
 

@@ -16,6 +16,7 @@ pub mod parse
 pub mod Back
 pub mod Unread
 pub mod Shapes
+pub mod Texts
 pub mod Paths
 pub mod Words
 pub mod Writes

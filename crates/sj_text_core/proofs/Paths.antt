@@ -68,7 +68,7 @@ put_by : (b : Bool) (k l : List ℕ) (u t : Tree) (ms : Members) → (if b then 
 put_by true k l u t ms e ih = ap (λ x. member l x ms) (sym (same_Some t u e))
 put_by false k l u t ms e ih = ap (member l t) (ih e)
 
-put_same : (k : List ℕ) (u : Tree) (ms : Members) → find_member k ms ≡ Some u → put k u ms ≡ ms
+pub put_same : (k : List ℕ) (u : Tree) (ms : Members) → find_member k ms ≡ Some u → put k u ms ≡ ms
 put_same k u no_members e = cc
 put_same k u (member l t ms) e = put_by (bytes_eq k l) k l u t ms e (put_same k u ms)
 

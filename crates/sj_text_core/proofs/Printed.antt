@@ -22,11 +22,11 @@ record Decimal (n : ℕ) (ds : List ℕ) : Type 0 where
   pub value : value_of ds ≡ n
   pub plain : slice_index ds 0 ≡ 48 → ds ≡ 48 ∷ []
 
-digits_more : (ds : List ℕ) (c : ℕ) → AllByRecursion IsDigit ds → IsDigit c → AllByRecursion IsDigit (ds ++ c ∷ [])
+pub digits_more : (ds : List ℕ) (c : ℕ) → AllByRecursion IsDigit ds → IsDigit c → AllByRecursion IsDigit (ds ++ c ∷ [])
 digits_more [] c h d = (d, tt)
 digits_more (e ∷ ds) c h d = (h.0, digits_more ds c h.1 d)
 
-first_stays : (ds : List ℕ) (c : ℕ) → 0 < length ds → slice_index (ds ++ c ∷ []) 0 ≡ slice_index ds 0
+pub first_stays : (ds : List ℕ) (c : ℕ) → 0 < length ds → slice_index (ds ++ c ∷ []) 0 ≡ slice_index ds 0
 first_stays [] c h = absurd (omega (arith, h))
 first_stays (d ∷ ds) c h = refl
 

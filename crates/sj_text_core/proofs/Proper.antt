@@ -10,7 +10,7 @@ use Rattle.sj_text_core.specs.Tree.{i64, u64, i128, u128, Tree, null, boolean, i
 use Rattle.sj_text_core.specs.Grammar.{IsSpace, IsBlank, IsDigit, IsNumber, IsHexDigit, IsUnit, IsItem, AreItems, IsString, Spaced, Spelling, SpellsItems, MoreItems, SpellsMembers, MoreMembers, Spells, value_of}
 use Rattle.sj_text_core.proofs.Characters.{string_utf8, hex_ascii, short_ascii}
 
-ascii : (c : ℕ) (p : List ℕ) → c < 128 → IsUtf8 p → IsUtf8 (c ∷ p)
+pub ascii : (c : ℕ) (p : List ℕ) → c < 128 → IsUtf8 p → IsUtf8 (c ∷ p)
 ascii c p h u = IsUtf8-append (c ∷ []) p (subst (λ l. IsUtf8 l) (encode_ascii c h) (IsUtf8-encode c (low_scalar c (omega (arith, h))))) u
 
 all_ascii : (p : List ℕ) → AllByRecursion (λ c. c < 128) p → IsUtf8 p

@@ -1,38 +1,25 @@
 -- In what is kept each text names one member, and where that is so nothing is dropped.
-use Rattle.std.proofs.Common.{◌≡◌, ℕ, Bool, true, false, ◌||◌, List, [], ◌∷◌, Option, Some, None, option_map, if◌then◌else◌, bytes_eq, refl, sym, ap, ap₂, ◌∙◌, true≢false}
+use Rattle.std.proofs.Common.{◌≡◌, ℕ, Bool, true, false, ◌||◌, List, [], ◌∷◌, Option, Some, None, option_map, if◌then◌else◌, bytes_eq, refl, sym, ap, ap₂, ◌∙◌, true≢false, subst}
 use Rattle.std.proofs.lemmas.Option.{none-some}
 use Rattle.std.proofs.lemmas.Slice.Eq.{bytes_eq-Decides}
 use Rattle.sj_text_core.specs.Tree.{Tree, null, boolean, int, text, list, obj, Items, no_items, item, Members, no_members, member}
 use Rattle.sj_text_core.specs.Find.{find, find_member}
-use Rattle.sj_text_core.specs.Keep.{is_seen, keep, keep_items, keep_members, IsSingle, AreSingle, HasSingle}
+use Rattle.sj_text_core.specs.Keep.{is_seen, keep, keep_items, keep_members, IsSingle, AreSingle, HasSingle, IsKept}
 use Rattle.sj_text_core.specs.Edits.{put}
 use Rattle.sj_text_core.specs.Repeats.{find_by, keep_by, keep_last, keep_last_items, keep_last_values, put_all}
 use Rattle.sj_text_core.specs.declared.repeats.Repeats.{Repeats}
 use Rattle.sj_text_core.specs.declared.repeats.Repeats.TheVariants.{First, Last}
 use Rattle.sj_text_core.proofs.Finds.{find-keep, find-kept_after}
 use Rattle.sj_text_core.proofs.Last.{find-put, find-keep_last}
-
-itself : (k : List ℕ) → bytes_eq k k ≡ true
-itself k = (bytes_eq-Decides k k).1 refl
-
-other_way : (k l : List ℕ) → bytes_eq k l ≡ false → bytes_eq l k ≡ false
-other_way k l e = by_test (bytes_eq l k) refl
-  where
-    by_test : (b : Bool) → bytes_eq l k ≡ b → b ≡ false
-    by_test true f = absurd (true≢false (sym ((bytes_eq-Decides k l).1 (sym ((bytes_eq-Decides l k).0 f))) ∙ e))
-    by_test false f = refl
+use Rattle.sj_text_core.proofs.Texts.{bytes_eq-self, bytes_eq-sym, absent_parts}
 
 -- a member that was found is there
 not_none : (k : List ℕ) (t : Tree) (ms : Members) → find_member k (member k t ms) ≡ None → ⊥
-not_none k t ms e = none-some t (sym e ∙ ap (λ b. if b then Some t else find_member k ms) (itself k))
+not_none k t ms e = none-some t (sym e ∙ ap (λ b. if b then Some t else find_member k ms) (bytes_eq-self k))
 
 -- what is not found is not found behind the first
 not_behind : (k l : List ℕ) (t : Tree) (ms : Members) → find_member k (member l t ms) ≡ None → find_member k ms ≡ None
-not_behind k l t ms e = by_test (bytes_eq k l) e
-  where
-    by_test : (b : Bool) → (if b then Some t else find_member k ms) ≡ None → find_member k ms ≡ None
-    by_test true f = absurd (none-some t (sym f))
-    by_test false f = f
+not_behind k l t ms e = (absent_parts (bytes_eq k l) t (find_member k ms) e).1
 
 -- The first of each text.
 stays_single : (b : Bool) (k : List ℕ) (t : Tree) (dropped stays : Members) → HasSingle dropped → find_member k stays ≡ None → IsSingle t → HasSingle stays → HasSingle (if b then dropped else member k t stays)
@@ -56,7 +43,7 @@ mutual
   single-keep_members seen no_members = tt
   single-keep_members seen (member k t ms) =
       stays_single (is_seen k seen) k (keep t) (keep_members seen ms) (keep_members (k ∷ seen) ms) (single-keep_members seen ms)
-      (find-kept_after k (k ∷ seen) ms ∙ ap (λ b. if b || is_seen k seen then None else option_map keep (find_member k ms)) (itself k)) (single-keep t) (single-keep_members (k ∷ seen) ms)
+      (find-kept_after k (k ∷ seen) ms ∙ ap (λ b. if b || is_seen k seen then None else option_map keep (find_member k ms)) (bytes_eq-self k)) (single-keep t) (single-keep_members (k ∷ seen) ms)
 
 -- no text that was seen is found
 abbrev AllNew : List (List ℕ) → Members → Type 0
@@ -96,9 +83,9 @@ mutual
 single_by : (b : Bool) (k l : List ℕ) (t u : Tree) (ms stays : Members) → bytes_eq k l ≡ b → IsSingle t → HasSingle (member l u ms) → find_member l stays ≡ (if bytes_eq l k then Some t else find_member l ms) → HasSingle stays
     → HasSingle (if b then member l t ms else member l u stays)
 single_by true k l t u ms stays e h i found rest = (i.0, h, i.2)
-single_by false k l t u ms stays e h i found rest = (found ∙ ap (λ b. if b then Some t else find_member l ms) (other_way k l e) ∙ i.0, i.1, rest)
+single_by false k l t u ms stays e h i found rest = (found ∙ ap (λ b. if b then Some t else find_member l ms) (bytes_eq-sym k l e) ∙ i.0, i.1, rest)
 
-single-put : (k : List ℕ) (t : Tree) (ms : Members) → IsSingle t → HasSingle ms → HasSingle (put k t ms)
+pub single-put : (k : List ℕ) (t : Tree) (ms : Members) → IsSingle t → HasSingle ms → HasSingle (put k t ms)
 single-put k t no_members h i = (refl, h, tt)
 single-put k t (member l u ms) h i = single_by (bytes_eq k l) k l t u ms (put k t ms) refl h i (find-put l k t ms) (single-put k t ms h i.2)
 
@@ -127,15 +114,15 @@ mutual
   single-keep_last_values no_members = tt
   single-keep_last_values (member k t ms) = (single-keep_last t, single-keep_last_values ms)
 
-abbrev joined : Members → Members → Members
+abbrev pub joined : Members → Members → Members
 joined no_members ns = ns
 joined (member k t ms) ns = member k t (joined ms ns)
 
-joined-nothing : (ms : Members) → joined ms no_members ≡ ms
+pub joined-nothing : (ms : Members) → joined ms no_members ≡ ms
 joined-nothing no_members = refl
 joined-nothing (member k t ms) = ap (member k t) (joined-nothing ms)
 
-joined-joined : (done : Members) (k : List ℕ) (t : Tree) (ms : Members) → joined (joined done (member k t no_members)) ms ≡ joined done (member k t ms)
+pub joined-joined : (done : Members) (k : List ℕ) (t : Tree) (ms : Members) → joined (joined done (member k t no_members)) ms ≡ joined done (member k t ms)
 joined-joined no_members k t ms = refl
 joined-joined (member l u done) k t ms = ap (member l u) (joined-joined done k t ms)
 
@@ -193,6 +180,10 @@ pub single-keep_by : (c : Repeats) (t : Tree) → IsSingle (keep_by c t)
 single-keep_by First t = single-keep t
 single-keep_by Last t = single-keep_last t
 
+-- where keeping drops nothing, no text names two members
+pub single-kept : (t : Tree) → IsKept t → IsSingle t
+single-kept t e = subst IsSingle e (single-keep_by First t)
+
 pub keep_by-single : (c : Repeats) (t : Tree) → IsSingle t → keep_by c t ≡ t
 keep_by-single First t h = keep-single t h
 keep_by-single Last t h = keep_last-single t h
@@ -203,3 +194,16 @@ keep_by-keep_by c t = keep_by-single c (keep_by c t) (single-keep_by c t)
 pub find-keep_by : (c : Repeats) (k : List ℕ) (t : Tree) → find k (keep_by c t) ≡ option_map (keep_by c) (find_by c k t)
 find-keep_by First k t = find-keep k t
 find-keep_by Last k t = find-keep_last k t
+
+-- what was found, if anything was
+abbrev pub SingleFound : Option Tree → Type 0
+SingleFound None = Unit {0}
+SingleFound (Some t) = IsSingle t
+
+found_single : (b : Bool) (t : Tree) (r : Option Tree) → IsSingle t → SingleFound r → SingleFound (if b then Some t else r)
+found_single true t r s h = s
+found_single false t r s h = h
+
+pub single-member : (k : List ℕ) (ms : Members) → HasSingle ms → SingleFound (find_member k ms)
+single-member k no_members h = tt
+single-member k (member l t ms) h = found_single (bytes_eq k l) t (find_member k ms) h.1 (single-member k ms h.2)

@@ -10,25 +10,17 @@ use Rattle.sj_text_core.specs.Places.{place_of}
 use Rattle.sj_text_core.specs.Paths.{Step, by_key, by_place, by_token, step_into, tree_at, set_item, set_placed, set_found, change_found, set_at}
 use Rattle.sj_text_core.proofs.Last.{find-put}
 use Rattle.sj_text_core.proofs.Paths.{found_same}
-
-is_itself : (k : List ℕ) → bytes_eq k k ≡ true
-is_itself k = (bytes_eq-Decides k k).1 refl
-
-differ : (k l : List ℕ) → k ≢ l → bytes_eq k l ≡ false
-differ k l n = by_test (bytes_eq k l) refl where
-  by_test : (b : Bool) → bytes_eq k l ≡ b → b ≡ false
-  by_test true e = absurd (n ((bytes_eq-Decides k l).0 e))
-  by_test false e = refl
+use Rattle.sj_text_core.proofs.Texts.{bytes_eq-self, ne_bytes_eq}
 
 -- members
 pub find-put_same : (k : List ℕ) (t : Tree) (ms : Members) → find_member k (put k t ms) ≡ Some t
-find-put_same k t ms = find-put k k t ms ∙ (λ j. if is_itself k j then Some t else find_member k ms)
+find-put_same k t ms = find-put k k t ms ∙ (λ j. if bytes_eq-self k j then Some t else find_member k ms)
 
 pub find-put_other : (k l : List ℕ) (t : Tree) (ms : Members) → k ≢ l → find_member k (put l t ms) ≡ find_member k ms
-find-put_other k l t ms n = find-put k l t ms ∙ (λ j. if differ k l n j then Some t else find_member k ms)
+find-put_other k l t ms n = find-put k l t ms ∙ (λ j. if ne_bytes_eq k l n j then Some t else find_member k ms)
 
 pub put-twice : (k : List ℕ) (u v : Tree) (ms : Members) → put k u (put k v ms) ≡ put k u ms
-put-twice k u v no_members = λ j. if is_itself k j then member k u no_members else member k v (put k u no_members)
+put-twice k u v no_members = λ j. if bytes_eq-self k j then member k u no_members else member k v (put k u no_members)
 put-twice k u v (member l t ms) = by_test (bytes_eq k l) refl (put-twice k u v ms) where
   by_test : (b : Bool) → bytes_eq k l ≡ b → put k u (put k v ms) ≡ put k u ms → put k u (if b then member l v ms else member l t (put k v ms)) ≡ (if b then member l u ms else member l t (put k u ms))
   by_test true e h = λ j. if e j then member l u ms else member l v (put k u ms)
@@ -45,7 +37,7 @@ pub find-cut_other : (k l : List ℕ) (ms : Members) → k ≢ l → find_member
 find-cut_other k l no_members n = refl
 find-cut_other k l (member m t ms) n = by_test (bytes_eq l m) refl (find-cut_other k l ms n) where
   by_test : (b : Bool) → bytes_eq l m ≡ b → find_member k (cut l ms) ≡ find_member k ms → find_member k (if b then ms else member m t (cut l ms)) ≡ (if bytes_eq k m then Some t else find_member k ms)
-  by_test true e h = sym (λ j. if differ k m (λ q. n (q ∙ sym ((bytes_eq-Decides l m).0 e))) j then Some t else find_member k ms)
+  by_test true e h = sym (λ j. if ne_bytes_eq k m (λ q. n (q ∙ sym ((bytes_eq-Decides l m).0 e))) j then Some t else find_member k ms)
   by_test false e h = λ j. if bytes_eq k m then Some t else h j
 
 -- items

@@ -2,19 +2,20 @@ use Rattle.std.proofs.Common.{◌≡◌, rules, Box, Global, Some, None, option_
 use Rattle.sj_text_core.specs.Tree.{obj, no_members, depth}
 use Rattle.sj_text_core.specs.Find.{find_member}
 use Rattle.sj_text_core.specs.Edits as members
+use Rattle.sj_text_core.proofs.Shapes.{obj_is}
 use Rattle.sj_object.specs.Members.{entry_members}
 use Rattle.sj_object.proofs.Shown.{lookup-entry_members, entry_members-set_value, entry_members-put, entry_members-cut}
 use Rattle.sj_document.specs.Document.{document_tree}
 use Rattle.sj_document.specs.declared.value.Document.{Object, the_lemmas}
 use Rattle.sj_document.proofs.Trees.{Map, tree-Object}
 use Rattle.sj_merge.specs.Merge.{merged, merged_members, target_members}
-use Rattle.sj_merge.proofs.Pairs.{ok_map, null_of, no_null, no_members_in, merged_pair-cut, merged_pair-put, merged-none, merged_whole, members_of}
+use Rattle.sj_merge.proofs.Pairs.{ok_map, null_of, no_null, no_members_in, merged_pair-cut, merged_pair-put, merged-none, merged_whole}
 use Rattle.sj_merge.proofs.merging.+merge.Goals as goal
 
 pub merge_value-merge_object-requires : goal.merge_value-merge_object-requires
 merge_value-merge_object-requires g r c κs within =
     let t = g.T.KeyText.text_of in
-    (omega (arith, c.decreases, ap depth (members_of (document_tree t c.args.patch) (entry_members (document_tree t) c.in-Some.members.entries) c.in-Some.ensures)), within)
+    (omega (arith, c.decreases, ap depth (obj_is (document_tree t c.args.patch) (entry_members (document_tree t) c.in-Some.members.entries) c.in-Some.ensures)), within)
 
 pub merge_value-returns-then-not-is_object : goal.merge_value-returns-then-not-is_object
 merge_value-returns-then-not-is_object g r c =
@@ -25,7 +26,7 @@ pub merge_value-returns-in-Some : goal.merge_value-returns-in-Some
 merge_value-returns-in-Some g r c =
     let t = g.T.KeyText.text_of in
     let old = document_tree t c.args.target.now in
-    let patch = members_of (document_tree t c.args.patch) (entry_members (document_tree t) c.in-Some.members.entries) c.in-Some.ensures in
+    let patch = obj_is (document_tree t c.args.patch) (entry_members (document_tree t) c.in-Some.members.entries) c.in-Some.ensures in
     ok_map c.merge_object.result _ _ (λ h. h ∙ ap (merged (Some old)) (sym patch)) c.merge_object.ensures
 
 pub merge_object-returns-in-Object : goal.merge_object-returns-in-Object

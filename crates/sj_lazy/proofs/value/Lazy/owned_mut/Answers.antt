@@ -1,7 +1,7 @@
 use Rattle.std.proofs.Common.{◌≡◌, refl, sym, ap, ◌∙◌, rules}
+use Rattle.sj_document.proofs.Results.{on_some}
 use Rattle.sj_lazy.specs.Value.{owned, owned_of}
 use Rattle.sj_lazy.specs.declared.value.Lazy.TheVariants.{Value}
-use Rattle.sj_lazy.proofs.Steps.{on_some}
 use Rattle.sj_lazy.proofs.value.Lazy.owned_mut.Goals as goal
 
 pub returns-in-Value : goal.returns-in-Value
