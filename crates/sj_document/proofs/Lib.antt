@@ -9,6 +9,7 @@ pub mod Subsets
 pub mod Compared
 pub mod Mixed
 pub mod Sorts
+pub mod FoundTexts
 pub mod Maps
 pub mod Levels
 pub mod Pairs

@@ -47,11 +47,11 @@ module _ {D X : Type 0} (R : D → X → Type 0) where
   SameIn None found = found ≡ None
   SameIn (Some d) found = MatchOption found ⊥ (λ x. R d x)
 
-  module _ {K L : Type 0} (text : L → List ℕ) where
-    -- each text has the same in both
-    abbrev pub SameEntries : List (Entry K D) → List (L × X) → Type 0
-    SameEntries es ps = (k : List ℕ) → SameIn (lookup k es) (value_of_text text k ps)
+  -- find gives what is found at a text: each text is absent from both, or has the same in both
+  abbrev pub SameTexts : {L : Type 0} → (L → List ℕ) → (List ℕ → Option D) → List (L × X) → Type 0
+  SameTexts text find ps = (k : List ℕ) → SameIn (find k) (value_of_text text k ps)
 
-    abbrev pub SameMap : Option (List (Entry K D)) → List (L × X) → Type 0
-    SameMap None ps = ⊥
-    SameMap (Some es) ps = SameEntries es ps
+  -- the entries have the same as the map
+  abbrev pub SameMap : {K L : Type 0} → (L → List ℕ) → Option (List (Entry K D)) → List (L × X) → Type 0
+  SameMap text None ps = ⊥
+  SameMap text (Some es) ps = SameTexts text (λ k. lookup k es) ps

@@ -3,13 +3,7 @@ use Rattle.std.specs.Prelude.{ℕ, List, Option, Some, None}
 use Rattle.sj_text_core.specs.Tree.{Tree, Members}
 use Rattle.sj_text_core.specs.Repeats.{find_member_by}
 use Rattle.sj_text_core.specs.declared.repeats.Repeats.{Repeats}
-use Rattle.sj_document.specs.SameWith.{SameIn, value_of_text}
-
--- find gives what is found at a text, and R compares it with a value of the map, whose keys have texts
-module _ {D X L : Type 0} (R : D → X → Type 0) (text : L → List ℕ) (find : List ℕ → Option D) where
-  -- each text is absent from both, or has the same in both
-  abbrev pub SameTexts : List (L × X) → Type 0
-  SameTexts ps = (k : List ℕ) → SameIn R (find k) (value_of_text text k ps)
+use Rattle.sj_document.specs.SameWith.{SameTexts}
 
 -- the members that count, as lazy values are seen
 abbrev pub counted : Repeats → Members → List ℕ → Option Tree

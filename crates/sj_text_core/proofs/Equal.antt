@@ -32,7 +32,7 @@ has-absent k ms (member l t ns) e h =
     let p = and_parts (is_some (find_member l ms)) (has_all ms ns) e in
     absent_by (bytes_eq k l) t (find_member k ns) (λ f. there (find_member l ms) p.0 (ap (λ l. find_member l ms) (sym ((bytes_eq-Decides k l).0 f)) ∙ h)) (has-absent k ms ns p.1 h)
 
-has_by : (f : Option Tree) → (f ≡ None → ⊥) → is_some f ≡ true
+pub has_by : (f : Option Tree) → (f ≡ None → ⊥) → is_some f ≡ true
 has_by None n = absurd (n refl)
 has_by (Some t) n = refl
 

@@ -4,7 +4,7 @@ use Rattle.sj_text_core.specs.Tree.{u64, Tree, Members, int, no_members, member}
 use Rattle.sj_text_core.specs.declared.repeats.Repeats.{Repeats}
 use Rattle.sj_text_core.specs.declared.repeats.Repeats.TheVariants.{First, Last}
 use Rattle.sj_lazy.specs.SameMap.{SameAsMap, counted}
-use Rattle.sj_lazy.specs.inner.SameMap.{EachFound, HasKeys}
+use Rattle.sj_document.specs.inner.SameWith.{EachFound, HasKeys}
 
 abbrev n : ℕ → Tree
 n m = int (pos m) u64

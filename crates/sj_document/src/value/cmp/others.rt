@@ -3,7 +3,7 @@
 ghost use Rattle.std.specs.Prelude.{◌≡◌, ◌↔◌, IsTrue, MatchOption, option_map};
 ghost use Rattle.sj_object.specs.Edits.{lookup};
 ghost use Rattle.sj_document.specs.SameWith.{document_members};
-ghost use Rattle.sj_document.specs.SameWith.{document_items, SameEach, SameSlice, SameEntries, SameMap};
+ghost use Rattle.sj_document.specs.SameWith.{document_items, SameEach, SameSlice, SameTexts, SameMap};
 
 use crate::value::{Document, Object};
 use sj_object::KeyText;
@@ -59,7 +59,7 @@ fn same_entries<T: KeyText, K: KeyText + Hash, X: SameWith<Document<T>>, S: Buil
     members: &Object<T>,
     map: &HashMap<K, X, S>,
 ) -> bool
-    ensures { IsTrue result ↔ SameEntries X.same_with K.text_of members.now.entries map.now.entries }
+    ensures { IsTrue result ↔ SameTexts X.same_with K.text_of (λ k. lookup k members.now.entries) map.now.entries }
 {
     if members.len() != map.len() {
         return false;

@@ -3,10 +3,10 @@
 
 ghost use Rattle.std.specs.Prelude.{◌≡◌, ◌↔◌, ℕ, List, IsTrue, MatchOption, is_some, map};
 ghost use Rattle.sj_lazy.specs.Object.{lazy_members, lazy_object_choice};
-ghost use Rattle.sj_lazy.specs.SameMap.{SameTexts, SameAsMap, counted};
-ghost use Rattle.sj_lazy.specs.inner.SameMap.{EachFound, HasKeys};
+ghost use Rattle.sj_lazy.specs.SameMap.{SameAsMap, counted};
 ghost use Rattle.sj_lazy.specs.Value.{value_tree, value_choice};
-ghost use Rattle.sj_document.specs.SameWith.{value_of_text};
+ghost use Rattle.sj_document.specs.SameWith.{SameTexts, value_of_text};
+ghost use Rattle.sj_document.specs.inner.SameWith.{EachFound, HasKeys};
 ghost use Rattle.sj_tape.specs.Members.{members as tape_members};
 ghost use Rattle.sj_text_core.specs.Reads.{as_members};
 ghost use Rattle.sj_text_core.specs.Tree.{Tree, paired};

@@ -1,6 +1,6 @@
 use Rattle.sj_lazy.specs.Object.{lazy_members, lazy_object_choice}
 use Rattle.sj_lazy.specs.SameMap.{counted}
-use Rattle.sj_lazy.specs.inner.SameMap.{EachFound}
+use Rattle.sj_document.specs.inner.SameWith.{EachFound}
 use Rattle.sj_lazy.proofs.value.cmp.map.each_found.Given as goal
 
 abbrev pub invariant-loop-key : goal.invariant-loop-key

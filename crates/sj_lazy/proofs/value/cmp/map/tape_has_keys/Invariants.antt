@@ -1,7 +1,7 @@
 use Rattle.std.proofs.Common.{ℕ, List, map}
 use Rattle.sj_tape.specs.Members.{members, keys_ahead}
 use Rattle.sj_text_core.specs.Tree.{Tree, paired}
-use Rattle.sj_lazy.specs.inner.SameMap.{HasKeys}
+use Rattle.sj_document.specs.inner.SameWith.{HasKeys}
 use Rattle.sj_lazy.proofs.value.cmp.map.tape_has_keys.Given as goal
 
 abbrev pub invariant-loop-key : goal.invariant-loop-key
