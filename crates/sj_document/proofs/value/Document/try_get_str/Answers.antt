@@ -1,38 +1,28 @@
-use Rattle.std.proofs.Common.{Ok, option_map, sym, ap, ◌∙◌}
-use Rattle.std.specs.Result.{result_map_both}
 use Rattle.sj_text_core.specs.Find.{find}
-use Rattle.sj_text_core.specs.Reads.{as_members, as_text, kind_of}
+use Rattle.sj_text_core.specs.Reads.{as_text}
 use Rattle.sj_text_core.specs.declared.value_type.ValueType.TheVariants as kind
 use Rattle.sj_document.specs.Document.{document_tree}
-use Rattle.sj_tape.proofs.Read.{none_read, some_read, there_as, no_object, not_there_as, fault_is}
+use Rattle.sj_tape.proofs.Read.{reads_none, reads_there, reads_no_object, reads_other}
 use Rattle.sj_document.proofs.value.Document.try_get_str.Goals as goal
 
 pub returns-in_ok-try_as_str-in-Some : goal.returns-in_ok-try_as_str-in-Some
 returns-in_ok-try_as_str-in-Some g c =
     let t = document_tree g.T.KeyText.text_of in
-    let whole = t c.args.self.now in
-    let u = t c.in-Some.member.now in
-    let there = ap (λ o. Ok (option_map (λ v. t v.now) o)) (sym c.in-Some.is) ∙ c.in_ok-member.ensures in
-    there_as (as_text u) _ kind.String (kind_of u) c.in_ok-try_as_str-in-Some.ensures ∙ some_read as_text kind.String (kind_of whole) (as_members whole) (find c.args.key.now whole) u there
+    reads_there as_text kind.String (t c.args.self.now) (find c.args.key.now (t c.args.self.now)) c.in-Some.member _ c.in-Some.is (λ v. t v.now) c.in_ok-member.ensures c.in_ok-try_as_str-in-Some.ensures
 
 pub returns-in-None : goal.returns-in-None
 returns-in-None g c =
     let t = document_tree g.T.KeyText.text_of in
-    let whole = t c.args.self.now in
-    let absent = ap (λ o. Ok (option_map (λ v. t v.now) o)) (sym c.in-None.is) ∙ c.in_ok-member.ensures in
-    none_read as_text kind.String (kind_of whole) (as_members whole) (find c.args.key.now whole) absent
+    reads_none as_text kind.String (t c.args.self.now) (find c.args.key.now (t c.args.self.now)) c.in-None.is (λ v. t v.now) c.in_ok-member.ensures
 
 pub returns-in_err-member : goal.returns-in_err-member
 returns-in_err-member g c =
-    let whole = document_tree g.T.KeyText.text_of c.args.self.now in
-    ap (result_map_both (option_map (λ v. v.now)) (λ e. e)) (fault_is c.from_residual.result c.in_err-member.field-0.0 c.from_residual.ensures)
-    ∙ no_object as_text kind.String (kind_of whole) (as_members whole) (find c.args.key.now whole) _ c.in_err-member.ensures
+    let t = document_tree g.T.KeyText.text_of in
+    reads_no_object as_text kind.String (t c.args.self.now) (find c.args.key.now (t c.args.self.now)) c.from_residual.result c.in_err-member.field-0.0 c.from_residual.ensures (λ v. v.now) c.in_err-member.ensures
 
 pub returns-in_err-try_as_str-in-Some : goal.returns-in_err-try_as_str-in-Some
 returns-in_err-try_as_str-in-Some g c =
     let t = document_tree g.T.KeyText.text_of in
-    let whole = t c.args.self.now in
-    let u = t c.in-Some.member.now in
-    let there = ap (λ o. Ok (option_map (λ v. t v.now) o)) (sym c.in-Some.is) ∙ c.in_ok-member.ensures in
-    ap (result_map_both (option_map (λ v. v.now)) (λ e. e)) (fault_is c.from_residual-in_err-try_as_str-in-Some.result c.in_err-try_as_str-in-Some.field-0.0 c.from_residual-in_err-try_as_str-in-Some.ensures)
-    ∙ not_there_as (as_text u) _ kind.String (kind_of u) c.in_err-try_as_str-in-Some.ensures ∙ some_read as_text kind.String (kind_of whole) (as_members whole) (find c.args.key.now whole) u there
+    let residual = c.from_residual-in_err-try_as_str-in-Some in
+    let fault = c.in_err-try_as_str-in-Some in
+    reads_other as_text kind.String (t c.args.self.now) (find c.args.key.now (t c.args.self.now)) residual.result fault.field-0.0 residual.ensures (λ v. v.now) c.in-Some.member c.in-Some.is (λ v. t v.now) c.in_ok-member.ensures fault.ensures

@@ -1,37 +1,24 @@
-use Rattle.std.proofs.Common.{Ok, option_map, sym, ap, ◌∙◌}
-use Rattle.std.specs.Result.{result_map_both}
-use Rattle.sj_text_core.specs.Reads.{as_members, kind_of}
+use Rattle.sj_text_core.specs.Reads.{as_members}
 use Rattle.sj_text_core.specs.declared.value_type.ValueType.TheVariants as kind
 use Rattle.sj_tape.specs.Value.{tape_tree, tape_found}
 use Rattle.sj_tape.specs.Members.{members}
-use Rattle.sj_tape.proofs.Read.{none_read, some_read, there_as, no_object, not_there_as, fault_is}
+use Rattle.sj_tape.proofs.Read.{reads_none, reads_there, reads_no_object, reads_other}
 use Rattle.sj_tape.proofs.value.Value.try_get_object.Goals as goal
 
 pub returns-in_ok-try_as_object-in-Some-clause-members : goal.returns-in_ok-try_as_object-in-Some-clause-members
 returns-in_ok-try_as_object-in-Some-clause-members c =
-    let whole = tape_tree c.args.self.now in
-    let u = tape_tree c.in-Some.value in
-    let there = ap (λ o. Ok (option_map tape_tree o)) (sym c.in-Some.is) ∙ c.in_ok-value.ensures.value in
-    there_as (as_members u) _ kind.Object (kind_of u) c.in_ok-try_as_object-in-Some.ensures.members
-    ∙ some_read as_members kind.Object (kind_of whole) (as_members whole) (tape_found c.args.self.now c.args.key.now) u there
+    reads_there as_members kind.Object (tape_tree c.args.self.now) (tape_found c.args.self.now c.args.key.now) c.in-Some.value _ c.in-Some.is tape_tree c.in_ok-value.ensures.value c.in_ok-try_as_object-in-Some.ensures.members
 
 pub returns-in-None-clause-members : goal.returns-in-None-clause-members
 returns-in-None-clause-members c =
-    let whole = tape_tree c.args.self.now in
-    let absent = ap (λ o. Ok (option_map tape_tree o)) (sym c.in-None.is) ∙ c.in_ok-value.ensures.value in
-    none_read as_members kind.Object (kind_of whole) (as_members whole) (tape_found c.args.self.now c.args.key.now) absent
+    reads_none as_members kind.Object (tape_tree c.args.self.now) (tape_found c.args.self.now c.args.key.now) c.in-None.is tape_tree c.in_ok-value.ensures.value
 
 pub returns-in_err-value-clause-members : goal.returns-in_err-value-clause-members
 returns-in_err-value-clause-members c =
-    let whole = tape_tree c.args.self.now in
-    ap (result_map_both (option_map members) (λ e. e)) (fault_is c.from_residual.result c.in_err-value.field-0.0 c.from_residual.ensures)
-    ∙ no_object as_members kind.Object (kind_of whole) (as_members whole) (tape_found c.args.self.now c.args.key.now) _ c.in_err-value.ensures.value
+    reads_no_object as_members kind.Object (tape_tree c.args.self.now) (tape_found c.args.self.now c.args.key.now) c.from_residual.result c.in_err-value.field-0.0 c.from_residual.ensures members c.in_err-value.ensures.value
 
 pub returns-in_err-try_as_object-in-Some-clause-members : goal.returns-in_err-try_as_object-in-Some-clause-members
 returns-in_err-try_as_object-in-Some-clause-members c =
-    let whole = tape_tree c.args.self.now in
-    let u = tape_tree c.in-Some.value in
-    let there = ap (λ o. Ok (option_map tape_tree o)) (sym c.in-Some.is) ∙ c.in_ok-value.ensures.value in
-    ap (result_map_both (option_map members) (λ e. e)) (fault_is c.from_residual-in_err-try_as_object-in-Some.result c.in_err-try_as_object-in-Some.field-0.0 c.from_residual-in_err-try_as_object-in-Some.ensures)
-    ∙ not_there_as (as_members u) _ kind.Object (kind_of u) c.in_err-try_as_object-in-Some.ensures.members
-    ∙ some_read as_members kind.Object (kind_of whole) (as_members whole) (tape_found c.args.self.now c.args.key.now) u there
+    let residual = c.from_residual-in_err-try_as_object-in-Some in
+    let fault = c.in_err-try_as_object-in-Some in
+    reads_other as_members kind.Object (tape_tree c.args.self.now) (tape_found c.args.self.now c.args.key.now) residual.result fault.field-0.0 residual.ensures members c.in-Some.value c.in-Some.is tape_tree c.in_ok-value.ensures.value fault.ensures.members
