@@ -17,6 +17,7 @@ pub mod rows
 pub mod Makes
 pub mod Nodes
 pub mod Loans
+pub mod LoanSteps
 pub mod Lent
 pub mod Descents
 pub mod Results

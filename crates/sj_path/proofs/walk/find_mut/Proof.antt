@@ -1,48 +1,13 @@
 -- `find_mut` lends a part out of the part before, token by token. Assumes `Logic`.
 use Rattle.std.proofs.Common.{◌≡◌, ℕ, zero, suc, ◌+◌, ◌<◌, ◌^◌, List, [], ◌∷◌, ◌++◌, Option, Some, None, option_map, length, drop as behind, refl, sym, ap, ◌∙◌, subst, MutBor}
-use Rattle.std.proofs.raw_atomic.Walks.{proved}
+use Rattle.sj_document.proofs.LoanSteps.{proved, Ura, id⊢, emp, ent, sep, Fml, GName, ftrue, flft, w64, Fn, Args, Dict, a_type, dcons, dnil, named, inst_fn, Val, vptr, vint, of_list, suc-ne-zero, lit<, after, fact, fact_i, ◌⊑◌, Running, tables, Model, Logic, sem, Env, Item, Sq, prop, ‵, raw, ◌⊛◌, some, later, given, ◌$◌, ◌∵◌, !, qed, move, keep, drop, use0, use1, use2, split, join, fjoin, learn, pick, await, rewrite, suffices, frame, at_ret, done, enter, addr, lit, of_opd, bin, fld, stop, first, blocks, jumps, exec, returns, returns_within, no_more, and_then, loops, again, whole, agg, live, vrt, in_variant, by_variants, alloc_all, pass_all, free_all, look_at, get, get_in, get_tag, through, sets, sets_last, lands_as, env, holding, forget_but, usize, uint_Makes, yes, no, bounded, param, RattleType, NamedLft, MutRef, ShrRef, mut_vals, mut_Tells, shr_vals, shr_Tells, shr_copy, Bor, shr_slice_vals, plain, mut_ref_to, shr_ref_to, nothing, heard, peeks, only, owned, shows, Str, str-laws, calls_at, Ended, Clauses, lasts, triple_of, framed, Stays, walk_of, says, stay_dropped, Goes-dropped, Goes-spent_ref, ends_at, follows_so}
 use Rattle.std.specs.List.{slice_get}
-use seplogic.Ra.Ura.{Ura}
-use base.Logic.{id⊢, emp, ent, sep}
-use base.Fml.{Fml, GName, ftrue, flft}
-use mir.Syntax.{w64, Fn, Args, Dict, a_type, dcons, dnil, named}
-use mir.MapTy.{inst_fn}
-use mir.Val.{Val, vptr, vint, of_list}
 use mathlib.Core.WellFounded.InvImage
 use mathlib.Core.Option as maybe
-use native.Mathlib.Nat.{suc-ne-zero}
-use lib.Dec.{lit<}
 use lib.WfN.{lt-wf_rel}
-use Rattle.std.proofs.VecSteps.Shapes.{after}
-use contract.Monad.{fact, fact_i}
-use contract.BorrowLft.{◌⊑◌}
-use contract.Running.{Running, tables, tables_of}
-use prog.Model.{Model}
-use types.Logic.{Logic, sem}
-use prog.Wp.{Env, after_turn}
-use types.Kit.{Item, Sq, prop, ‵, raw, ◌⊛◌, some, later, given, ◌$◌, ◌∵◌, !, qed, move, keep, drop, use0, use1, use2, split, join, fjoin, learn, pick, await, rewrite, suffices, frame, at_ret, done}
-use types.Run.{enter, addr, lit, of_opd, bin, fld, stop, first, blocks, jumps, exec, returns, returns_within, no_more, and_then, loops, again}
-use types.Part.{whole, agg}
-use types.Match.{live, vrt, in_variant, by_variants}
-use types.ByLocal.{alloc_all, pass_all, free_all, look_at, get, get_in, get_tag, through, sets, sets_last, lands_as, env, holding, forget_but}
-use denote.Builtin.{usize}
-use denote.Plain.{uint_Makes}
-use denote.Exit.{yes, no}
-use denote.Param.{bounded, param}
-use denote.RattleType.{RattleType}
-use denote.Ref.{NamedLft, MutRef, ShrRef, mut_vals, mut_Tells, shr_vals, shr_Tells, shr_copy, Bor}
-use denote.Slice.{shr_slice_vals}
-use denote.Signature.{plain, mut_ref_to, shr_ref_to}
-use denote.Steps.{nothing, heard, peeks, only, owned}
-use denote.Laws.{shows}
-use denote.Text.{Str, str-laws}
-use denote.Triple.Call.{calls_at}
-use denote.Triple.Clauses.{Ended, Clauses, lasts}
+use contract.Running.{tables_of}
+use prog.Wp.{after_turn}
 use denote.Triple.Statement.{Contract}
-use denote.Triple.Spec.{triple_of}
-use denote.Triple.Table.{framed}
-use denote.Triple.Walked.{Stays, walk_of, says, stay_dropped, Goes-dropped, Goes-spent_ref, ends_at}
-use denote.Follow.{follows_so}
 use Rattle.std.specs.Option.{ghost_name_of, OnSome, IfSome}
 use Rattle.std.specs.contracts.option.Option as option
 use Rattle.std.specs.declared.cmp.Eq as total

@@ -1,45 +1,9 @@
 -- `step_mut` reads of what is lent whether it is an array, and lends an item or a member of it. Assumes `Logic`.
 use Rattle.std.proofs.Common.{◌≡◌, ℕ, zero, suc, List, [], ◌∷◌, ◌++◌, Option, Some, None, option_map, refl, sym, ap, ◌∙◌, MutBor}
-use Rattle.std.proofs.raw_atomic.Walks.{proved}
-use seplogic.Ra.Ura.{Ura}
-use base.Logic.{id⊢, emp}
-use base.Fml.{Fml, Incl-trans, ftrue, flft}
-use mir.Syntax.{w64, Fn, Args, Dict, a_type, dcons, dnil, named}
-use mir.MapTy.{inst_fn}
-use mir.Val.{Val, of_list}
-use native.Mathlib.Nat.{suc-ne-zero}
-use lib.Dec.{lit<}
-use Rattle.std.proofs.VecSteps.Shapes.{after}
-use contract.Monad.{fact, fact_i}
-use contract.BorrowLft.{◌⊑◌, meet_⊑_right}
-use contract.Running.{Running, tables}
-use prog.Model.{Model}
-use types.Logic.{Logic}
-use types.Kit.{Sq, prop, ‵, raw, ◌⊛◌, some, later, given, ◌$◌, ◌∵◌, !, qed, move, keep, drop, use0, use1, use2, use3, split, join, fjoin, learn, pick, await, rewrite, suffices, frame, at_ret, done}
-use types.Run.{enter, addr, of_opd, fld, stop, first, exec, returns, no_more, and_then}
-use types.Part.{whole}
-use types.Match.{live, vrt, in_variant, by_variants}
-use types.ByLocal.{alloc_all, pass_all, free_all, look_at, get, get_in, get_tag, through, sets, lands_as, lands_last, env}
+use Rattle.sj_document.proofs.LoanSteps.{proved, Ura, id⊢, emp, Fml, Incl-trans, ftrue, flft, w64, Fn, Args, Dict, a_type, dcons, dnil, named, inst_fn, Val, of_list, suc-ne-zero, lit<, after, fact, fact_i, ◌⊑◌, meet_⊑_right, Running, tables, Model, Logic, Sq, prop, ‵, raw, ◌⊛◌, some, later, given, ◌$◌, ◌∵◌, !, qed, move, keep, drop, use0, use1, use2, use3, split, join, fjoin, learn, pick, await, rewrite, suffices, frame, at_ret, done, enter, addr, of_opd, fld, stop, first, exec, returns, no_more, and_then, whole, live, vrt, in_variant, by_variants, alloc_all, pass_all, free_all, look_at, get, get_in, get_tag, through, sets, lands_as, lands_last, env, usize, uint_vals, uint_Tells, yes, no, bounded, param, RattleType, NamedLft, MutRef, ShrRef, mut_vals, mut_Tells, mut_Lawful, as_bor, shr_slice_vals, plain, mut_ref_to, nothing, heard, peeks, only, shows, StrRefOf, Str, str-laws, str-copy, calls_at, calls_at_last, Ended, Clauses, lasts, triple_of, framed, Stays, walk_of, says, stay_dropped, Goes-dropped, Goes-spent_ref, ends_at, follows_so}
 use types.Tokens.{lft_new}
-use denote.Builtin.{usize}
-use denote.Plain.{uint_vals, uint_Tells}
-use denote.Exit.{yes, no}
-use denote.Param.{bounded, param}
 use denote.Param.Laws.{Laws, param_laws}
-use denote.RattleType.{RattleType}
-use denote.Ref.{NamedLft, MutRef, ShrRef, mut_vals, mut_Tells, mut_Lawful, as_bor}
-use denote.Slice.{shr_slice_vals}
-use denote.Signature.{plain, mut_ref_to}
-use denote.Steps.{nothing, heard, peeks, only}
-use denote.Laws.{shows}
-use denote.Text.{StrRefOf, Str, str-laws, str-copy}
-use denote.Triple.Call.{calls_at, calls_at_last}
-use denote.Triple.Clauses.{Ended, Clauses, lasts}
 use denote.Triple.Statement.{Contract}
-use denote.Triple.Spec.{triple_of}
-use denote.Triple.Table.{framed}
-use denote.Triple.Walked.{Stays, walk_of, says, stay_dropped, Goes-dropped, Goes-spent_ref, ends_at}
-use denote.Follow.{follows_so}
 use Rattle.std.specs.Option.{ghost_name_of, OnSome}
 use Rattle.std.specs.contracts.option.Option as option
 use Rattle.std.specs.declared.cmp.Eq as total

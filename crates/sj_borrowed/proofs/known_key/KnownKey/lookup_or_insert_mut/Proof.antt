@@ -1,51 +1,14 @@
 -- `lookup_or_insert_mut` lends the members of the object twice: to find a place or to make one, and then the value at it. Assumes `Logic`.
 use Rattle.std.proofs.Common.{◌≡◌, ◌<◌, length, bytes_eq, ℕ, List, [], ◌∷◌, ◌++◌, Some, None, Result, Ok, Err, IfOk, IfErr, IsOk, OnOk, OnErr, IsSome, IfSome, refl, sym, ap, ◌∙◌, subst, MutBor}
-use Rattle.std.proofs.raw_atomic.Walks.{proved_at}
-use Rattle.std.proofs.ResultValues.{err_of}
-use base.Logic.{id⊢, emp, apply∗}
+use Rattle.sj_document.proofs.LoanSteps.{proved_at, err_of, id⊢, emp, apply∗, Share, ftrue, fsep, feq, flft, fdead, Fn, Args, Dict, a_type, dcons, dnil, tcons, tnil, impl, named, inst_fn, Val, vunit, of_list, WpFn, spot_of, suc-ne-zero, lit<, after, fact, fact_i, ◌⊑◌, ⊑_refl, ⊑_static, meet_⊑_right, Running, tables, Ura, Logic, Model, ‵, raw, prop, ◌⊛◌, some, later, given, ◌$◌, ◌∵◌, !, qed, move, keep, drop, use0, use1, use2, use3, split, join, fsplit, fjoin, feq_l, learn, pick, await, rewrite, regoal, suffices, frame, at_ret, done, enter, addr, lit, of_opd, fld, stop, first, exec, returns, no_more, and_then, whole, agg, live, vrt, in_variant, by_variants, alloc_all, pass_all, free_all, look_at, get, get_in, get_tag, through, sets, lands_as, lands_last, env, yes, no, bounded, param, layout, arg, RattleType, NamedLft, MutRef, ShrRef, mut_vals, mut_Tells, shr_vals, shr_Tells, mut_Lawful, plain, mut_ref_to, shr_ref_to, named_lft, nothing, heard, peeks, only, shows, usize, uint_Lawful, w64, calls_at, calls_at_last, lasts, triple_of, framed, Stays, walk_of, stay_dropped, Goes-dropped, Goes-spent_ref, ends_at, follows_so}
 use base.Share as share
-use base.Fml.{Share, ftrue, fsep, feq, flft, fdead}
-use mir.Syntax.{Fn, Args, Dict, a_type, dcons, dnil, tcons, tnil, impl, named}
 use mir.Raw.{raw as bare}
-use mir.MapTy.{inst_fn}
-use mir.Val.{Val, vunit, of_list}
-use prog.Wp.{WpFn, spot_of}
-use native.Mathlib.Nat.{suc-ne-zero}
-use lib.Dec.{lit<}
-use Rattle.std.proofs.VecSteps.Shapes.{after}
-use contract.Monad.{fact, fact_i}
-use contract.BorrowLft.{◌⊑◌, ⊑_refl, ⊑_static, meet_⊑_right}
-use contract.Running.{Running, tables}
 use contract.Lifetimes.{Lfts}
-use seplogic.Ra.Ura.{Ura}
-use types.Logic.{Logic}
-use prog.Model.{Model}
 use prog.Wired.{Wired}
-use types.Kit.{‵, raw, prop, ◌⊛◌, some, later, given, ◌$◌, ◌∵◌, !, qed, move, keep, drop, use0, use1, use2, use3, split, join, fsplit, fjoin, feq_l, learn, pick, await, rewrite, regoal, suffices, frame, at_ret, done}
-use types.Run.{enter, addr, lit, of_opd, fld, stop, first, exec, returns, no_more, and_then}
-use types.Part.{whole, agg}
-use types.Match.{live, vrt, in_variant, by_variants}
-use types.ByLocal.{alloc_all, pass_all, free_all, look_at, get, get_in, get_tag, through, sets, lands_as, lands_last, env}
-use denote.Exit.{yes, no}
-use denote.Param.{bounded, param, layout, arg}
 use denote.Param.Laws.{Laws, param_laws, arg_laws}
 use denote.Param.Glue as glue
-use denote.RattleType.{RattleType}
-use denote.Ref.{NamedLft, MutRef, ShrRef, mut_vals, mut_Tells, shr_vals, shr_Tells, mut_Lawful}
-use denote.Signature.{plain, mut_ref_to, shr_ref_to, named_lft}
-use denote.Steps.{nothing, heard, peeks, only}
-use denote.Laws.{shows}
 use denote.Lend.{LentAgain, lends_again, comes_back}
-use denote.Builtin.{usize}
-use denote.Plain.{uint_Lawful}
-use mir.Syntax.{w64}
 use denote.Param.NoDrop.{glues}
-use denote.Triple.Call.{calls_at, calls_at_last}
-use denote.Triple.Clauses.{lasts}
-use denote.Triple.Spec.{triple_of}
-use denote.Triple.Table.{framed}
-use denote.Triple.Walked.{Stays, walk_of, stay_dropped, Goes-dropped, Goes-spent_ref, ends_at}
-use denote.Follow.{follows_so}
 use Rattle.std.specs.Borrow.{name_if_ok}
 use Rattle.std.specs.Cow.{cow_str_bytes}
 use Rattle.std.specs.contracts.result.Result as result

@@ -1,39 +1,7 @@
 -- `get_idx_mut` lends the items of the array, and out of them the item at the place. Assumes `Logic`.
 use Rattle.std.proofs.Common.{◌≡◌, List, [], ◌∷◌, ◌++◌, Option, Some, None, option_map, refl, sym, ap, ◌∙◌, Vec, Global, MutBor}
-use Rattle.std.proofs.raw_atomic.Walks.{proved}
-use base.Logic.{id⊢, emp}
-use base.Fml.{ftrue, flft}
-use mir.Syntax.{w64, Fn, Args, Dict, a_type, dcons, dnil, named}
-use mir.MapTy.{inst_fn}
-use mir.Val.{Val, vptr, of_list}
-use prog.Wp.{spot_of}
+use Rattle.sj_document.proofs.LoanSteps.{proved, id⊢, emp, ftrue, flft, w64, Fn, Args, Dict, a_type, dcons, dnil, named, inst_fn, Val, vptr, of_list, spot_of, suc-ne-zero, lit<, after, fact, fact_i, ◌⊑◌, tables, ‵, raw, ◌⊛◌, some, later, given, ◌$◌, ◌∵◌, !, qed, move, keep, drop, use0, use1, use2, split, join, fjoin, learn, pick, await, rewrite, suffices, frame, at_ret, done, enter, addr, lit, of_opd, fld, stop, first, exec, returns, no_more, and_then, whole, agg, live, vrt, in_variant, by_variants, alloc_all, pass_all, free_all, look_at, get, get_in, get_tag, through, sets, sets_last, lands_as, lands_last, env, usize, yes, no, bounded, param, RattleType, MutRef, mut_vals, mut_Tells, uint_vals, uint_Tells, plain, mut_ref_to, nothing, heard, peeks, only, shows, calls_at, calls_at_last, Ended, lasts, triple_of, framed, Stays, walk_of, says, stay_dropped, Goes-dropped, Goes-spent_ref, ends_at, follows_so, follows_if}
 use mathlib.Core.Option as maybe
-use native.Mathlib.Nat.{suc-ne-zero}
-use lib.Dec.{lit<}
-use Rattle.std.proofs.VecSteps.Shapes.{after}
-use contract.Monad.{fact, fact_i}
-use contract.BorrowLft.{◌⊑◌}
-use contract.Running.{tables}
-use types.Kit.{‵, raw, ◌⊛◌, some, later, given, ◌$◌, ◌∵◌, !, qed, move, keep, drop, use0, use1, use2, split, join, fjoin, learn, pick, await, rewrite, suffices, frame, at_ret, done}
-use types.Run.{enter, addr, lit, of_opd, fld, stop, first, exec, returns, no_more, and_then}
-use types.Part.{whole, agg}
-use types.Match.{live, vrt, in_variant, by_variants}
-use types.ByLocal.{alloc_all, pass_all, free_all, look_at, get, get_in, get_tag, through, sets, sets_last, lands_as, lands_last, env}
-use denote.Builtin.{usize}
-use denote.Exit.{yes, no}
-use denote.Param.{bounded, param}
-use denote.RattleType.{RattleType}
-use denote.Ref.{MutRef, mut_vals, mut_Tells}
-use denote.Plain.{uint_vals, uint_Tells}
-use denote.Signature.{plain, mut_ref_to}
-use denote.Steps.{nothing, heard, peeks, only}
-use denote.Laws.{shows}
-use denote.Triple.Call.{calls_at, calls_at_last}
-use denote.Triple.Clauses.{Ended, lasts}
-use denote.Triple.Spec.{triple_of}
-use denote.Triple.Table.{framed}
-use denote.Triple.Walked.{Stays, walk_of, says, stay_dropped, Goes-dropped, Goes-spent_ref, ends_at}
-use denote.Follow.{follows_so, follows_if}
 use Rattle.std.specs.Option.{ghost_name_of, OnSome}
 use Rattle.std.specs.contracts.option.Option as option
 use Rattle.sj_text_core.specs.Tree.{list}

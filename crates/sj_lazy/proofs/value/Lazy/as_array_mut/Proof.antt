@@ -1,39 +1,8 @@
 -- `as_array_mut` lends the document, and out of it the items. Assumes `Logic`.
 use Rattle.std.proofs.Common.{◌≡◌, ℕ, List, [], ◌∷◌, ◌++◌, Option, Some, None, Result, Ok, Err, IfOk, IsOk, OnErr, option_map, refl, sym, ap, ◌∙◌, subst, Vec, Global, MutBor}
-use Rattle.std.proofs.raw_atomic.Walks.{proved}
-use Rattle.std.proofs.ResultValues.{ok_of, err_of}
-use Rattle.std.proofs.Handle.{heap_val, heap_Tells}
-use base.Logic.{id⊢, emp}
-use base.Fml.{ftrue, flft}
-use mir.Syntax.{Fn, Args, Dict, a_type, dcons, dnil, named}
-use mir.MapTy.{inst_fn}
-use mir.Val.{Val, of_list}
+use Rattle.sj_document.proofs.LoanSteps.{proved, ok_of, err_of, heap_val, heap_Tells, id⊢, emp, ftrue, flft, Fn, Args, Dict, a_type, dcons, dnil, named, inst_fn, Val, of_list, suc-ne-zero, lit<, after, fact, fact_i, ◌⊑◌, tables, ‵, raw, ◌⊛◌, some, later, given, ◌$◌, ◌∵◌, !, qed, move, keep, drop, use0, use1, use2, split, join, fjoin, learn, pick, await, rewrite, suffices, frame, at_ret, done, enter, addr, of_opd, fld, stop, lit, first, exec, returns, no_more, and_then, whole, agg, live, vrt, in_variant, by_variants, alloc_all, pass_all, free_all, look_at, get, get_in, get_tag, through, sets, sets_last, lands_as, env, yes, no, bounded, param, RattleType, MutRef, mut_vals, mut_Tells, mut_Lawful, plain, mut_ref_to, nothing, heard, peeks, only, shows, calls_at, Ended, lasts, triple_of, framed, Stays, walk_of, stay_dropped, Goes-dropped, Goes-spent_ref, ends_at, follows_so}
 use mathlib.Core.Option as maybe
-use native.Mathlib.Nat.{suc-ne-zero}
-use lib.Dec.{lit<}
-use Rattle.std.proofs.VecSteps.Shapes.{after}
-use contract.Monad.{fact, fact_i}
-use contract.BorrowLft.{◌⊑◌}
-use contract.Running.{tables}
-use types.Kit.{‵, raw, ◌⊛◌, some, later, given, ◌$◌, ◌∵◌, !, qed, move, keep, drop, use0, use1, use2, split, join, fjoin, learn, pick, await, rewrite, suffices, frame, at_ret, done}
-use types.Run.{enter, addr, of_opd, fld, stop, lit, first, exec, returns, no_more, and_then}
-use types.Part.{whole, agg}
-use types.Match.{live, vrt, in_variant, by_variants}
-use types.ByLocal.{alloc_all, pass_all, free_all, look_at, get, get_in, get_tag, through, sets, sets_last, lands_as, env}
-use denote.Exit.{yes, no}
-use denote.Param.{bounded, param}
-use denote.RattleType.{RattleType}
-use denote.Ref.{MutRef, mut_vals, mut_Tells, mut_Lawful}
-use denote.Signature.{plain, mut_ref_to}
-use denote.Steps.{nothing, heard, peeks, only}
-use denote.Laws.{shows}
 use denote.Struct.Laws as struct
-use denote.Triple.Call.{calls_at}
-use denote.Triple.Clauses.{Ended, lasts}
-use denote.Triple.Spec.{triple_of}
-use denote.Triple.Table.{framed}
-use denote.Triple.Walked.{Stays, walk_of, stay_dropped, Goes-dropped, Goes-spent_ref, ends_at}
-use denote.Follow.{follows_so}
 use Rattle.std.specs.Option.{ghost_name_of, OnSome, IsSome}
 use Rattle.std.specs.Borrow.{name_if_ok}
 use Rattle.std.specs.contracts.option.Option as option

@@ -1,29 +1,6 @@
 -- `pointed_mut` lends what `find_mut` lends. Assumes `Logic`.
 use Rattle.std.proofs.Common.{◌≡◌, [], ◌∷◌, Option, option_map, refl, sym, ◌∙◌, MutBor}
-use Rattle.std.proofs.raw_atomic.Walks.{proved}
-use base.Logic.{id⊢, emp}
-use base.Fml.{ftrue, flft}
-use mir.Syntax.{Fn, Args, Dict, a_type, dcons, dnil, named}
-use mir.MapTy.{inst_fn}
-use contract.Monad.{fact, fact_i}
-use contract.BorrowLft.{◌⊑◌}
-use contract.Running.{tables}
-use types.Kit.{‵, raw, ◌⊛◌, some, later, given, ◌$◌, ◌∵◌, !, qed, move, drop, use0, use1, use2, split, join, fjoin, learn, pick, await, suffices, frame, done}
-use types.Run.{enter, addr, stop, returns, no_more, and_then}
-use types.ByLocal.{alloc_all, pass_all, free_all, look_at, get, through, sets, lands_as}
-use denote.Exit.{yes, no}
-use denote.Param.{bounded, param}
-use denote.RattleType.{RattleType}
-use denote.Ref.{MutRef, ShrRef, mut_vals, mut_Tells, mut_Lawful, shr_vals, shr_Tells}
-use denote.Signature.{plain, mut_ref_to, shr_ref_to}
-use denote.Steps.{nothing, heard, peeks}
-use denote.Laws.{shows}
-use denote.Triple.Call.{calls_at}
-use denote.Triple.Clauses.{Ended, lasts}
-use denote.Triple.Spec.{triple_of}
-use denote.Triple.Table.{framed}
-use denote.Triple.Walked.{Stays, walk_of, says, stay_dropped, Goes-dropped, Goes-spent_ref, ends_at}
-use denote.Follow.{follows_so}
+use Rattle.sj_document.proofs.LoanSteps.{proved, id⊢, emp, ftrue, flft, Fn, Args, Dict, a_type, dcons, dnil, named, inst_fn, fact, fact_i, ◌⊑◌, tables, ‵, raw, ◌⊛◌, some, later, given, ◌$◌, ◌∵◌, !, qed, move, drop, use0, use1, use2, split, join, fjoin, learn, pick, await, suffices, frame, done, enter, addr, stop, returns, no_more, and_then, alloc_all, pass_all, free_all, look_at, get, through, sets, lands_as, yes, no, bounded, param, RattleType, MutRef, ShrRef, mut_vals, mut_Tells, mut_Lawful, shr_vals, shr_Tells, plain, mut_ref_to, shr_ref_to, nothing, heard, peeks, shows, calls_at, Ended, lasts, triple_of, framed, Stays, walk_of, says, stay_dropped, Goes-dropped, Goes-spent_ref, ends_at, follows_so}
 use Rattle.std.specs.Option.{ghost_name_of, OnSome}
 use Rattle.std.specs.contracts.option.Option as option
 use Rattle.std.specs.declared.cmp.Eq as total
