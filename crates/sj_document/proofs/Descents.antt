@@ -4,9 +4,10 @@ use Rattle.std.specs.Option.{IsSome, is_some}
 use Rattle.std.proofs.lemmas.List.{drop_more, drop_all}
 use Rattle.sj_text_core.specs.Tree.{Tree}
 use Rattle.sj_text_core.specs.Paths.{Step, by_key, step_into, set_found, change_found, tree_at, set_at}
+use Rattle.sj_text_core.specs.inner.Find.{or_null}
 use Rattle.sj_text_core.proofs.Paths.{found_same}
 use Rattle.sj_text_core.proofs.Writes.{step_there, set_found-twice}
-use Rattle.sj_document.specs.inner.Descents.{or_null, step_at, plug, IsSpine, Descended}
+use Rattle.sj_document.specs.inner.Descents.{step_at, plug, IsSpine, Descended}
 
 pub step_is : {A : Type 0} (f : A → Step) (ks : List A) (d : ℕ) (k : A) → d < length ks → k ≡ get_or ks d k → step_at (map f ks) d ≡ f k
 step_is f [] d k l e = absurd (omega arith)

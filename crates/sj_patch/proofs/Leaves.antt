@@ -12,8 +12,9 @@ use Rattle.sj_pointer.specs.Pointed.{token_into}
 use Rattle.sj_document.specs.Items.{insert_at, remove_at}
 use Rattle.sj_patch.specs.Patch.{or_missing, onwards, removed_in, removed_at, added_in, added_at, place_among}
 use Rattle.sj_patch.specs.inner.Patch.{swapped_in}
-use Rattle.sj_patch.specs.inner.Changed.{Does, without_item, or_null}
+use Rattle.sj_patch.specs.inner.Changed.{Does, without_item}
 use Rattle.sj_text_core.specs.declared.patch_fault.OperationFault.TheVariants.{Missing, NoPlace}
+use Rattle.sj_text_core.specs.inner.Find.{or_null}
 use Rattle.sj_patch.specs.declared.change.Change.TheVariants.{Put}
 use Rattle.sj_patch.specs.declared.reversal.Reversal.TheVariants as reversal
 use Rattle.sj_text_core.proofs.Writes.{find-put_same}

@@ -10,8 +10,9 @@ use Rattle.sj_pointer.specs.Pointed.{token_into, pointed, set_pointed}
 use Rattle.sj_document.specs.Items.{insert_at, remove_at}
 use Rattle.sj_patch.specs.Patch.{or_missing, onwards, within, removed_in, replaced}
 use Rattle.sj_patch.specs.inner.Patch.{swapped_in}
-use Rattle.sj_patch.specs.inner.Changed.{without_item, or_null}
+use Rattle.sj_patch.specs.inner.Changed.{without_item}
 use Rattle.sj_text_core.specs.declared.patch_fault.OperationFault.{OperationFault}
+use Rattle.sj_text_core.specs.inner.Find.{or_null}
 use Rattle.sj_text_core.proofs.Writes.{find-put_same, step_there, set_found-twice}
 use Rattle.sj_patch.proofs.Setting.{cut-put, nth-insert, drop-insert}
 

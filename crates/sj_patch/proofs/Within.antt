@@ -7,10 +7,11 @@ use Rattle.sj_text_core.specs.declared.repeats.Repeats.TheVariants.{First}
 use Rattle.sj_text_core.proofs.Writes.{tree_at-set, set_at-same, set_at-twice, tree_at-join}
 use Rattle.sj_pointer.specs.Pointed.{path_of, token_into, pointed, set_pointed}
 use Rattle.sj_patch.specs.Patch.{or_missing, onwards}
-use Rattle.sj_patch.specs.inner.Changed.{Refuses, Wants, Undoes, AnswersChange, ChangesOrReturns, at_tokens, or_null, seen_within, change_in, changed_whole, change_at, taken_in, taken_at}
+use Rattle.sj_patch.specs.inner.Changed.{Refuses, Wants, Undoes, AnswersChange, ChangesOrReturns, at_tokens, seen_within, change_in, changed_whole, change_at, taken_in, taken_at}
 use Rattle.sj_text_core.specs.declared.refused.Refused.{Refused}
 use Rattle.sj_text_core.specs.declared.patch_fault.OperationFault.{OperationFault}
 use Rattle.sj_text_core.specs.declared.patch_fault.OperationFault.TheVariants.{Missing}
+use Rattle.sj_text_core.specs.inner.Find.{or_null}
 use Rattle.sj_patch.specs.declared.error.Refusal.{Refusal}
 use Rattle.sj_patch.specs.declared.error.Refusal.TheVariants.{Fault, OutOfMemory}
 use Rattle.sj_patch.specs.declared.change.Change.{Change}

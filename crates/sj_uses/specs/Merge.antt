@@ -1,5 +1,5 @@
 -- One document over another.
-use Rattle.std.specs.Prelude.{◌≡◌, Option, Some, None}
+use Rattle.std.specs.Prelude.{◌≡◌, Option, Some, None, unwrap_or}
 use Rattle.sj_text_core.specs.Tree.{Tree, null, boolean, int, text, list, obj, Members, no_members, member}
 use Rattle.sj_text_core.specs.Find.{find_member}
 use Rattle.sj_text_core.specs.Edits.{put}
@@ -12,10 +12,6 @@ members_in t = no_members
 abbrev pub covered : Tree → Members → Members → Tree
 covered (obj ms) ns all = obj all
 covered t ns all = obj ns
-
-abbrev pub or_null : Option Tree → Tree
-or_null None = null
-or_null (Some t) = t
 
 abbrev pub found_or : Option Tree → Tree → Tree → Tree
 found_or None u v = u
@@ -33,7 +29,7 @@ abbrev mutual
 
   pub merged_members : Members → Members → Members
   merged_members ms no_members = ms
-  merged_members ms (member k u ns) = merged_members (put k (found_or (find_member k ms) u (merged (or_null (find_member k ms)) u)) ms) ns
+  merged_members ms (member k u ns) = merged_members (put k (found_or (find_member k ms) u (merged (unwrap_or (find_member k ms) null) u)) ms) ns
 
 -- an object without members over an object leaves it as it is
 abbrev pub NothingOver : Type 0

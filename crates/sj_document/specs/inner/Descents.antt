@@ -1,11 +1,8 @@
 -- What private clauses alone cite beside Descents.
-use Rattle.std.specs.Prelude.{◌≡◌, ◌<◌, ◌≤◌, ℕ, zero, suc, List, [], length, slice_index_or, Option, Some, None, IsSome, ⊤}
-use Rattle.sj_text_core.specs.Tree.{Tree, null}
+use Rattle.std.specs.Prelude.{◌≡◌, ◌<◌, ◌≤◌, ℕ, zero, suc, List, [], length, slice_index_or, Some, None, IsSome, ⊤}
+use Rattle.sj_text_core.specs.Tree.{Tree}
 use Rattle.sj_text_core.specs.Paths.{Step, by_key, step_into, set_found, tree_at, set_at}
-
-abbrev pub or_null : Option Tree → Tree
-or_null None = null
-or_null (Some u) = u
+use Rattle.sj_text_core.specs.inner.Find.{or_null}
 
 abbrev pub step_at : List Step → ℕ → Step
 step_at p d = slice_index_or p d (by_key [])

@@ -17,6 +17,7 @@ use Rattle.sj_patch.specs.Patch.{within, onwards, added_in, added, removed_in, r
 use Rattle.sj_patch.specs.inner.Patch.{swapped_in}
 use Rattle.sj_text_core.specs.declared.patch_fault.OperationFault.{OperationFault}
 use Rattle.sj_text_core.specs.declared.patch_fault.OperationFault.TheVariants.{Missing, Whole}
+use Rattle.sj_text_core.specs.inner.Find.{or_null}
 use Rattle.sj_patch.specs.declared.error.Refusal.{Refusal}
 use Rattle.sj_patch.specs.declared.error.Refusal.TheVariants as refusal
 use Rattle.sj_patch.specs.declared.change.Change.{Change}
@@ -78,9 +79,6 @@ or_same t (Ok u) = u
 abbrev pub at_tokens : Result Tree OperationFault → (List ℕ → Tree → Result Tree OperationFault) → List (List ℕ) → Tree → Result Tree OperationFault
 at_tokens whole f [] u = whole
 at_tokens whole f (k ∷ ks) u = within f k ks u
-
-abbrev pub or_null : Option Tree → Tree
-or_null o = unwrap_or o null
 
 -- what f says of the container to which all tokens but the last lead; f is given the last
 abbrev pub seen_within : (List ℕ → Tree → Tree) → List ℕ → List (List ℕ) → Tree → Tree

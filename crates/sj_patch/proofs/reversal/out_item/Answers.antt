@@ -1,9 +1,9 @@
 use Rattle.std.proofs.Common.{map, Ok, refl, sym, ap, ◌∙◌, arith}
 use Rattle.sj_text_core.specs.Tree.{list, items_from}
+use Rattle.sj_text_core.specs.inner.Find.{or_null}
 use Rattle.sj_document.specs.Document.{document_tree}
 use Rattle.sj_document.proofs.Arrays.{items_seen, item_at, none_nth}
 use Rattle.sj_document.proofs.Placed.{items-remove}
-use Rattle.sj_patch.specs.inner.Changed.{or_null}
 use Rattle.sj_patch.proofs.Leaves.{item_out, no_item_out}
 use Rattle.sj_patch.proofs.reversal.out_item.Goals as goal
 

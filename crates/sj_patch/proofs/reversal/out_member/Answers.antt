@@ -1,9 +1,9 @@
 use Rattle.std.proofs.Common.{option_map, Ok, sym, ap, ◌∙◌}
 use Rattle.sj_text_core.specs.Tree.{obj}
+use Rattle.sj_text_core.specs.inner.Find.{or_null}
 use Rattle.sj_object.specs.Members.{entry_members}
 use Rattle.sj_object.proofs.Shown.{lookup-entry_members, entry_members-cut}
 use Rattle.sj_document.specs.Document.{document_tree}
-use Rattle.sj_patch.specs.inner.Changed.{or_null}
 use Rattle.sj_patch.proofs.Leaves.{removed_member, no_member, cut_absent}
 use Rattle.sj_patch.proofs.reversal.out_member.Goals as goal
 

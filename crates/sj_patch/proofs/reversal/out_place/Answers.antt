@@ -1,10 +1,10 @@
 use Rattle.std.proofs.Common.{option_and_then, map, Ok, refl, sym, ap, ◌∙◌, arith}
 use Rattle.sj_text_core.specs.Tree.{list, items_from}
 use Rattle.sj_text_core.specs.Find.{nth}
+use Rattle.sj_text_core.specs.inner.Find.{or_null}
 use Rattle.sj_document.specs.Document.{document_tree}
 use Rattle.sj_document.proofs.Arrays.{items_seen, item_at, none_nth}
 use Rattle.sj_document.proofs.Placed.{items-remove}
-use Rattle.sj_patch.specs.inner.Changed.{or_null}
 use Rattle.sj_patch.proofs.Leaves.{removed_item, no_item}
 use Rattle.sj_patch.proofs.reversal.out_place.Goals as goal
 
