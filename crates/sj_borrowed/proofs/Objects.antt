@@ -9,7 +9,7 @@ use Rattle.sj_object.specs.Members.{entry_members}
 use Rattle.sj_object.proofs.Shown.{lookup-entry_members}
 use Rattle.sj_document.specs.Document.{document_tree}
 use Rattle.sj_document.specs.declared.value.Document.{Document}
-use Rattle.sj_document.proofs.Trees.{Map, tree_of_ref, tree_of_mut}
+use Rattle.sj_document.proofs.Trees.{Map, tree_of_ref, tree_of_mut, some_before}
 
 pub find_in : (k : List ℕ) (u : Tree) (ms : Members) → Some ms ≡ as_members u → find k u ≡ find_member k ms
 find_in k null ms e = cc
@@ -18,10 +18,6 @@ find_in k (int n c) ms e = cc
 find_in k (text s) ms e = cc
 find_in k (list is) ms e = cc
 find_in k (obj ns) ms e = cc
-
-some_of : {A B : Type 0} (f : A → B) (o : Option A) → IsSome (option_map f o) → IsSome o
-some_of f None h = h
-some_of f (Some a) h = refl
 
 none_of : {A B : Type 0} (f : A → B) (o : Option A) → option_map f o ≡ None → o ≡ None
 none_of f None h = refl
@@ -48,7 +44,7 @@ module _ {T : Type 0} (t : T → List ℕ) (m : Map T) (k : List ℕ) (u : Tree)
   is_object = subst (λ o. IsSome o) e refl
 
   pub there : IsSome (find k u) → IsSome (lookup k m.entries)
-  there h = some_of (document_tree t) (lookup k m.entries) (subst (λ o. IsSome o) (sym shown) h)
+  there h = some_before (document_tree t) (lookup k m.entries) (subst (λ o. IsSome o) (sym shown) h)
 
   pub absent : find k u ≡ None → lookup k m.entries ≡ None
   absent h = none_of (document_tree t) (lookup k m.entries) (shown ∙ h)

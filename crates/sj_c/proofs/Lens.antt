@@ -1,17 +1,11 @@
 -- How many items or members a value has, told of an equal tree.
-use Rattle.std.proofs.Common.{◌≡◌, ℕ, suc, List, [], ◌∷◌, length, refl, sym, ap, subst}
+use Rattle.std.proofs.Common.{◌≡◌, ℕ, sym, subst}
 use Rattle.std.specs.Prelude.{IfSome}
 use Rattle.sj_text_core.specs.Tree.{Tree, Items, Members, list, obj, items_len, members_len}
 use Rattle.sj_text_core.specs.Reads.{as_items, as_members}
-use Rattle.sj_object.specs.Entries.{Entry}
-use Rattle.sj_object.specs.Members.{entry_members}
 
 pub items_told : (t : Tree) (is : Items) (n : ℕ) → t ≡ list is → n ≡ items_len is → IfSome (as_items t) (λ is. n ≡ items_len is)
 items_told t is n e f = subst (λ (u : Tree). IfSome (as_items u) (λ is. n ≡ items_len is)) (sym e) f
 
 pub members_told : (t : Tree) (ms : Members) (n : ℕ) → t ≡ obj ms → n ≡ members_len ms → IfSome (as_members t) (λ ms. n ≡ members_len ms)
 members_told t ms n e f = subst (λ (u : Tree). IfSome (as_members u) (λ ms. n ≡ members_len ms)) (sym e) f
-
-pub members_count : {K V : Type 0} (f : V → Tree) (es : List (Entry K V)) → members_len (entry_members f es) ≡ length es
-members_count f [] = refl
-members_count f (e ∷ es) = ap (λ n. suc n) (members_count f es)

@@ -13,7 +13,7 @@ use Rattle.sj_text_core.specs.Keep.{is_seen}
 use Rattle.sj_text_core.specs.Same.{Same, SameItems}
 use Rattle.sj_text_core.specs.inner.Agree.{SameFound}
 use Rattle.sj_text_core.specs.Equal.{tree_eq}
-use Rattle.sj_text_core.proofs.Equal.{tree_eq-decides}
+use Rattle.sj_text_core.proofs.Equal.{tree_eq-decides, both_ways}
 use Rattle.sj_text_core.proofs.Equality.{found_from_at, at_from_found, none_on, same-sym}
 use Rattle.sj_text_core.proofs.Comparing.{by_either, absent_by, there_by}
 use Rattle.sj_text_core.proofs.Shapes.{same_items_len}
@@ -189,10 +189,4 @@ module _ {K L V W : Type 0} (f : V → Tree) (g : W → Tree) (t : K → List �
 
 -- an answer that decides sameness is that of the test
 pub answer_is : (b : Bool) (t u : Tree) → (IsTrue b → Same t u) × (Same t u → IsTrue b) → b ≡ tree_eq t u
-answer_is b t u h = both (tree_eq t u) (λ e. (tree_eq-decides t u).1 (h.0 e)) (λ e. h.1 ((tree_eq-decides t u).0 e)) where
-  both : (a : Bool) → (b ≡ true → a ≡ true) → (a ≡ true → b ≡ true) → b ≡ a
-  both a f g = by_bool b a f g where
-    by_bool : (b a : Bool) → (b ≡ true → a ≡ true) → (a ≡ true → b ≡ true) → b ≡ a
-    by_bool true a f g = sym (f refl)
-    by_bool false true f g = g refl
-    by_bool false false f g = refl
+answer_is b t u h = both_ways b (tree_eq t u) (λ e. (tree_eq-decides t u).1 (h.0 e)) (λ e. h.1 ((tree_eq-decides t u).0 e))

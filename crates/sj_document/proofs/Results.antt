@@ -1,5 +1,5 @@
 -- A loan out of a loan where relations say both, and a `Result` of a reference taken apart. Assumes `Logic`.
-use Rattle.std.proofs.Common.{◌≡◌, List, [], ◌∷◌, ◌++◌, Option, Some, None, Result, Ok, Err, OnErr, refl}
+use Rattle.std.proofs.Common.{◌≡◌, List, [], ◌∷◌, ◌++◌, Option, Some, None, Result, Ok, Err, refl}
 use mathlib.Core.Path.{subst⁻¹}
 use mathlib.Core.Option as maybe
 use seplogic.Ra.Ura.{Ura}
@@ -31,10 +31,6 @@ typed_one τ (v ∷ u ∷ us) t = absurd t.1
 pub on_some : {A : Type 0} {P Q : Type 0} (o : Option A) → (P → Q) → OnSome o P → OnSome o Q
 on_some None f h = tt
 on_some (Some x) f h = f h
-
-pub on_err : {A E : Type 0} {P Q : Type 0} (r : Result A E) → (P → Q) → OnErr r P → OnErr r Q
-on_err (Ok x) f h = tt
-on_err (Err e) f h = f h
 
 module _ {M : Type 1} {𝓤 : Ura M} (𝓛 : Logic 𝓤) (R S T : RattleType) (γ : GName) where
   abbrev Shown : (T.Denot → S.Denot → Type 0) → (S.Denot → Type 0) → Type 0

@@ -1,5 +1,5 @@
 -- Items and members as lists.
-use Rattle.std.proofs.Common.{◌≡◌, ℕ, List, [], ◌∷◌, map, length, refl, ap, suc, Some, option_map, IsTrue, ◌↔◌, nat_eq, true≢false, sym, ◌∙◌}
+use Rattle.std.proofs.Common.{◌≡◌, ℕ, List, [], ◌∷◌, map, refl, ap, suc, Some, option_map, IsTrue, ◌↔◌, nat_eq, true≢false, sym, ◌∙◌}
 use Rattle.std.proofs.Math.Dec.{eqb-suc-zero}
 use Rattle.sj_text_core.specs.Tree.{Tree, null, boolean, int, text, list, obj, Items, no_items, item, items_from, items_len, members_len, Members, no_members, member, listed, paired}
 use Rattle.sj_text_core.specs.Keep.{keep_items}
@@ -15,10 +15,6 @@ use Rattle.sj_lazy.specs.Value.{Form, of_tape, of_lent}
 pub listed-from : (ts : List Tree) → listed (items_from ts) ≡ ts
 listed-from [] = refl
 listed-from (t ∷ ts) = ap (λ l. t ∷ l) (listed-from ts)
-
-pub length-members : {K V : Type 0} (f : V → Tree) (es : List (Entry K V)) → length es ≡ members_len (entry_members f es)
-length-members f [] = refl
-length-members f (e ∷ es) = ap suc (length-members f es)
 
 pub paired-members : {K V : Type 0} (t : K → List ℕ) (f : V → Tree) (ps : List (K × V)) → map (λ (p : K × V). (t p.0, f p.1)) ps ≡ paired (entry_members f (entries_of t ps))
 paired-members t f [] = refl

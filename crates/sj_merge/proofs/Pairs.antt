@@ -1,5 +1,5 @@
 -- A merge, pair by pair.
-use Rattle.std.proofs.Common.{◌≡◌, ℕ, true, false, List, Option, Some, None, is_some, Result, Ok, Err, OnOk, OnErr, refl, ap}
+use Rattle.std.proofs.Common.{◌≡◌, ℕ, true, false, List, Option, Some, None, is_some, refl, ap}
 use Rattle.sj_text_core.specs.Tree.{Tree, null, boolean, int, text, list, obj, Members, no_members}
 use Rattle.sj_text_core.specs.Find.{find_member}
 use Rattle.sj_text_core.specs.Edits.{put, cut}
@@ -29,16 +29,6 @@ merged-none (int n c) = refl
 merged-none (text s) = refl
 merged-none (list is) = refl
 merged-none (obj ps) = refl
-
--- what follows where a call succeeded
-pub ok_map : {A E : Type 0} (r : Result A E) (P Q : Type 0) → (P → Q) → OnOk r P → OnOk r Q
-ok_map (Ok x) P Q f h = f h
-ok_map (Err e) P Q f h = tt
-
--- and where it was refused
-pub err_map : {A E : Type 0} (r : Result A E) (P Q : Type 0) → (P → Q) → OnErr r P → OnErr r Q
-err_map (Ok x) P Q f h = tt
-err_map (Err e) P Q f h = f h
 
 pub null_of : (v : Tree) → is_some (as_nothing v) ≡ true → v ≡ null
 null_of null e = refl

@@ -145,11 +145,9 @@ module _ (n g : ℕ) (qs hs links heads : List ℕ) (q s : ℕ) (a : AreHoles g 
           let b : ℕ = get_or ds i 0 % n in
           let d : get_or (remove ds q) i 0 ≡ get_or ds i 0 = get_or-remove_below ds q 0 i f w in
           let u : last_below n b ds i ≤ q = omega (arith, f, last_le n b ds i) in
-          let low : lowered q (passed q next (last_below n b ds i)) ≡ last_below n b ds i = ap (lowered q) (passed_low q next (last_below n b ds i) u) ∙ lowered_low q (last_below n b ds i) u in
+          let low : lowered q (passed q next (last_below n b ds i)) ≡ last_below n b ds i = ap (lowered q) (passed_low q next (last_below n b ds i) u) ∙ Holes.lowered_low q (last_below n b ds i) u in
           links_passed i t v z ∙ ap (passed s (get_or links s 0)) (k.nexts i t v z) ∙ goes (last_below n b ds i)
-          ∙ ap (raised_by (qs ++ q ∷ [])) (low ∙ sym (last_before n b ds q next w (linked b) i (omega (arith, f))) ∙ ap (λ x. last_below n (x % n) (remove ds q) i) (sym d)) where
-            lowered_low : (j p : ℕ) → p ≤ j → lowered j p ≡ p
-            lowered_low j p m = grind (arith, nat_tests)
+          ∙ ap (raised_by (qs ++ q ∷ [])) (low ∙ sym (last_before n b ds q next w (linked b) i (omega (arith, f))) ∙ ap (λ x. last_below n (x % n) (remove ds q) i) (sym d))
 
     pub IsChained-hole : IsChained n (qs ++ q ∷ []) hs links' heads'
     IsChained-hole = record {

@@ -1,12 +1,17 @@
 -- What the calls of a map are on the members of an object, where each value has a tree.
-use Rattle.std.proofs.Common.{◌≡◌, ℕ, Bool, true, false, List, [], ◌∷◌, map, Option, Some, option_map, refl, ap, bytes_eq}
+use Rattle.std.proofs.Common.{◌≡◌, ℕ, suc, Bool, true, false, List, [], ◌∷◌, map, length, Option, Some, option_map, refl, ap, bytes_eq}
 use Rattle.std.specs.Bool.{if◌then◌else◌}
-use Rattle.sj_text_core.specs.Tree.{Tree, Members, member}
+use Rattle.sj_text_core.specs.Tree.{Tree, Members, member, members_len}
 use Rattle.sj_text_core.specs.Find.{find_member}
 use Rattle.sj_text_core.specs.Edits as members
 use Rattle.sj_object.specs.Entries.{Entry}
 use Rattle.sj_object.specs.Members.{entry_members}
 use Rattle.sj_object.specs.Edits.{lookup, set_value, put_entry, cut_entry}
+
+-- as many members as entries
+pub length-members : {K V : Type 0} (f : V → Tree) (es : List (Entry K V)) → length es ≡ members_len (entry_members f es)
+length-members f [] = refl
+length-members f (e ∷ es) = ap suc (length-members f es)
 
 -- values seen by one map after another
 pub entry_members-map : {K V W : Type 0} (f : V → W) (g : W → Tree) (es : List (Entry K V)) → entry_members g (map (λ (e : Entry K V). (e.0, f e.1)) es) ≡ entry_members (λ v. g (f v)) es

@@ -3,7 +3,7 @@ use Rattle.std.proofs.Common.{◌≡◌, ◌<◌, ◌≤◌, ◌&&◌, ℕ, zero
 use Rattle.std.specs.List.{insert}
 use Rattle.std.proofs.lemmas.Bool.Decides.{nat_tests}
 use Rattle.std.proofs.lemmas.Bool.{or_parts, or_from}
-use Rattle.sj_text_core.specs.Tree.{Tree, Items, no_items, item, items_len, member, members_len}
+use Rattle.sj_text_core.specs.Tree.{Tree, Items, no_items, item, items_len, member}
 use Rattle.sj_text_core.specs.Find.{find_member, nth_item}
 use Rattle.sj_text_core.specs.Keep.{is_seen}
 use Rattle.sj_object.specs.Texts.{no_repeats}
@@ -38,10 +38,6 @@ members-insert f [] zero e h = refl
 members-insert f [] (suc i) e h = absurd (omega (arith, h))
 members-insert f (x ∷ es) zero e h = refl
 members-insert f (x ∷ es) (suc i) e h = ap (member x.0.1 (f x.1)) (members-insert f es i e (omega (arith, h)))
-
-pub members_len-seen : {K V : Type 0} (f : V → Tree) (es : List (Entry K V)) → members_len (entry_members f es) ≡ length es
-members_len-seen f [] = refl
-members_len-seen f (x ∷ es) = ap suc (members_len-seen f es)
 
 -- an item that was taken out, put back
 pub insert-remove : (i : ℕ) (u : Tree) (is : Items) → nth_item i is ≡ Some u → insert_at i u (remove_at i is) ≡ is

@@ -20,7 +20,7 @@ use Rattle.sj_object.specs.Entries.{Entry}
 use Rattle.sj_object.specs.Members.{entry_members}
 use Rattle.sj_object.specs.Rooms.{places, takes, restored, restored_all}
 use Rattle.sj_object.specs.declared.map.kept_room.Room.{Room}
-use Rattle.sj_object.proofs.Shown.{lookup-entry_members}
+use Rattle.sj_object.proofs.Shown.{lookup-entry_members, length-members}
 use Rattle.sj_patch.specs.Patch.{removed}
 use Rattle.sj_document.proofs.Arrays.{items_seen, length-items}
 use Rattle.sj_document.proofs.Placed.{items-insert}
@@ -36,7 +36,7 @@ use Rattle.sj_patch.specs.declared.reversal.Reversal.TheVariants as reversal
 use Rattle.sj_patch.proofs.Within.{changed_below}
 use Rattle.sj_patch.proofs.Logged.{take-removed}
 use Rattle.sj_patch.proofs.Stepped.{stepped-last, stepped-none, filled-after, filled-last, full}
-use Rattle.sj_patch.proofs.Backs.{members-insert, members_len-seen, placed-within}
+use Rattle.sj_patch.proofs.Backs.{members-insert, placed-within}
 
 -- whatever the token
 pub member_any : (n i : ℕ) (k l m : List ℕ) (v u : Tree) → member_back n i k v l u ≡ member_back n i k v m u
@@ -147,7 +147,7 @@ module _ {T : Type 0} (t : T → List ℕ) where
   taken_seen : (n i : ℕ) (k : List ℕ) (es : List (Entry T (Document T))) → (is_placed (members_len (entry_members (document_tree t) es)) n i && not (is_some (find_member k (entry_members (document_tree t) es)))) ≡ takes n i k es
   taken_seen n i k es =
       let found : is_some (find_member k (entry_members (document_tree t) es)) ≡ is_some (lookup k es) = ap is_some (sym (lookup-entry_members (document_tree t) k es)) ∙ some_map (document_tree t) (lookup k es) in
-      (λ j. is_placed (members_len-seen (document_tree t) es j) n i && not (found j))
+      (λ j. is_placed (sym (length-members (document_tree t) es) j) n i && not (found j))
 
   placed_of : (a b : Boolean) → a && b ≡ true → a ≡ true
   placed_of true b e = refl

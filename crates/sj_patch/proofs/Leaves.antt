@@ -1,6 +1,6 @@
 -- Changes at one token.
-use Rattle.std.proofs.Common.{◌≡◌, ℕ, ◌≤◌, Bool, true, false, List, [], ◌∷◌, option_map, Some, None, Ok, Err, if◌then◌else◌, bytes_eq, refl, sym, ap, ◌∙◌}
-use Rattle.sj_text_core.specs.Tree.{Tree, list, obj, Items, items_len, Members, no_members, member}
+use Rattle.std.proofs.Common.{◌≡◌, ℕ, ◌≤◌, List, [], ◌∷◌, option_map, Some, None, Ok, Err, sym, ap, ◌∙◌}
+use Rattle.sj_text_core.specs.Tree.{Tree, list, obj, Items, items_len, Members}
 use Rattle.sj_text_core.specs.Find.{find_member, nth, nth_item}
 use Rattle.sj_text_core.specs.Edits.{put, cut}
 use Rattle.sj_text_core.specs.Places.{place_of}
@@ -26,15 +26,6 @@ removed_member k ms u f = ap (λ o. or_missing (option_map (λ _. obj (cut k ms)
 
 pub no_member : (k : List ℕ) (ms : Members) → find_member k ms ≡ None → removed_in k (obj ms) ≡ Err Missing
 no_member k ms f = ap (λ o. or_missing (option_map (λ _. obj (cut k ms)) o)) f
-
-absent_by : (b : Bool) (k l : List ℕ) (t : Tree) (ms : Members) → (if b then Some t else find_member k ms) ≡ None → (find_member k ms ≡ None → cut k ms ≡ ms) → (if b then ms else member l t (cut k ms)) ≡ member l t ms
-absent_by true k l t ms f ih = cc
-absent_by false k l t ms f ih = ap (member l t) (ih f)
-
--- without the text nothing is cut
-pub cut_absent : (k : List ℕ) (ms : Members) → find_member k ms ≡ None → cut k ms ≡ ms
-cut_absent k no_members f = refl
-cut_absent k (member l t ms) f = absent_by (bytes_eq k l) k l t ms f (cut_absent k ms)
 
 pub removed_item : (k : List ℕ) (i : ℕ) (is : Items) (u : Tree) → place_of k ≡ Some i → nth_item i is ≡ Some u → removed_in k (list is) ≡ Ok (list (remove_at i is))
 removed_item k i is u e f = ap (λ o. or_missing (removed_at o is)) e ∙ ap (λ o. or_missing (option_map (λ _. list (remove_at i is)) o)) f

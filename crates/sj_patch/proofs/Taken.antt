@@ -13,7 +13,7 @@ use Rattle.sj_object.specs.Members.{entry_members}
 use Rattle.sj_object.specs.Rooms.{places}
 use Rattle.sj_object.specs.Texts.{no_repeats}
 use Rattle.sj_object.specs.declared.map.kept_room.Room.{Room}
-use Rattle.sj_object.proofs.Shown.{lookup-entry_members, entry_members-cut}
+use Rattle.sj_object.proofs.Shown.{lookup-entry_members, entry_members-cut, length-members}
 use Rattle.sj_document.specs.Document.{document_tree}
 use Rattle.sj_document.specs.declared.value.Document.{Document}
 use Rattle.sj_document.specs.Items.{remove_at}
@@ -23,7 +23,7 @@ use Rattle.sj_patch.specs.inner.Changed.{Does, is_placed, item_back}
 use Rattle.sj_patch.specs.declared.change.Change.TheVariants.{Take}
 use Rattle.sj_patch.specs.declared.reversal.Reversal.TheVariants as reversal
 use Rattle.sj_patch.proofs.Leaves.{removed_item, removed_member}
-use Rattle.sj_patch.proofs.Backs.{so, placed, gone, insert-remove, remove-len, found-within, entries-longer, members-insert, members_len-seen}
+use Rattle.sj_patch.proofs.Backs.{so, placed, gone, insert-remove, remove-len, found-within, entries-longer, members-insert}
 
 module _ {T : Type 0} (t : T → List ℕ) where
   -- an item, where the room takes all
@@ -55,7 +55,7 @@ module _ {T : Type 0} (t : T → List ℕ) where
       let e : Entry T (Document T) = ((l, t l), v) in
       let found : find_member k ms ≡ Some u = sym (lookup-entry_members (document_tree t) k es) ∙ ap (option_map (document_tree t)) (sym answer) in
       let cut_is : rest ≡ cut k ms = ap (entry_members (document_tree t)) entries ∙ entry_members-cut (document_tree t) k es in
-      let size : members_len rest ≡ length fs = members_len-seen (document_tree t) fs in
+      let size : members_len rest ≡ length fs = sym (length-members (document_tree t) fs) in
       let longer : suc (length fs) ≡ length es = sym (entries-longer fs i e) ∙ ap length back in
       let q : is_placed (members_len rest) n i ≡ true = placed _ n i (omega (arith, size, longer, r)) (omega (arith, size, within)) in
       let none = gone (document_tree t) es fs i e back distinct in

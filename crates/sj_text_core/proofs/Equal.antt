@@ -143,7 +143,7 @@ mutual
 pub tree_eq-decides : (t u : Tree) → Decides (tree_eq t u) (Same t u)
 tree_eq-decides t u = (λ e. eq-same t u e, λ h. same-eq t u h)
 
-both_ways : (a b : Bool) → (a ≡ true → b ≡ true) → (b ≡ true → a ≡ true) → a ≡ b
+pub both_ways : (a b : Bool) → (a ≡ true → b ≡ true) → (b ≡ true → a ≡ true) → a ≡ b
 both_ways true b f g = sym (f refl)
 both_ways false true f g = g refl
 both_ways false false f g = refl

@@ -40,6 +40,15 @@ find-cut_other k l (member m t ms) n = by_test (bytes_eq l m) refl (find-cut_oth
   by_test true e h = sym (λ j. if ne_bytes_eq k m (λ q. n (q ∙ sym ((bytes_eq-Decides l m).0 e))) j then Some t else find_member k ms)
   by_test false e h = λ j. if bytes_eq k m then Some t else h j
 
+absent_by : (b : Bool) (k l : List ℕ) (t : Tree) (ms : Members) → (if b then Some t else find_member k ms) ≡ None → (find_member k ms ≡ None → cut k ms ≡ ms) → (if b then ms else member l t (cut k ms)) ≡ member l t ms
+absent_by true k l t ms f ih = cc
+absent_by false k l t ms f ih = ap (member l t) (ih f)
+
+-- without the text nothing is cut
+pub cut-absent : (k : List ℕ) (ms : Members) → find_member k ms ≡ None → cut k ms ≡ ms
+cut-absent k no_members f = refl
+cut-absent k (member l t ms) f = absent_by (bytes_eq k l) k l t ms f (cut-absent k ms)
+
 -- items
 pub last-push : (t : Tree) (is : Items) → last (push t is) ≡ Some t
 last-push t no_items = refl

@@ -1,18 +1,14 @@
 -- What is left where something is taken out of a container, or nothing is there.
-use Rattle.std.proofs.Common.{◌≡◌, ◌<◌, ℕ, Bool, zero, suc, true, false, List, arith, Some, None, Result, Ok, Err, OnErr, option_map, bytes_eq, refl, sym, ap, ◌∙◌, nat_lt}
+use Rattle.std.proofs.Common.{◌≡◌, ◌<◌, ℕ, zero, suc, true, List, arith, Some, None, option_map, refl, sym, ap, ◌∙◌, nat_lt}
 use Rattle.std.specs.Bool.{if◌then◌else◌}
 use Rattle.std.proofs.lemmas.Bool.Decides.{nat_tests}
-use Rattle.sj_text_core.specs.Tree.{Tree, null, boolean, int, text, list, obj, Items, no_items, item, items_len, Members, no_members, member}
-use Rattle.sj_text_core.specs.Find.{find, find_member, nth, nth_item}
-use Rattle.sj_text_core.specs.Edits.{cut}
+use Rattle.sj_text_core.specs.Tree.{Tree, null, boolean, int, text, list, obj, Items, no_items, item, items_len}
+use Rattle.sj_text_core.specs.Find.{find, nth, nth_item}
 use Rattle.sj_text_core.specs.Places.{place_of}
+use Rattle.sj_text_core.proofs.Writes.{cut-absent}
 use Rattle.sj_document.specs.Document.{without_member}
 use Rattle.sj_document.specs.Items.{remove_at, without_item_at}
 use Rattle.sj_uses.specs.Patch.{without_token, remove_placed}
-
-pub on_err : {A E : Type 0} (r : Result A E) (P Q : Type 0) → (P → Q) → OnErr r P → OnErr r Q
-on_err (Ok x) P Q f h = h
-on_err (Err e) P Q f h = f h
 
 found_within : (i : ℕ) (is : Items) (v : Tree) → nth_item i is ≡ Some v → i < items_len is
 found_within i no_items v e = cc
@@ -43,17 +39,10 @@ no_item_taken i (text s) e = refl
 no_item_taken i (obj ms) e = refl
 no_item_taken i (list is) e = ap list (remove_none i is e)
 
-cut_none : (k : List ℕ) (ms : Members) → find_member k ms ≡ None → cut k ms ≡ ms
-cut_none k no_members e = refl
-cut_none k (member l t ms) e = by_test (bytes_eq k l) refl e (cut_none k ms) where
-  by_test : (b : Bool) → bytes_eq k l ≡ b → (if b then Some t else find_member k ms) ≡ None → (find_member k ms ≡ None → cut k ms ≡ ms) → (if bytes_eq k l then ms else member l t (cut k ms)) ≡ member l t ms
-  by_test true q h more = cc
-  by_test false q h more = (λ j. if q j then ms else member l t (cut k ms)) ∙ ap (member l t) (more h)
-
 pub no_member_taken : (k : List ℕ) (t : Tree) → find k t ≡ None → without_member k t ≡ t
 no_member_taken k null e = refl
 no_member_taken k (boolean b) e = refl
 no_member_taken k (int m c) e = refl
 no_member_taken k (text s) e = refl
 no_member_taken k (list is) e = refl
-no_member_taken k (obj ms) e = ap obj (cut_none k ms e)
+no_member_taken k (obj ms) e = ap obj (cut-absent k ms e)

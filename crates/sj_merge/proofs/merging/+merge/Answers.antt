@@ -1,4 +1,5 @@
 use Rattle.std.proofs.Common.{◌≡◌, rules, Box, Global, Some, None, option_map, sym, ap, ◌∙◌, arith}
+use Rattle.std.proofs.lemmas.Result.{on_ok_weaker}
 use Rattle.sj_text_core.specs.Tree.{obj, no_members, depth}
 use Rattle.sj_text_core.specs.Find.{find_member}
 use Rattle.sj_text_core.specs.Edits as members
@@ -9,7 +10,7 @@ use Rattle.sj_document.specs.Document.{document_tree}
 use Rattle.sj_document.specs.declared.value.Document.{Object, the_lemmas}
 use Rattle.sj_document.proofs.Trees.{Map, tree-Object}
 use Rattle.sj_merge.specs.Merge.{merged, merged_members, target_members}
-use Rattle.sj_merge.proofs.Pairs.{ok_map, null_of, no_null, no_members_in, merged_pair-cut, merged_pair-put, merged-none, merged_whole}
+use Rattle.sj_merge.proofs.Pairs.{null_of, no_null, no_members_in, merged_pair-cut, merged_pair-put, merged-none, merged_whole}
 use Rattle.sj_merge.proofs.merging.+merge.Goals as goal
 
 pub merge_value-merge_object-requires : goal.merge_value-merge_object-requires
@@ -27,7 +28,7 @@ merge_value-returns-in-Some g r c =
     let t = g.T.KeyText.text_of in
     let old = document_tree t c.args.target.now in
     let patch = obj_is (document_tree t c.args.patch) (entry_members (document_tree t) c.in-Some.members.entries) c.in-Some.ensures in
-    ok_map c.merge_object.result _ _ (λ h. h ∙ ap (merged (Some old)) (sym patch)) c.merge_object.ensures
+    on_ok_weaker c.merge_object.result (λ h. h ∙ ap (merged (Some old)) (sym patch)) c.merge_object.ensures
 
 pub merge_object-returns-in-Object : goal.merge_object-returns-in-Object
 merge_object-returns-in-Object g r c =
@@ -37,7 +38,7 @@ merge_object-returns-in-Object g r c =
     let b : Box (Map g.row.T.Denot) Global = record c.in-Object.into { value = n } in
     let same : document_tree t c.args.target.now ≡ obj (entry_members (document_tree t) m.entries) =
     (ap (document_tree t) c.in-Object.is ∙ tree-Object t c.in-Object.into) ∙ sym (ap (λ n. obj (entry_members (document_tree t) n.entries)) (c.deref_mut.ensures.value ∙ ap (λ b. b.value) c.in-Object.into-is)) in
-    ok_map c.merge_members-in-Object.result _ _
+    on_ok_weaker c.merge_members-in-Object.result
     (λ h. (ap (document_tree t) (let e : _ ≡ Object b = search (rules, the_lemmas) in e) ∙ tree-Object t b) ∙ ap obj h ∙ ap (λ u. obj (merged_members (target_members (Some u)) (entry_members (document_tree t) c.args.members.entries))) (sym same))
     c.merge_members-in-Object.ensures
 
@@ -66,7 +67,7 @@ merge_member-returns-in-Some g r c =
     let v = document_tree t c.args.value in
     let old = c.in-Some.child.now in
     let found : Some (document_tree t old) ≡ find_member (t c.args.key) ms = ap (option_map (document_tree t)) c.in-Some.ensures.value ∙ lookup-entry_members (document_tree t) k es ∙ ap (λ k. find_member k ms) c.text-2.ensures in
-    ok_map c.merge_value.result _ _
+    on_ok_weaker c.merge_value.result
     (λ h. entry_members-set_value (document_tree t) k c.merge_value.new.target old es (sym c.in-Some.ensures.value) ∙ (λ j. members.put (c.text-2.ensures j) (h j) ms)
     ∙ ap (λ o. members.put (t c.args.key) (merged o v) ms) found ∙ sym (merged_pair-put (t c.args.key) v ms (no_null v (sym c.is_null.ensures ∙ c.if-is_null.false))))
     c.merge_value.ensures

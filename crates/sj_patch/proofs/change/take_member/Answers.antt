@@ -1,9 +1,10 @@
 use Rattle.std.proofs.Common.{option_map, sym, ap, ◌∙◌}
 use Rattle.sj_text_core.specs.Tree.{obj}
+use Rattle.sj_text_core.proofs.Writes.{cut-absent}
 use Rattle.sj_object.specs.Members.{entry_members}
 use Rattle.sj_object.proofs.Shown.{lookup-entry_members, entry_members-cut}
 use Rattle.sj_document.specs.Document.{document_tree}
-use Rattle.sj_patch.proofs.Leaves.{no_member, cut_absent}
+use Rattle.sj_patch.proofs.Leaves.{no_member}
 use Rattle.sj_patch.proofs.Taken.{took_member}
 use Rattle.sj_patch.proofs.change.take_member.Goals as goal
 
@@ -20,4 +21,4 @@ returns-in-None g c =
     let k = c.args.key.now in
     let ms = entry_members (document_tree t) es in
     let missing = sym (lookup-entry_members (document_tree t) k es) ∙ ap (option_map (document_tree t)) (sym c.in-None.ensures.answer) in
-    (ap obj (ap (entry_members (document_tree t)) c.in-None.ensures.entries ∙ entry_members-cut (document_tree t) k es ∙ cut_absent k ms missing), no_member k ms missing)
+    (ap obj (ap (entry_members (document_tree t)) c.in-None.ensures.entries ∙ entry_members-cut (document_tree t) k es ∙ cut-absent k ms missing), no_member k ms missing)

@@ -5,11 +5,11 @@ use Rattle.sj_text_core.specs.Find.{find_member}
 use Rattle.sj_object.specs.Members.{entry_members}
 use Rattle.sj_object.specs.Edits.{lookup}
 use Rattle.sj_object.specs.Rooms.{places}
-use Rattle.sj_object.proofs.Shown.{lookup-entry_members}
+use Rattle.sj_object.proofs.Shown.{lookup-entry_members, length-members}
 use Rattle.sj_document.specs.Document.{document_tree}
 use Rattle.sj_merge.proofs.Changes.{some_map}
 use Rattle.sj_patch.specs.inner.Changed.{is_placed}
-use Rattle.sj_patch.proofs.Backs.{so, not_so, placed-within, members-insert, members_len-seen, and_false}
+use Rattle.sj_patch.proofs.Backs.{so, not_so, placed-within, members-insert, and_false}
 use Rattle.sj_patch.proofs.reversal.restore_member.Goals as goal
 
 pub returns-then-not-has_place : goal.returns-then-not-has_place
@@ -18,7 +18,7 @@ returns-then-not-has_place g c =
     let es = c.args.members.now.entries in
     let ms = entry_members (document_tree t) es in
     let h : c.has_place.result ≡ false = search rules in
-    let q : is_placed (members_len ms) (places c.args.room) c.args.index ≡ false = (λ j. is_placed ((members_len-seen (document_tree t) es ∙ sym c.len.ensures) j) (sym c.places.ensures j) c.args.index) ∙ sym c.has_place.ensures ∙ h in
+    let q : is_placed (members_len ms) (places c.args.room) c.args.index ≡ false = (λ j. is_placed ((sym (length-members (document_tree t) es) ∙ sym c.len.ensures) j) (sym c.places.ensures j) c.args.index) ∙ sym c.has_place.ensures ∙ h in
     (refl, not_so _ _ (ap (λ b. b && not (is_some (find_member (t c.args.key) ms))) q))
 
 pub returns-then-contains_key : goal.returns-then-contains_key
@@ -39,8 +39,8 @@ returns g c =
     let k = t c.args.key in
     let i = c.args.index in
     let h : c.has_place.result ≡ true = search rules in
-    let p : is_placed (members_len ms) (places c.args.room) i ≡ true = (λ j. is_placed ((members_len-seen (document_tree t) es ∙ sym c.len.ensures) j) (sym c.places.ensures j) i) ∙ sym c.has_place.ensures ∙ h in
+    let p : is_placed (members_len ms) (places c.args.room) i ≡ true = (λ j. is_placed ((sym (length-members (document_tree t) es) ∙ sym c.len.ensures) j) (sym c.places.ensures j) i) ∙ sym c.has_place.ensures ∙ h in
     let h2 : c.contains_key.result ≡ false = search rules in
     let n : is_some (find_member k ms) ≡ false = ap is_some (sym (lookup-entry_members (document_tree t) k es)) ∙ some_map (document_tree t) (lookup k es) ∙ ap (λ l. is_some (lookup l es)) (sym c.text.ensures) ∙ sym c.contains_key.ensures ∙ h2 in
-    let among : i ≤ length es = omega (arith, placed-within _ _ i p, members_len-seen (document_tree t) es) in
+    let among : i ≤ length es = omega (arith, placed-within _ _ i p, length-members (document_tree t) es) in
     (so _ _ (λ j. p j && not (n j)) ∙ ap (λ ms. Ok (obj ms)) (sym (ap (entry_members (document_tree t)) c.restore.ensures.entries ∙ members-insert (document_tree t) es i ((c.args.key, k), c.args.value) among)), c.null.ensures)

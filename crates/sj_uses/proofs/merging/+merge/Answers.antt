@@ -1,4 +1,5 @@
 use Rattle.std.proofs.Common.{◌≡◌, option_map, Box, Global, sym, ap, ◌∙◌, rules, arith}
+use Rattle.std.proofs.lemmas.Result.{on_ok_weaker}
 use Rattle.sj_text_core.specs.Tree.{obj, member, depth, members_depth}
 use Rattle.sj_text_core.specs.Edits.{put}
 use Rattle.sj_object.specs.Entries.{entries_of}
@@ -9,7 +10,7 @@ use Rattle.sj_document.specs.declared.value.Document.{Object, the_lemmas}
 use Rattle.sj_document.specs.Taken.{whole}
 use Rattle.sj_document.proofs.Trees.{Map, tree-Object}
 use Rattle.sj_uses.specs.Merge.{merged, merged_members}
-use Rattle.sj_uses.proofs.Covers.{on_ok, over_found, over_absent}
+use Rattle.sj_uses.proofs.Covers.{over_found, over_absent}
 use Rattle.sj_uses.proofs.merging.+merge.Goals as goal
 
 pub merge-merge_members-requires : goal.merge-merge_members-requires
@@ -25,7 +26,7 @@ merge-returns-in-Object-base g r c =
     let up : obj (entry_members (document_tree t) c.into_inner.result.entries) ≡ document_tree t c.args.over =
     ap (λ m. obj (entry_members (document_tree t) m.entries)) c.into_inner.ensures ∙ sym (ap (document_tree t) (c.take_apart.ensures ∙ ap whole c.in-Object.is) ∙ tree-Object t c.in-Object.members) in
     let b : Box (Map g.row.T.Denot) Global = record c.in-Object-base.into { value = c.merge_members.new.into } in
-    on_ok c.merge_members.result _ _
+    on_ok_weaker c.merge_members.result
     (λ e. ap (document_tree t) (let e : _ ≡ Object b = search (rules, the_lemmas) in e) ∙ tree-Object t b ∙ ap obj e ∙ (λ j. merged (low j) (up j)))
     c.merge_members.ensures
 

@@ -55,9 +55,10 @@ use Rattle.sj_borrowed.proofs.Destruct++none.drop.Code as lets_go_code
 use Rattle.sj_object.specs.contracts.key.KeyText.TheBound as key-bound
 use Rattle.std.specs.contracts.cmp.Eq.TheBound as total-bound
 use Rattle.std.specs.contracts.cmp.PartialEq.TheBound as equal-bound
+use Rattle.std.proofs.lemmas.Result.{on_err_weaker}
 use Rattle.sj_borrowed.proofs.Lives.{Ends, begins}
 use Rattle.sj_document.proofs.Loans.{fits_as, lent_none, none_there}
-use Rattle.sj_document.proofs.Results.{typed_one, on_err, lent_so, result_out, result_lawful}
+use Rattle.sj_document.proofs.Results.{typed_one, lent_so, result_out, result_lawful}
 use Rattle.sj_document.proofs.Trees.{Map}
 use Rattle.sj_document.proofs.Lent.{no_members_found}
 use Rattle.sj_borrowed.proofs.Objects.{is_object, not_found}
@@ -200,7 +201,7 @@ lookup_or_insert_mut_spec {M} 𝓤 𝓛 𝓜 𝓡 wired F LF g-F gd Fd P met-F g
           let Copied = IsCopy a.1.0.now in let Gives = λ (v : Document (CowStr Global)). g-F.post with tt v in
           -- [what the last call says; its tokens; what q owns; the three other tokens; what the first call says]
           move ! (4 ∷ 0 ∷ []) $ use2 𝓛 (‵ (Then q)) (lent_so 𝓛 D O D a.0.ghost_name γ _ _ (name_if_ok (λ x. x.ghost_name) q) (λ w n. IsOk q → (i : ℕ) × (place ≡ Ok i) × (n ≡ with_value_at after' i w)) (λ n. OnErr q (n ≡ after')) (λ w n. IsOk q → document_tree t n ≡ with_member key (document_tree t w) u) (λ n. OnErr q (document_tree t n ≡ u))
-          (λ w n' n put' lent' ok. lent' refl ∙ written t Copied Gives key m.now after' place q u at placed found made w n' (put' ok)) (λ n' n stays lent'. on_err q (λ same'. lent' refl ∙ same') (unwritten t Copied Gives key m.now after' place q u at kept fault-q n' stays))) $
+          (λ w n' n put' lent' ok. lent' refl ∙ written t Copied Gives key m.now after' place q u at placed found made w n' (put' ok)) (λ n' n stays lent'. on_err_weaker q (λ same'. lent' refl ∙ same') (unwritten t Copied Gives key m.now after' place q u at kept fault-q n' stays))) $
           move ! (2 ∷ []) $ peeks ! Answer _ (shows 𝓛 Answer) q (v'' ∷ []) (λ is-q. let fits-q = ((result_lawful 𝓛 (MutRef (named 0) κs.0 D) E (mut_Lawful 𝓛 (named 0) κs.0 D) LE).typed q (v'' ∷ []) is-q).0 in
           lands_last ! refl fits-q $ exec ! 𝓣.C 𝓣.Λ (env fn.locals l) (after 3 fn.body) (at_ret _ (W.post y)) $
           sets ! (of_opd ! (get ! refl)) refl fits-q $ returns ! (look_at ! 0 refl) $ free_all ! refl $

@@ -6,9 +6,10 @@ use Rattle.sj_text_core.specs.Tree.{members_len}
 use Rattle.sj_document.specs.Document.{document_tree}
 use Rattle.sj_document.proofs.FoundTexts.{names_apart, keys_from_len, len_from_keys}
 use Rattle.sj_lazy.specs.Object.{lazy_members, lazy_object_choice}
-use Rattle.sj_lazy.proofs.Lists.{length-members, texts-members}
+use Rattle.sj_lazy.proofs.Lists.{texts-members}
 use Rattle.sj_text_core.specs.Tree.{paired}
 use Rattle.sj_text_core.specs.Agree.{pair_keys}
+use Rattle.sj_object.proofs.Shown.{length-members}
 use Rattle.sj_lazy.specs.SameMap.{counted}
 use Rattle.sj_lazy.proofs.Mapped.{keys_len, there}
 use Rattle.sj_lazy.proofs.value.cmp.map.has_keys.Goals as goal
