@@ -2,6 +2,7 @@ pub mod Loans
 pub mod Inserts
 pub use Rattle.sj_text_core.specs.Tree
 pub use Rattle.sj_text_core.specs.Grammar
+pub use Rattle.sj_text_core.specs.Readings
 pub use Rattle.sj_text_core.specs.Find
 pub use Rattle.sj_text_core.specs.Keep
 pub use Rattle.sj_text_core.specs.Repeats

@@ -2,9 +2,9 @@
 
 ghost use Rattle.std.specs.Prelude.{◌≡◌, ◌≢◌, ◌⊎◌, true, IfOk, IfErr, IsErrOf, IsUtf8};
 ghost use Rattle.std.specs.Cow.{cow_str_bytes};
-ghost use Rattle.sj_text_core.specs.Tree.{Tree, IsWithin};
-ghost use Rattle.sj_text_core.specs.Grammar.{Spells, IsReadable};
+ghost use Rattle.sj_text_core.specs.Grammar.{IsReadable};
 ghost use Rattle.sj_text_core.specs.Keep.{keep};
+ghost use Rattle.sj_text_core.specs.Readings.{IsReadAs, IsOnlyReadAs, IsReadFault};
 ghost use Rattle.sj_object.specs.Keys.{is_borrowed};
 ghost use Rattle.sj_document.specs.Document.{document_tree, all_texts};
 
@@ -20,12 +20,12 @@ pub fn from_slice<'v>(
     bytes: &[u8],
     room: &'v mut Vec<u8>,
 ) -> Result<Value<'v>, ErrorKind>
-    ensures means { IfOk result (λ v. (t : Tree) × Spells bytes.now t × IsWithin t × (document_tree cow_str_bytes v ≡ keep t)) }
-    ensures only { IfOk result (λ v. (u : Tree) → Spells bytes.now u → document_tree cow_str_bytes v ≡ keep u) }
+    ensures means { IfOk result (λ v. IsReadAs keep bytes.now (document_tree cow_str_bytes v)) }
+    ensures only { IfOk result (λ v. IsOnlyReadAs keep bytes.now (document_tree cow_str_bytes v)) }
     ensures lent { IfOk result (λ v. all_texts is_borrowed v ≡ true) }
     ensures utf8 { IsErrOf result ErrorKind.InvalidUtf8 → ¬ (IsUtf8 bytes.now) }
     ensures broken { ¬ (IsUtf8 bytes.now) → IsErrOf result ErrorKind.InvalidUtf8 ⊎ IsErrOf result ErrorKind.OutOfMemory }
-    ensures err { IfErr result (λ e. e ≢ ErrorKind.InvalidUtf8 → e ≢ ErrorKind.OutOfMemory → ¬ (IsReadable bytes.now)) }
+    ensures err { IfErr result (IsReadFault bytes.now) }
 {
     room.clear();
     room.extend_from_slice(bytes)?;
@@ -39,8 +39,8 @@ pub fn from_str<'v>(
     text: &str,
     room: &'v mut Vec<u8>,
 ) -> Result<Value<'v>, ErrorKind>
-    ensures means { IfOk result (λ v. (t : Tree) × Spells text.now t × IsWithin t × (document_tree cow_str_bytes v ≡ keep t)) }
-    ensures only { IfOk result (λ v. (u : Tree) → Spells text.now u → document_tree cow_str_bytes v ≡ keep u) }
+    ensures means { IfOk result (λ v. IsReadAs keep text.now (document_tree cow_str_bytes v)) }
+    ensures only { IfOk result (λ v. IsOnlyReadAs keep text.now (document_tree cow_str_bytes v)) }
     ensures lent { IfOk result (λ v. all_texts is_borrowed v ≡ true) }
     ensures err { IfErr result (λ e. e ≢ ErrorKind.OutOfMemory → ¬ (IsReadable text.now)) }
 {

@@ -1,10 +1,9 @@
 //! Texts read as borrowed documents.
 
-ghost use Rattle.std.specs.Prelude.{◌≡◌, ◌≢◌, ◌↔◌, true, IfOk, IfErr, IsErrOf, IsUtf8};
+ghost use Rattle.std.specs.Prelude.{◌≡◌, ◌↔◌, true, IfOk, IfErr, IsErrOf, IsUtf8};
 ghost use Rattle.std.specs.Cow.{cow_str_bytes};
-ghost use Rattle.sj_text_core.specs.Tree.{Tree, IsWithin};
-ghost use Rattle.sj_text_core.specs.Grammar.{Spells, IsReadable};
 ghost use Rattle.sj_text_core.specs.Keep.{keep};
+ghost use Rattle.sj_text_core.specs.Readings.{IsReadAs, IsOnlyReadAs, IsReadFault};
 ghost use Rattle.sj_text_core.specs.Repeats.{keep_by};
 ghost use Rattle.sj_object.specs.Keys.{is_borrowed};
 ghost use Rattle.sj_document.specs.Document.{document_tree, all_texts};
@@ -22,13 +21,13 @@ use std::borrow::CowStr;
 /// said of the bytes.
 pub fn to_value<'v>(alloc: Global, bytes: &'v mut [u8]) -> Result<Value<'v>, ErrorKind>
     // What is read is spelled so, within the limit, and nothing else is.
-    ensures means { IfOk result (λ v. (t : Tree) × Spells bytes.old t × IsWithin t × (document_tree cow_str_bytes v ≡ keep t)) }
-    ensures only { IfOk result (λ v. (u : Tree) → Spells bytes.old u → document_tree cow_str_bytes v ≡ keep u) }
+    ensures means { IfOk result (λ v. IsReadAs keep bytes.old (document_tree cow_str_bytes v)) }
+    ensures only { IfOk result (λ v. IsOnlyReadAs keep bytes.old (document_tree cow_str_bytes v)) }
     // Every text and key is lent.
     ensures lent { IfOk result (λ v. all_texts is_borrowed v ≡ true) }
     // The bytes are no UTF-8.
     ensures utf8 { IsErrOf result ErrorKind.InvalidUtf8 ↔ ¬ (IsUtf8 bytes.old) }
-    ensures err { IfErr result (λ e. e ≢ ErrorKind.InvalidUtf8 → e ≢ ErrorKind.OutOfMemory → ¬ (IsReadable bytes.old)) }
+    ensures err { IfErr result (IsReadFault bytes.old) }
 {
     deserialize::<Value<'v>, CowStr<'v>>(alloc, bytes)
 }
@@ -41,13 +40,13 @@ pub fn to_value_with_buffers<'v>(
     buffers: &mut Buffers,
 ) -> Result<Value<'v>, ErrorKind>
     // What is read is spelled so, within the limit, and nothing else is.
-    ensures means { IfOk result (λ v. (t : Tree) × Spells bytes.old t × IsWithin t × (document_tree cow_str_bytes v ≡ keep t)) }
-    ensures only { IfOk result (λ v. (u : Tree) → Spells bytes.old u → document_tree cow_str_bytes v ≡ keep u) }
+    ensures means { IfOk result (λ v. IsReadAs keep bytes.old (document_tree cow_str_bytes v)) }
+    ensures only { IfOk result (λ v. IsOnlyReadAs keep bytes.old (document_tree cow_str_bytes v)) }
     // Every text and key is lent.
     ensures lent { IfOk result (λ v. all_texts is_borrowed v ≡ true) }
     // The bytes are no UTF-8.
     ensures utf8 { IsErrOf result ErrorKind.InvalidUtf8 ↔ ¬ (IsUtf8 bytes.old) }
-    ensures err { IfErr result (λ e. e ≢ ErrorKind.InvalidUtf8 → e ≢ ErrorKind.OutOfMemory → ¬ (IsReadable bytes.old)) }
+    ensures err { IfErr result (IsReadFault bytes.old) }
 {
     deserialize_with_buffers::<Value<'v>, CowStr<'v>>(alloc, bytes, buffers)
 }
@@ -59,13 +58,13 @@ pub fn to_value_repeats<'v>(
     repeats: Repeats,
 ) -> Result<Value<'v>, ErrorKind>
     // What is read is spelled so, within the limit, and nothing else is.
-    ensures means { IfOk result (λ v. (t : Tree) × Spells bytes.old t × IsWithin t × (document_tree cow_str_bytes v ≡ keep_by repeats t)) }
-    ensures only { IfOk result (λ v. (u : Tree) → Spells bytes.old u → document_tree cow_str_bytes v ≡ keep_by repeats u) }
+    ensures means { IfOk result (λ v. IsReadAs (keep_by repeats) bytes.old (document_tree cow_str_bytes v)) }
+    ensures only { IfOk result (λ v. IsOnlyReadAs (keep_by repeats) bytes.old (document_tree cow_str_bytes v)) }
     // Every text and key is lent.
     ensures lent { IfOk result (λ v. all_texts is_borrowed v ≡ true) }
     // The bytes are no UTF-8.
     ensures utf8 { IsErrOf result ErrorKind.InvalidUtf8 ↔ ¬ (IsUtf8 bytes.old) }
-    ensures err { IfErr result (λ e. e ≢ ErrorKind.InvalidUtf8 → e ≢ ErrorKind.OutOfMemory → ¬ (IsReadable bytes.old)) }
+    ensures err { IfErr result (IsReadFault bytes.old) }
 {
     deserialize_repeats::<Value<'v>, CowStr<'v>>(alloc, bytes, repeats)
 }
@@ -73,13 +72,13 @@ pub fn to_value_repeats<'v>(
 /// The same as `to_value`.
 pub fn to_borrowed_value<'v>(alloc: Global, bytes: &'v mut [u8]) -> Result<Value<'v>, ErrorKind>
     // What is read is spelled so, within the limit, and nothing else is.
-    ensures means { IfOk result (λ v. (t : Tree) × Spells bytes.old t × IsWithin t × (document_tree cow_str_bytes v ≡ keep t)) }
-    ensures only { IfOk result (λ v. (u : Tree) → Spells bytes.old u → document_tree cow_str_bytes v ≡ keep u) }
+    ensures means { IfOk result (λ v. IsReadAs keep bytes.old (document_tree cow_str_bytes v)) }
+    ensures only { IfOk result (λ v. IsOnlyReadAs keep bytes.old (document_tree cow_str_bytes v)) }
     // Every text and key is lent.
     ensures lent { IfOk result (λ v. all_texts is_borrowed v ≡ true) }
     // The bytes are no UTF-8.
     ensures utf8 { IsErrOf result ErrorKind.InvalidUtf8 ↔ ¬ (IsUtf8 bytes.old) }
-    ensures err { IfErr result (λ e. e ≢ ErrorKind.InvalidUtf8 → e ≢ ErrorKind.OutOfMemory → ¬ (IsReadable bytes.old)) }
+    ensures err { IfErr result (IsReadFault bytes.old) }
 {
     to_value(alloc, bytes)
 }
@@ -91,13 +90,13 @@ pub fn to_borrowed_value_with_buffers<'v>(
     buffers: &mut Buffers,
 ) -> Result<Value<'v>, ErrorKind>
     // What is read is spelled so, within the limit, and nothing else is.
-    ensures means { IfOk result (λ v. (t : Tree) × Spells bytes.old t × IsWithin t × (document_tree cow_str_bytes v ≡ keep t)) }
-    ensures only { IfOk result (λ v. (u : Tree) → Spells bytes.old u → document_tree cow_str_bytes v ≡ keep u) }
+    ensures means { IfOk result (λ v. IsReadAs keep bytes.old (document_tree cow_str_bytes v)) }
+    ensures only { IfOk result (λ v. IsOnlyReadAs keep bytes.old (document_tree cow_str_bytes v)) }
     // Every text and key is lent.
     ensures lent { IfOk result (λ v. all_texts is_borrowed v ≡ true) }
     // The bytes are no UTF-8.
     ensures utf8 { IsErrOf result ErrorKind.InvalidUtf8 ↔ ¬ (IsUtf8 bytes.old) }
-    ensures err { IfErr result (λ e. e ≢ ErrorKind.InvalidUtf8 → e ≢ ErrorKind.OutOfMemory → ¬ (IsReadable bytes.old)) }
+    ensures err { IfErr result (IsReadFault bytes.old) }
 {
     to_value_with_buffers(alloc, bytes, buffers)
 }

@@ -1,9 +1,8 @@
 //! Texts read as documents.
 
-ghost use Rattle.std.specs.Prelude.{◌≡◌, ◌≢◌, ◌↔◌, IfOk, IfErr, IsErrOf, IsUtf8};
-ghost use Rattle.sj_text_core.specs.Tree.{Tree, IsWithin};
-ghost use Rattle.sj_text_core.specs.Grammar.{Spells, IsReadable};
+ghost use Rattle.std.specs.Prelude.{◌↔◌, IfOk, IfErr, IsErrOf, IsUtf8};
 ghost use Rattle.sj_text_core.specs.Keep.{keep};
+ghost use Rattle.sj_text_core.specs.Readings.{IsReadAs, IsOnlyReadAs, IsReadFault};
 ghost use Rattle.sj_text_core.specs.Repeats.{keep_by};
 
 use crate::build::build_from_tape;
@@ -22,12 +21,12 @@ pub fn deserialize<'de, V: Builder<'de, Key>, Key: KeyOf<'de>>(
     bytes: &'de mut [u8],
 ) -> Result<V, ErrorKind>
     // What is read is spelled so, within the limit, and nothing else is.
-    ensures means { IfOk result (λ v. (t : Tree) × Spells bytes.old t × IsWithin t × (V.tree v ≡ keep t)) }
-    ensures only { IfOk result (λ v. (u : Tree) → Spells bytes.old u → V.tree v ≡ keep u) }
+    ensures means { IfOk result (λ v. IsReadAs keep bytes.old (V.tree v)) }
+    ensures only { IfOk result (λ v. IsOnlyReadAs keep bytes.old (V.tree v)) }
     ensures property { IfOk result V.built }
     // The bytes are no UTF-8.
     ensures utf8 { IsErrOf result ErrorKind.InvalidUtf8 ↔ ¬ (IsUtf8 bytes.old) }
-    ensures err { IfErr result (λ e. e ≢ ErrorKind.InvalidUtf8 → e ≢ ErrorKind.OutOfMemory → ¬ (IsReadable bytes.old)) }
+    ensures err { IfErr result (IsReadFault bytes.old) }
 {
     deserialize_repeats::<V, Key>(alloc, bytes, Repeats::First)
 }
@@ -39,12 +38,12 @@ pub fn deserialize_repeats<'de, V: Builder<'de, Key>, Key: KeyOf<'de>>(
     repeats: Repeats,
 ) -> Result<V, ErrorKind>
     // What is read is spelled so, within the limit, and nothing else is.
-    ensures means { IfOk result (λ v. (t : Tree) × Spells bytes.old t × IsWithin t × (V.tree v ≡ keep_by repeats t)) }
-    ensures only { IfOk result (λ v. (u : Tree) → Spells bytes.old u → V.tree v ≡ keep_by repeats u) }
+    ensures means { IfOk result (λ v. IsReadAs (keep_by repeats) bytes.old (V.tree v)) }
+    ensures only { IfOk result (λ v. IsOnlyReadAs (keep_by repeats) bytes.old (V.tree v)) }
     ensures property { IfOk result V.built }
     // The bytes are no UTF-8.
     ensures utf8 { IsErrOf result ErrorKind.InvalidUtf8 ↔ ¬ (IsUtf8 bytes.old) }
-    ensures err { IfErr result (λ e. e ≢ ErrorKind.InvalidUtf8 → e ≢ ErrorKind.OutOfMemory → ¬ (IsReadable bytes.old)) }
+    ensures err { IfErr result (IsReadFault bytes.old) }
 {
     let tape = to_bare_tape(alloc, bytes)?;
     match build_from_tape::<V, Key>(alloc, tape.as_value_repeats(repeats)) {
@@ -61,12 +60,12 @@ pub fn deserialize_with_buffers<'de, V: Builder<'de, Key>, Key: KeyOf<'de>>(
     buffers: &mut Buffers,
 ) -> Result<V, ErrorKind>
     // What is read is spelled so, within the limit, and nothing else is.
-    ensures means { IfOk result (λ v. (t : Tree) × Spells bytes.old t × IsWithin t × (V.tree v ≡ keep t)) }
-    ensures only { IfOk result (λ v. (u : Tree) → Spells bytes.old u → V.tree v ≡ keep u) }
+    ensures means { IfOk result (λ v. IsReadAs keep bytes.old (V.tree v)) }
+    ensures only { IfOk result (λ v. IsOnlyReadAs keep bytes.old (V.tree v)) }
     ensures property { IfOk result V.built }
     // The bytes are no UTF-8.
     ensures utf8 { IsErrOf result ErrorKind.InvalidUtf8 ↔ ¬ (IsUtf8 bytes.old) }
-    ensures err { IfErr result (λ e. e ≢ ErrorKind.InvalidUtf8 → e ≢ ErrorKind.OutOfMemory → ¬ (IsReadable bytes.old)) }
+    ensures err { IfErr result (IsReadFault bytes.old) }
 {
     let tape = to_bare_tape_with_buffers(alloc, bytes, buffers)?;
     match build_from_tape::<V, Key>(alloc, tape.as_value()) {

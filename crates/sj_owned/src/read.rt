@@ -1,9 +1,8 @@
 //! Texts read as owned documents.
 
-ghost use Rattle.std.specs.Prelude.{◌≡◌, ◌≢◌, ◌↔◌, IfOk, IfErr, IsErrOf, IsUtf8, string_bytes};
-ghost use Rattle.sj_text_core.specs.Tree.{Tree, IsWithin};
-ghost use Rattle.sj_text_core.specs.Grammar.{Spells, IsReadable};
+ghost use Rattle.std.specs.Prelude.{◌↔◌, IfOk, IfErr, IsErrOf, IsUtf8, string_bytes};
 ghost use Rattle.sj_text_core.specs.Keep.{keep};
+ghost use Rattle.sj_text_core.specs.Readings.{IsReadAs, IsOnlyReadAs, IsReadFault};
 ghost use Rattle.sj_text_core.specs.Repeats.{keep_by};
 ghost use Rattle.sj_document.specs.Document.{document_tree};
 
@@ -19,11 +18,11 @@ use std::alloc::Global;
 /// the bytes.
 pub fn to_value(alloc: Global, bytes: &mut [u8]) -> Result<Value, ErrorKind>
     // What is read is spelled so, within the limit, and nothing else is.
-    ensures means { IfOk result (λ v. (t : Tree) × Spells bytes.old t × IsWithin t × (document_tree string_bytes v ≡ keep t)) }
-    ensures only { IfOk result (λ v. (u : Tree) → Spells bytes.old u → document_tree string_bytes v ≡ keep u) }
+    ensures means { IfOk result (λ v. IsReadAs keep bytes.old (document_tree string_bytes v)) }
+    ensures only { IfOk result (λ v. IsOnlyReadAs keep bytes.old (document_tree string_bytes v)) }
     // The bytes are no UTF-8.
     ensures utf8 { IsErrOf result ErrorKind.InvalidUtf8 ↔ ¬ (IsUtf8 bytes.old) }
-    ensures err { IfErr result (λ e. e ≢ ErrorKind.InvalidUtf8 → e ≢ ErrorKind.OutOfMemory → ¬ (IsReadable bytes.old)) }
+    ensures err { IfErr result (IsReadFault bytes.old) }
 {
     deserialize::<Value, String>(alloc, bytes)
 }
@@ -36,11 +35,11 @@ pub fn to_value_with_buffers(
     buffers: &mut Buffers,
 ) -> Result<Value, ErrorKind>
     // What is read is spelled so, within the limit, and nothing else is.
-    ensures means { IfOk result (λ v. (t : Tree) × Spells bytes.old t × IsWithin t × (document_tree string_bytes v ≡ keep t)) }
-    ensures only { IfOk result (λ v. (u : Tree) → Spells bytes.old u → document_tree string_bytes v ≡ keep u) }
+    ensures means { IfOk result (λ v. IsReadAs keep bytes.old (document_tree string_bytes v)) }
+    ensures only { IfOk result (λ v. IsOnlyReadAs keep bytes.old (document_tree string_bytes v)) }
     // The bytes are no UTF-8.
     ensures utf8 { IsErrOf result ErrorKind.InvalidUtf8 ↔ ¬ (IsUtf8 bytes.old) }
-    ensures err { IfErr result (λ e. e ≢ ErrorKind.InvalidUtf8 → e ≢ ErrorKind.OutOfMemory → ¬ (IsReadable bytes.old)) }
+    ensures err { IfErr result (IsReadFault bytes.old) }
 {
     deserialize_with_buffers::<Value, String>(alloc, bytes, buffers)
 }
@@ -52,11 +51,11 @@ pub fn to_value_repeats(
     repeats: Repeats,
 ) -> Result<Value, ErrorKind>
     // What is read is spelled so, within the limit, and nothing else is.
-    ensures means { IfOk result (λ v. (t : Tree) × Spells bytes.old t × IsWithin t × (document_tree string_bytes v ≡ keep_by repeats t)) }
-    ensures only { IfOk result (λ v. (u : Tree) → Spells bytes.old u → document_tree string_bytes v ≡ keep_by repeats u) }
+    ensures means { IfOk result (λ v. IsReadAs (keep_by repeats) bytes.old (document_tree string_bytes v)) }
+    ensures only { IfOk result (λ v. IsOnlyReadAs (keep_by repeats) bytes.old (document_tree string_bytes v)) }
     // The bytes are no UTF-8.
     ensures utf8 { IsErrOf result ErrorKind.InvalidUtf8 ↔ ¬ (IsUtf8 bytes.old) }
-    ensures err { IfErr result (λ e. e ≢ ErrorKind.InvalidUtf8 → e ≢ ErrorKind.OutOfMemory → ¬ (IsReadable bytes.old)) }
+    ensures err { IfErr result (IsReadFault bytes.old) }
 {
     deserialize_repeats::<Value, String>(alloc, bytes, repeats)
 }
@@ -64,11 +63,11 @@ pub fn to_value_repeats(
 /// The same as `to_value`.
 pub fn to_owned_value(alloc: Global, bytes: &mut [u8]) -> Result<Value, ErrorKind>
     // What is read is spelled so, within the limit, and nothing else is.
-    ensures means { IfOk result (λ v. (t : Tree) × Spells bytes.old t × IsWithin t × (document_tree string_bytes v ≡ keep t)) }
-    ensures only { IfOk result (λ v. (u : Tree) → Spells bytes.old u → document_tree string_bytes v ≡ keep u) }
+    ensures means { IfOk result (λ v. IsReadAs keep bytes.old (document_tree string_bytes v)) }
+    ensures only { IfOk result (λ v. IsOnlyReadAs keep bytes.old (document_tree string_bytes v)) }
     // The bytes are no UTF-8.
     ensures utf8 { IsErrOf result ErrorKind.InvalidUtf8 ↔ ¬ (IsUtf8 bytes.old) }
-    ensures err { IfErr result (λ e. e ≢ ErrorKind.InvalidUtf8 → e ≢ ErrorKind.OutOfMemory → ¬ (IsReadable bytes.old)) }
+    ensures err { IfErr result (IsReadFault bytes.old) }
 {
     to_value(alloc, bytes)
 }
@@ -80,11 +79,11 @@ pub fn to_owned_value_with_buffers(
     buffers: &mut Buffers,
 ) -> Result<Value, ErrorKind>
     // What is read is spelled so, within the limit, and nothing else is.
-    ensures means { IfOk result (λ v. (t : Tree) × Spells bytes.old t × IsWithin t × (document_tree string_bytes v ≡ keep t)) }
-    ensures only { IfOk result (λ v. (u : Tree) → Spells bytes.old u → document_tree string_bytes v ≡ keep u) }
+    ensures means { IfOk result (λ v. IsReadAs keep bytes.old (document_tree string_bytes v)) }
+    ensures only { IfOk result (λ v. IsOnlyReadAs keep bytes.old (document_tree string_bytes v)) }
     // The bytes are no UTF-8.
     ensures utf8 { IsErrOf result ErrorKind.InvalidUtf8 ↔ ¬ (IsUtf8 bytes.old) }
-    ensures err { IfErr result (λ e. e ≢ ErrorKind.InvalidUtf8 → e ≢ ErrorKind.OutOfMemory → ¬ (IsReadable bytes.old)) }
+    ensures err { IfErr result (IsReadFault bytes.old) }
 {
     to_value_with_buffers(alloc, bytes, buffers)
 }

@@ -8,3 +8,4 @@ pub mod inner
 pub use Rattle.sj_lines.specs.Lines
 pub use Rattle.sj_text_core.specs.Tree
 pub use Rattle.sj_text_core.specs.Grammar
+pub use Rattle.sj_text_core.specs.Readings as TextReadings

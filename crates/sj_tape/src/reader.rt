@@ -13,12 +13,13 @@ mod structure;
 mod text;
 mod value;
 
-ghost use Rattle.std.specs.Prelude.{◌≡◌, ◌≢◌, ◌↔◌, length, max, IfOk, IfErr, OnErr, IsErrOf, IsUtf8};
+ghost use Rattle.std.specs.Prelude.{◌≡◌, ◌↔◌, length, max, IfOk, IfErr, OnErr, IsErrOf, IsUtf8};
 ghost use Rattle.sj_text_core.specs.Nodes.{flat, tree_of, IsPreorder};
-ghost use Rattle.sj_text_core.specs.Tree.{Tree, IsWithin};
+ghost use Rattle.sj_text_core.specs.Tree.{IsWithin};
 ghost use Rattle.sj_tape.specs.Marks.{packed_marks};
 ghost use Rattle.sj_tape.specs.Room.{room as room_of};
-ghost use Rattle.sj_text_core.specs.Grammar.{Spells, IsReadable};
+ghost use Rattle.sj_text_core.specs.Grammar.{Spells};
+ghost use Rattle.sj_text_core.specs.Readings.{SpellsOnly, IsReadFault};
 
 use crate::packed::Packed;
 pub use crate::reader::buffers::Buffers;
@@ -44,10 +45,10 @@ pub fn to_tape<'i>(alloc: Global, bytes: &'i mut [u8]) -> Result<Tape<'i>, Error
     // What is read is spelled so, within the limit, and nothing else is.
     ensures spelled { IfOk result (λ t. Spells bytes.old t) }
     ensures within { IfOk result (λ t. IsWithin t) }
-    ensures only { IfOk result (λ t. (u : Tree) → Spells bytes.old u → u ≡ t) }
+    ensures only { IfOk result (SpellsOnly bytes.old) }
     // The bytes are no UTF-8.
     ensures utf8 { IsErrOf result ErrorKind.InvalidUtf8 ↔ ¬ (IsUtf8 bytes.old) }
-    ensures err { IfErr result (λ e. e ≢ ErrorKind.InvalidUtf8 → e ≢ ErrorKind.OutOfMemory → ¬ (IsReadable bytes.old)) }
+    ensures err { IfErr result (IsReadFault bytes.old) }
 {
     read(alloc, bytes, &mut 0, Purpose::LookUps)
 }
@@ -58,10 +59,10 @@ pub fn to_bare_tape<'i>(alloc: Global, bytes: &'i mut [u8]) -> Result<Tape<'i>, 
     // What is read is spelled so, within the limit, and nothing else is.
     ensures spelled { IfOk result (λ t. Spells bytes.old t) }
     ensures within { IfOk result (λ t. IsWithin t) }
-    ensures only { IfOk result (λ t. (u : Tree) → Spells bytes.old u → u ≡ t) }
+    ensures only { IfOk result (SpellsOnly bytes.old) }
     // The bytes are no UTF-8.
     ensures utf8 { IsErrOf result ErrorKind.InvalidUtf8 ↔ ¬ (IsUtf8 bytes.old) }
-    ensures err { IfErr result (λ e. e ≢ ErrorKind.InvalidUtf8 → e ≢ ErrorKind.OutOfMemory → ¬ (IsReadable bytes.old)) }
+    ensures err { IfErr result (IsReadFault bytes.old) }
 {
     read(alloc, bytes, &mut 0, Purpose::Passes)
 }
@@ -76,10 +77,10 @@ pub fn to_tape_with_buffers<'i>(
     // What is read is spelled so, within the limit, and nothing else is.
     ensures spelled { IfOk result (λ t. Spells bytes.old t) }
     ensures within { IfOk result (λ t. IsWithin t) }
-    ensures only { IfOk result (λ t. (u : Tree) → Spells bytes.old u → u ≡ t) }
+    ensures only { IfOk result (SpellsOnly bytes.old) }
     // The bytes are no UTF-8.
     ensures utf8 { IsErrOf result ErrorKind.InvalidUtf8 ↔ ¬ (IsUtf8 bytes.old) }
-    ensures err { IfErr result (λ e. e ≢ ErrorKind.InvalidUtf8 → e ≢ ErrorKind.OutOfMemory → ¬ (IsReadable bytes.old)) }
+    ensures err { IfErr result (IsReadFault bytes.old) }
     // The buffers have room for the nodes of the largest text that was read.
     ensures room { IfOk result (λ t. room_of buffers.new ≡ max (length (flat t)) (room_of buffers.old)) }
     ensures kept { OnErr result (room_of buffers.new ≡ room_of buffers.old) }
@@ -96,10 +97,10 @@ pub fn to_bare_tape_with_buffers<'i>(
     // What is read is spelled so, within the limit, and nothing else is.
     ensures spelled { IfOk result (λ t. Spells bytes.old t) }
     ensures within { IfOk result (λ t. IsWithin t) }
-    ensures only { IfOk result (λ t. (u : Tree) → Spells bytes.old u → u ≡ t) }
+    ensures only { IfOk result (SpellsOnly bytes.old) }
     // The bytes are no UTF-8.
     ensures utf8 { IsErrOf result ErrorKind.InvalidUtf8 ↔ ¬ (IsUtf8 bytes.old) }
-    ensures err { IfErr result (λ e. e ≢ ErrorKind.InvalidUtf8 → e ≢ ErrorKind.OutOfMemory → ¬ (IsReadable bytes.old)) }
+    ensures err { IfErr result (IsReadFault bytes.old) }
     // The buffers have room for the nodes of the largest text that was read.
     ensures room { IfOk result (λ t. room_of buffers.new ≡ max (length (flat t)) (room_of buffers.old)) }
     ensures kept { OnErr result (room_of buffers.new ≡ room_of buffers.old) }
@@ -116,10 +117,10 @@ pub fn to_tape_with_spare<'i>(
     // What is read is spelled so, within the limit, and nothing else is.
     ensures spelled { IfOk result (λ t. Spells bytes.old t) }
     ensures within { IfOk result (λ t. IsWithin t) }
-    ensures only { IfOk result (λ t. (u : Tree) → Spells bytes.old u → u ≡ t) }
+    ensures only { IfOk result (SpellsOnly bytes.old) }
     // The bytes are no UTF-8.
     ensures utf8 { IfErr result (λ r. r.why ≡ ErrorKind.InvalidUtf8 ↔ ¬ (IsUtf8 bytes.old)) }
-    ensures err { IfErr result (λ r. r.why ≢ ErrorKind.InvalidUtf8 → r.why ≢ ErrorKind.OutOfMemory → ¬ (IsReadable bytes.old)) }
+    ensures err { IfErr result (λ r. IsReadFault bytes.old r.why) }
 {
     let mut nodes = spare.nodes;
     nodes.clear();
@@ -166,10 +167,10 @@ fn read<'i>(
     // What is read is spelled so, within the limit, and nothing else is.
     ensures spelled { IfOk result (λ t. Spells bytes.old t) }
     ensures within { IfOk result (λ t. IsWithin t) }
-    ensures only { IfOk result (λ t. (u : Tree) → Spells bytes.old u → u ≡ t) }
+    ensures only { IfOk result (SpellsOnly bytes.old) }
     // The bytes are no UTF-8.
     ensures utf8 { IsErrOf result ErrorKind.InvalidUtf8 ↔ ¬ (IsUtf8 bytes.old) }
-    ensures err { IfErr result (λ e. e ≢ ErrorKind.InvalidUtf8 → e ≢ ErrorKind.OutOfMemory → ¬ (IsReadable bytes.old)) }
+    ensures err { IfErr result (IsReadFault bytes.old) }
     ensures room { IfOk result (λ t. room.new ≡ max (length (flat t)) room.old) }
     ensures kept { OnErr result (room.new ≡ room.old) }
 {

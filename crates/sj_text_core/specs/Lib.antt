@@ -12,6 +12,7 @@ pub mod Nodes
 pub mod Code
 pub mod Scalars
 pub mod Reads
+pub mod Readings
 pub mod Laws
 pub mod EditLaws
 pub mod ScalarValues
