@@ -1,5 +1,5 @@
 -- The tree that a document means, where t gives the text of a key or a string.
-use Rattle.std.specs.Prelude.{ℕ, Bool, true, ◌&&◌, List, [], ◌∷◌, Option, Some, None}
+use Rattle.std.specs.Prelude.{◌≡◌, ℕ, Bool, true, ◌&&◌, List, [], ◌∷◌, Option, Some, None, option_map}
 use Rattle.std.specs.List.{list_all}
 use Rattle.sj_text_core.specs.Tree.{Tree, text, list, obj, items_from, Members}
 use Rattle.sj_text_core.specs.Scalars.{static_tree}
@@ -57,6 +57,20 @@ without_last t = t
 abbrev pub last_item : Tree → Option Tree
 last_item (list is) = last is
 last_item t = None
+
+-- what an edit answers and leaves
+module _ {T : Type 0} (t : T → List ℕ) where
+  -- the document means that tree; where there is none, there is none
+  abbrev pub Means : Option Tree → Option (Document T) → Type 0
+  Means o found = option_map (document_tree t) found ≡ o
+
+  -- the tree is f of the one that was
+  abbrev pub IsEdited : (Tree → Tree) → Document T → Document T → Type 0
+  IsEdited f old new = document_tree t new ≡ f (document_tree t old)
+
+  -- the tree is the one that was
+  abbrev pub IsAsItWas : Document T → Document T → Type 0
+  IsAsItWas old new = document_tree t new ≡ document_tree t old
 
 -- why an edit is refused: the target is of another kind, else memory
 abbrev pub edit_fault : {A : Type 0} → AccessError → Option A → AccessError

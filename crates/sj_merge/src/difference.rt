@@ -7,7 +7,7 @@ ghost use Rattle.sj_text_core.specs.Equal.{passes, tree_eq};
 ghost use Rattle.sj_text_core.specs.Reads.{as_members};
 ghost use Rattle.sj_text_core.specs.Same.{Same};
 ghost use Rattle.sj_object.specs.Members.{entry_members};
-ghost use Rattle.sj_document.specs.Document.{document_tree};
+ghost use Rattle.sj_document.specs.Document.{document_tree, Means};
 ghost use Rattle.sj_document.specs.declared.value.Document.{Document as DocumentOf};
 ghost use Rattle.sj_merge.specs.Merge.{merged};
 ghost use Rattle.sj_merge.specs.MergeDiff.{merge_patch, patch_members, removals};
@@ -199,7 +199,7 @@ pub fn merge_diff<T: CopyText + Drop>(
     from: &Document<T>,
     to: &Document<T>,
 ) -> Result<Option<Document<T>>, AllocError>
-    ensures patch { IfOk result (λ r. option_map (document_tree T.text_of) r ≡ merge_patch (Some (document_tree T.text_of from.now)) (document_tree T.text_of to.now)) }
+    ensures patch { IfOk result (Means T.text_of (merge_patch (Some (document_tree T.text_of from.now)) (document_tree T.text_of to.now))) }
     ensures leads { IfOk result (λ r. IfSome r (λ p. Same (merged (Some (document_tree T.text_of from.now)) (document_tree T.text_of p)) (document_tree T.text_of to.now))) }
     ensures none { IfOk result (λ r. r ≡ None → (p : DocumentOf T) → Same (merged (Some (document_tree T.text_of from.now)) (document_tree T.text_of p)) (document_tree T.text_of to.now) → ⊥) }
 {

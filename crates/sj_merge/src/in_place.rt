@@ -6,7 +6,7 @@
 ghost use Rattle.std.specs.Prelude.{◌≡◌, ◌≢◌, ℕ, List, Some, OnOk, OnErr};
 ghost use Rattle.sj_text_core.specs.Tree.{obj};
 ghost use Rattle.sj_object.specs.Members.{entry_members};
-ghost use Rattle.sj_document.specs.Document.{document_tree};
+ghost use Rattle.sj_document.specs.Document.{document_tree, IsAsItWas};
 ghost use Rattle.sj_merge.specs.Merge.{merged, merged_members, target_members};
 ghost use Rattle.sj_merge.specs.inner.Merge.{merged_pair};
 ghost use Rattle.sj_merge.specs.inner.Log.{finished, finished_one, log_undone, undone_one, in_object, Passes, Merges, MergesAt, ChangesValue};
@@ -243,7 +243,7 @@ fn merge_whole<T: KeyText + Drop>(
     members: Object<T>,
 ) -> Result<(), AllocError>
     ensures merged { OnOk result (document_tree T.text_of target.new ≡ obj (merged_members (target_members (Some (document_tree T.text_of target.old))) (entry_members (document_tree T.text_of) members.entries))) }
-    ensures refused { OnErr result (document_tree T.text_of target.new ≡ document_tree T.text_of target.old) }
+    ensures refused { OnErr result (IsAsItWas T.text_of target.old target.new) }
 {
     match target {
         Document::Object(into) => merge_all(alloc, into, members),
@@ -262,7 +262,7 @@ pub fn merge<T: KeyText + Drop>(
     patch: Document<T>,
 ) -> Result<(), AllocError>
     ensures merged { OnOk result (document_tree T.text_of target.new ≡ merged (Some (document_tree T.text_of target.old)) (document_tree T.text_of patch)) }
-    ensures refused { OnErr result (document_tree T.text_of target.new ≡ document_tree T.text_of target.old) }
+    ensures refused { OnErr result (IsAsItWas T.text_of target.old target.new) }
 {
     if !patch.is_object() {
         *target = patch;

@@ -1,7 +1,7 @@
 //! Patches: operations in order, all of them or none.
 
 ghost use Rattle.std.specs.Prelude.{◌≡◌, Ok, map, OnOk, OnErr, IfErr};
-ghost use Rattle.sj_document.specs.Document.{document_tree};
+ghost use Rattle.sj_document.specs.Document.{document_tree, IsAsItWas};
 ghost use Rattle.sj_patch.specs.Patch.{patched};
 ghost use Rattle.sj_patch.specs.Meant.{IsFaultOf, meant};
 ghost use Rattle.sj_patch.specs.inner.Changed.{undone};
@@ -43,7 +43,7 @@ pub fn patch<T: OwnedText + Drop>(
 ) -> Result<(), PatchFault>
     ensures ok { OnOk result (patched (map (meant T.text_of) operations.now) (document_tree T.text_of document.old) ≡ Ok (document_tree T.text_of document.new)) }
     ensures fault { IfErr result (λ e. IsFaultOf e (patched (map (meant T.text_of) operations.now) (document_tree T.text_of document.old))) }
-    ensures kept { OnErr result (document_tree T.text_of document.new ≡ document_tree T.text_of document.old) }
+    ensures kept { OnErr result (IsAsItWas T.text_of document.old document.new) }
 {
     let mut log = Vec::new(alloc);
     match apply_all(document, operations, &mut log) {

@@ -1,10 +1,10 @@
 //! Edits of the object or array that a pointer finds.
 
-ghost use Rattle.std.specs.Prelude.{◌≡◌, None, option_map, option_and_then, IfOk, IfErr, IsOk, IsSome, OnOk, OnErr};
+ghost use Rattle.std.specs.Prelude.{◌≡◌, None, option_and_then, IfOk, IfErr, IsOk, IsSome, OnOk, OnErr};
 ghost use Rattle.sj_text_core.specs.Tree.{null};
 ghost use Rattle.sj_text_core.specs.Find.{find};
 ghost use Rattle.sj_text_core.specs.Reads.{as_items, as_members};
-ghost use Rattle.sj_document.specs.Document.{document_tree, edit_fault, with_member, without_member, with_item, without_last, last_item};
+ghost use Rattle.sj_document.specs.Document.{document_tree, edit_fault, with_member, without_member, with_item, without_last, last_item, Means, IsEdited, IsAsItWas};
 ghost use Rattle.sj_pointer.specs.Pointed.{pointed, set_pointed};
 ghost use Rattle.sj_path.specs.Changes.{changed_at};
 ghost use Rattle.sj_path.specs.inner.Changes.{Inserts, Removes, Pushes, Pops};
@@ -90,9 +90,9 @@ pub fn insert<T: KeyText + Drop>(
     key: T,
     new: Document<T>,
 ) -> Result<Option<Document<T>>, Refused<AccessError, Document<T>>>
-    ensures answer { IfOk result (λ before. option_map (document_tree T.text_of) before ≡ option_and_then (find (T.text_of key)) (pointed pointer.now (document_tree T.text_of value.old))) }
-    ensures after { OnOk result (document_tree T.text_of value.new ≡ changed_at pointer.now (with_member (T.text_of key) (document_tree T.text_of new)) (document_tree T.text_of value.old)) }
-    ensures refused { OnErr result (document_tree T.text_of value.new ≡ document_tree T.text_of value.old) }
+    ensures answer { IfOk result (Means T.text_of (option_and_then (find (T.text_of key)) (pointed pointer.now (document_tree T.text_of value.old)))) }
+    ensures after { OnOk result (IsEdited T.text_of (changed_at pointer.now (with_member (T.text_of key) (document_tree T.text_of new))) value.old value.new) }
+    ensures refused { OnErr result (IsAsItWas T.text_of value.old value.new) }
     ensures returned { IfErr result (λ r. r.value ≡ new) }
     ensures kind { IfErr result (λ r. r.why ≡ edit_fault AccessError.NotAnObject (option_and_then as_members (pointed pointer.now (document_tree T.text_of value.old)))) }
     ensures object { OnOk result (IsSome (option_and_then as_members (pointed pointer.now (document_tree T.text_of value.old)))) }
@@ -115,9 +115,9 @@ pub fn remove<T: KeyText + Drop>(
     pointer: &Pointer,
     key: &str,
 ) -> Result<Option<Document<T>>, AccessError>
-    ensures answer { IfOk result (λ before. option_map (document_tree T.text_of) before ≡ option_and_then (find key.now) (pointed pointer.now (document_tree T.text_of value.old))) }
-    ensures after { document_tree T.text_of value.new ≡ changed_at pointer.now (without_member key.now) (document_tree T.text_of value.old) }
-    ensures refused { OnErr result (document_tree T.text_of value.new ≡ document_tree T.text_of value.old) }
+    ensures answer { IfOk result (Means T.text_of (option_and_then (find key.now) (pointed pointer.now (document_tree T.text_of value.old)))) }
+    ensures after { IsEdited T.text_of (changed_at pointer.now (without_member key.now)) value.old value.new }
+    ensures refused { OnErr result (IsAsItWas T.text_of value.old value.new) }
     ensures kind { IfErr result (λ e. (e ≡ AccessError.NotAnObject) × (option_and_then as_members (pointed pointer.now (document_tree T.text_of value.old)) ≡ None)) }
     ensures object { OnOk result (IsSome (option_and_then as_members (pointed pointer.now (document_tree T.text_of value.old)))) }
 {
@@ -135,8 +135,8 @@ pub fn push<T: KeyText + Drop>(
     pointer: &Pointer,
     new: Document<T>,
 ) -> Result<(), Refused<AccessError, Document<T>>>
-    ensures after { OnOk result (document_tree T.text_of value.new ≡ changed_at pointer.now (with_item (document_tree T.text_of new)) (document_tree T.text_of value.old)) }
-    ensures refused { OnErr result (document_tree T.text_of value.new ≡ document_tree T.text_of value.old) }
+    ensures after { OnOk result (IsEdited T.text_of (changed_at pointer.now (with_item (document_tree T.text_of new))) value.old value.new) }
+    ensures refused { OnErr result (IsAsItWas T.text_of value.old value.new) }
     ensures returned { IfErr result (λ r. r.value ≡ new) }
     ensures kind { IfErr result (λ r. r.why ≡ edit_fault AccessError.NotAnArray (option_and_then as_items (pointed pointer.now (document_tree T.text_of value.old)))) }
     ensures array { OnOk result (IsSome (option_and_then as_items (pointed pointer.now (document_tree T.text_of value.old)))) }
@@ -156,9 +156,9 @@ pub fn pop<T: KeyText + Drop>(
     value: &mut Document<T>,
     pointer: &Pointer,
 ) -> Result<Option<Document<T>>, AccessError>
-    ensures answer { IfOk result (λ last. option_map (document_tree T.text_of) last ≡ option_and_then last_item (pointed pointer.now (document_tree T.text_of value.old))) }
-    ensures after { document_tree T.text_of value.new ≡ changed_at pointer.now without_last (document_tree T.text_of value.old) }
-    ensures refused { OnErr result (document_tree T.text_of value.new ≡ document_tree T.text_of value.old) }
+    ensures answer { IfOk result (Means T.text_of (option_and_then last_item (pointed pointer.now (document_tree T.text_of value.old)))) }
+    ensures after { IsEdited T.text_of (changed_at pointer.now without_last) value.old value.new }
+    ensures refused { OnErr result (IsAsItWas T.text_of value.old value.new) }
     ensures kind { IfErr result (λ e. (e ≡ AccessError.NotAnArray) × (option_and_then as_items (pointed pointer.now (document_tree T.text_of value.old)) ≡ None)) }
     ensures array { OnOk result (IsSome (option_and_then as_items (pointed pointer.now (document_tree T.text_of value.old)))) }
 {
@@ -171,8 +171,8 @@ pub fn pop<T: KeyText + Drop>(
 /// Takes what the pointer finds, and leaves a null in its place; None where it finds nothing, and the
 /// document is as it was.
 pub fn take<T: KeyText + Drop>(value: &mut Document<T>, pointer: &Pointer) -> Option<Document<T>>
-    ensures answer { option_map (document_tree T.text_of) result ≡ pointed pointer.now (document_tree T.text_of value.old) }
-    ensures after { document_tree T.text_of value.new ≡ set_pointed pointer.now null (document_tree T.text_of value.old) }
+    ensures answer { Means T.text_of (pointed pointer.now (document_tree T.text_of value.old)) result }
+    ensures after { IsEdited T.text_of (set_pointed pointer.now null) value.old value.new }
 {
     replace(value, pointer, Document::null()).ok()
 }

@@ -3,7 +3,7 @@
 ghost use Rattle.std.specs.Prelude.{◌≡◌, Some, IfErr, IfOk, IfSome, IsSome, IsOk, OnErr, OnOk, option_map, map, string_bytes};
 ghost use Rattle.std.specs.Borrow.{sem};
 ghost use Rattle.std.specs.Result.{result_ok};
-ghost use Rattle.sj_document.specs.Document.{document_tree};
+ghost use Rattle.sj_document.specs.Document.{document_tree, Means};
 ghost use Rattle.sj_document.specs.Rows.{document_row};
 ghost use Rattle.sj_tape.specs.Value.{tape_tree, tape_choice};
 ghost use Rattle.sj_lazy.specs.Value.{value_tree, value_choice, form, part_form, lazy_kept, owned};
@@ -95,7 +95,7 @@ pub fn replace<P: Upgrade<T> + Drop, B: Lent<T> + Drop, T: KeyText + Drop>(
     pointer: &Pointer,
     new: Document<T>,
 ) -> Result<Result<Document<T>, Document<T>>, Refused<AllocError, Document<T>>>
-    ensures before { IfOk result (λ answer. option_map (document_tree T.text_of) (result_ok answer) ≡ pointed pointer.now (lazy_kept P.part_kept B.lent_tree T.text_of value.old)) }
+    ensures before { IfOk result (λ answer. Means T.text_of (pointed pointer.now (lazy_kept P.part_kept B.lent_tree T.text_of value.old)) (result_ok answer)) }
     ensures after { OnOk result (owned T.text_of value.new ≡ Some (set_pointed pointer.now (document_tree T.text_of new) (lazy_kept P.part_kept B.lent_tree T.text_of value.old))) }
     ensures back { IfOk result (λ answer. IfErr answer (λ given. given ≡ new)) }
     ensures refused { OnErr result (value.new ≡ value.old) }

@@ -1,8 +1,8 @@
 //! Writes at a pointer that make the objects which are missing on the way.
 
-ghost use Rattle.std.specs.Prelude.{◌≡◌, ◌++◌, Some, None, IfOk, IfErr, IsOk, IsSome, OnOk, OnErr, map, option_map, string_bytes};
+ghost use Rattle.std.specs.Prelude.{◌≡◌, ◌++◌, Some, None, IfOk, IfErr, IsOk, IsSome, OnOk, OnErr, map, string_bytes};
 ghost use Rattle.sj_text_core.specs.Tree.{Tree, null, obj, member, no_members};
-ghost use Rattle.sj_document.specs.Document.{document_tree, edit_fault};
+ghost use Rattle.sj_document.specs.Document.{document_tree, edit_fault, Means, IsAsItWas};
 ghost use Rattle.sj_pointer.specs.Pointed.{pointed};
 ghost use Rattle.sj_path.specs.Made.{nested, set_made};
 ghost use Rattle.sj_path.specs.inner.Made.{IsEndOf};
@@ -93,7 +93,7 @@ fn make_way<T: OwnedText + Drop>(
 ) -> Result<(), AccessError>
     requires { pointed (map string_bytes tokens.now) (document_tree T.text_of value.old) ≡ None }
     ensures after { OnOk result (set_made (map string_bytes tokens.now) null (document_tree T.text_of value.old) ≡ Some (document_tree T.text_of value.new)) }
-    ensures refused { OnErr result (document_tree T.text_of value.new ≡ document_tree T.text_of value.old) }
+    ensures refused { OnErr result (IsAsItWas T.text_of value.old value.new) }
     ensures kind { IfErr result (λ e. e ≡ edit_fault AccessError.NotAnObject (set_made (map string_bytes tokens.now) null (document_tree T.text_of value.old))) }
 {
     let (way, rest, is_object) = split_found(value, tokens);
@@ -126,9 +126,9 @@ pub fn set<T: OwnedText + Drop>(
     pointer: &Pointer,
     new: Document<T>,
 ) -> Result<Option<Document<T>>, Refused<AccessError, Document<T>>>
-    ensures answer { IfOk result (λ before. option_map (document_tree T.text_of) before ≡ pointed pointer.now (document_tree T.text_of value.old)) }
+    ensures answer { IfOk result (Means T.text_of (pointed pointer.now (document_tree T.text_of value.old))) }
     ensures after { OnOk result (set_made pointer.now (document_tree T.text_of new) (document_tree T.text_of value.old) ≡ Some (document_tree T.text_of value.new)) }
-    ensures refused { OnErr result (document_tree T.text_of value.new ≡ document_tree T.text_of value.old) }
+    ensures refused { OnErr result (IsAsItWas T.text_of value.old value.new) }
     ensures returned { IfErr result (λ r. r.value ≡ new) }
     ensures kind { IfErr result (λ r. r.why ≡ edit_fault AccessError.NotAnObject (set_made pointer.now (document_tree T.text_of new) (document_tree T.text_of value.old))) }
     ensures succeeds { IsSome (pointed pointer.now (document_tree T.text_of value.old)) → IsOk result }

@@ -1,9 +1,9 @@
 //! Writes at a pointer.
 
-ghost use Rattle.std.specs.Prelude.{◌≡◌, Some, None, map, option_map, string_bytes, IfOk, IfErr, OnErr};
+ghost use Rattle.std.specs.Prelude.{◌≡◌, Some, None, map, string_bytes, IfOk, IfErr, OnErr};
 ghost use Rattle.std.specs.Result.{result_ok};
 ghost use Rattle.sj_text_core.specs.Paths.{by_token};
-ghost use Rattle.sj_document.specs.Document.{document_tree};
+ghost use Rattle.sj_document.specs.Document.{document_tree, Means, IsEdited, IsAsItWas};
 ghost use Rattle.sj_document.specs.declared.value.Document.{Document as DocumentOf};
 ghost use Rattle.sj_document.specs.Descents.{Exchanged};
 ghost use Rattle.sj_pointer.specs.Pointed.{pointed, set_pointed};
@@ -37,7 +37,7 @@ pub fn update_in<T: KeyText + Drop, C: Change<Document<T>>>(
     change: C,
 ) -> Result<C::Answer, C>
     ensures changed { IfOk result (λ answer. (v : DocumentOf T) × (w : DocumentOf T) × (pointed (map string_bytes tokens.now) (document_tree T.text_of value.old) ≡ Some (document_tree T.text_of v)) × C.makes change v w answer × (document_tree T.text_of value.new ≡ set_pointed (map string_bytes tokens.now) (document_tree T.text_of w) (document_tree T.text_of value.old))) }
-    ensures absent { IfErr result (λ back. (back ≡ change) × (pointed (map string_bytes tokens.now) (document_tree T.text_of value.old) ≡ None) × (document_tree T.text_of value.new ≡ document_tree T.text_of value.old)) }
+    ensures absent { IfErr result (λ back. (back ≡ change) × (pointed (map string_bytes tokens.now) (document_tree T.text_of value.old) ≡ None) × IsAsItWas T.text_of value.old value.new) }
 {
     update_at::<ByToken, String, T, C>(value, tokens, change)
 }
@@ -50,7 +50,7 @@ pub fn update<T: KeyText + Drop, C: Change<Document<T>>>(
     change: C,
 ) -> Result<C::Answer, C>
     ensures changed { IfOk result (λ answer. (v : DocumentOf T) × (w : DocumentOf T) × (pointed pointer.now (document_tree T.text_of value.old) ≡ Some (document_tree T.text_of v)) × C.makes change v w answer × (document_tree T.text_of value.new ≡ set_pointed pointer.now (document_tree T.text_of w) (document_tree T.text_of value.old))) }
-    ensures absent { IfErr result (λ back. (back ≡ change) × (pointed pointer.now (document_tree T.text_of value.old) ≡ None) × (document_tree T.text_of value.new ≡ document_tree T.text_of value.old)) }
+    ensures absent { IfErr result (λ back. (back ≡ change) × (pointed pointer.now (document_tree T.text_of value.old) ≡ None) × IsAsItWas T.text_of value.old value.new) }
 {
     update_in(value, pointer.tokens(), change)
 }
@@ -62,9 +62,9 @@ pub fn replace<T: KeyText + Drop>(
     pointer: &Pointer,
     new: Document<T>,
 ) -> Result<Document<T>, Document<T>>
-    ensures before { option_map (document_tree T.text_of) (result_ok result) ≡ pointed pointer.now (document_tree T.text_of value.old) }
-    ensures after { document_tree T.text_of value.new ≡ set_pointed pointer.now (document_tree T.text_of new) (document_tree T.text_of value.old) }
-    ensures kept { OnErr result (document_tree T.text_of value.new ≡ document_tree T.text_of value.old) }
+    ensures before { Means T.text_of (pointed pointer.now (document_tree T.text_of value.old)) (result_ok result) }
+    ensures after { IsEdited T.text_of (set_pointed pointer.now (document_tree T.text_of new)) value.old value.new }
+    ensures kept { OnErr result (IsAsItWas T.text_of value.old value.new) }
     ensures back { IfErr result (λ given. given ≡ new) }
 {
     match update(value, pointer, Replace { value: new }) {

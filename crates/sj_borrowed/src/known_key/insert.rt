@@ -1,6 +1,6 @@
 //! Inserts by a known key.
 
-ghost use Rattle.std.specs.Prelude.{◌≡◌, length, option_map, OnOk, OnErr, IfOk, IfErr, IsOk, IsSome, is_some, if◌then◌else◌};
+ghost use Rattle.std.specs.Prelude.{◌≡◌, length, OnOk, OnErr, IfOk, IfErr, IsOk, IsSome, is_some, if◌then◌else◌};
 ghost use Rattle.std.specs.Cow.{cow_str_bytes};
 ghost use Rattle.sj_text_core.specs.Find.{find};
 ghost use Rattle.sj_text_core.specs.Reads.{as_members};
@@ -18,7 +18,7 @@ use std::borrow::CowStr;
 use std::mem;
 
 impl<'k> KnownKey<'k> {
-    ghost use Rattle.sj_document.specs.Document.{document_tree, with_member};
+    ghost use Rattle.sj_document.specs.Document.{document_tree, with_member, Means, IsEdited, IsAsItWas};
     ghost use Rattle.sj_borrowed.specs.Inserts.{IsPut, known_fault};
 
     /// Sets the value of the key, and answers the one before, as the map's own insert does. The
@@ -72,10 +72,10 @@ impl<'k> KnownKey<'k> {
     ) -> Result<Option<BorrowedValue<'v>>, Refused<Error, BorrowedValue<'v>>>
     where
         'k: 'v,
-        ensures answer { IfOk result (λ before. option_map (document_tree cow_str_bytes) before ≡ find (cow_str_bytes self.now) (document_tree cow_str_bytes target.old)) }
-        ensures after { OnOk result (document_tree cow_str_bytes target.new ≡ with_member (cow_str_bytes self.now) (document_tree cow_str_bytes value.entry) (document_tree cow_str_bytes target.old)) }
+        ensures answer { IfOk result (Means cow_str_bytes (find (cow_str_bytes self.now) (document_tree cow_str_bytes target.old))) }
+        ensures after { OnOk result (IsEdited cow_str_bytes (with_member (cow_str_bytes self.now) (document_tree cow_str_bytes value.entry)) target.old target.new) }
         ensures object { OnOk result (IsSome (as_members (document_tree cow_str_bytes target.old))) }
-        ensures refused { OnErr result (document_tree cow_str_bytes target.new ≡ document_tree cow_str_bytes target.old) }
+        ensures refused { OnErr result (IsAsItWas cow_str_bytes target.old target.new) }
         ensures returned { IfErr result (λ r. r.value ≡ value.entry) }
         ensures kind { IfErr result (λ r. r.why ≡ known_fault (document_tree cow_str_bytes target.old)) }
         ensures succeeds { IsSome (find (cow_str_bytes self.now) (document_tree cow_str_bytes target.old)) → IsOk result }

@@ -5,7 +5,7 @@ ghost use Rattle.std.specs.Option.{ForSome};
 ghost use Rattle.sj_text_core.specs.Tree.{items_from, items_len};
 ghost use Rattle.sj_text_core.specs.Find.{nth, nth_item};
 ghost use Rattle.sj_text_core.specs.Reads.{as_items};
-ghost use Rattle.sj_document.specs.Document.{document_tree};
+ghost use Rattle.sj_document.specs.Document.{document_tree, Means};
 ghost use Rattle.sj_document.specs.Items.{remove_at};
 
 use crate::value::Document;
@@ -27,7 +27,7 @@ impl<T: KeyText> Document<T> {
 }
 
 impl<T: KeyText + Drop> Document<T> {
-    ghost use Rattle.sj_document.specs.Document.{document_tree, edit_fault};
+    ghost use Rattle.sj_document.specs.Document.{document_tree, edit_fault, Means, IsEdited, IsAsItWas};
     ghost use Rattle.sj_document.specs.Items.{with_item_at, without_item_at};
 
     /// Inserts an item at that position, counted from 0: in front of the item that stands there, or
@@ -39,8 +39,8 @@ impl<T: KeyText + Drop> Document<T> {
         value: Document<T>,
     ) -> Result<(), Refused<AccessError, Document<T>>>
         requires { ForSome (option_map items_len (as_items (document_tree T.text_of self.old))) (λ len. index ≤ len) }
-        ensures after { OnOk result (document_tree T.text_of self.new ≡ with_item_at index (document_tree T.text_of value) (document_tree T.text_of self.old)) }
-        ensures refused { OnErr result (document_tree T.text_of self.new ≡ document_tree T.text_of self.old) }
+        ensures after { OnOk result (IsEdited T.text_of (with_item_at index (document_tree T.text_of value)) self.old self.new) }
+        ensures refused { OnErr result (IsAsItWas T.text_of self.old self.new) }
         ensures returned { IfErr result (λ r. r.value ≡ value) }
         ensures kind { IfErr result (λ r. r.why ≡ edit_fault AccessError.NotAnArray (as_items (document_tree T.text_of self.old))) }
         ensures array { OnOk result (IsSome (as_items (document_tree T.text_of self.old))) }
@@ -64,9 +64,9 @@ impl<T: KeyText + Drop> Document<T> {
     /// up. Past the last it answers None, and the document is as it was. It is refused on a non-array
     /// alone.
     pub fn remove_idx(&mut self, index: usize) -> Result<Option<Document<T>>, AccessError>
-        ensures answer { IfOk result (λ before. option_map (document_tree T.text_of) before ≡ nth index (document_tree T.text_of self.old)) }
-        ensures after { document_tree T.text_of self.new ≡ without_item_at index (document_tree T.text_of self.old) }
-        ensures refused { OnErr result (document_tree T.text_of self.new ≡ document_tree T.text_of self.old) }
+        ensures answer { IfOk result (Means T.text_of (nth index (document_tree T.text_of self.old))) }
+        ensures after { IsEdited T.text_of (without_item_at index) self.old self.new }
+        ensures refused { OnErr result (IsAsItWas T.text_of self.old self.new) }
         ensures kind { IfErr result (λ e. (e ≡ AccessError.NotAnArray) × (as_items (document_tree T.text_of self.old) ≡ None)) }
         ensures array { OnOk result (IsSome (as_items (document_tree T.text_of self.old))) }
     {
@@ -79,7 +79,7 @@ impl<T: KeyText + Drop> Document<T> {
 
 /// Takes the item at that position out; None past the last.
 fn take_out<T: KeyText>(items: &mut Vec<Document<T>>, index: usize) -> Option<Document<T>>
-    ensures answer { option_map (document_tree T.text_of) result ≡ nth_item index (items_from (map (document_tree T.text_of) items.old.items)) }
+    ensures answer { Means T.text_of (nth_item index (items_from (map (document_tree T.text_of) items.old.items))) result }
     ensures after { items_from (map (document_tree T.text_of) items.new.items) ≡ remove_at index (items_from (map (document_tree T.text_of) items.old.items)) }
 {
     if index < items.len() {

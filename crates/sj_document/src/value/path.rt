@@ -6,7 +6,7 @@
 ghost use Rattle.std.specs.Prelude.{◌≡◌, ◌≤◌, Some, None, IfOk, IfErr, length, map, string_bytes};
 ghost use Rattle.sj_text_core.specs.Paths.{Step, by_key, tree_at, set_at};
 ghost use Rattle.sj_document.specs.declared.value.Document.{Document as DocumentOf};
-ghost use Rattle.sj_document.specs.Document.{document_tree};
+ghost use Rattle.sj_document.specs.Document.{document_tree, IsEdited, IsAsItWas};
 ghost use Rattle.sj_document.specs.Descents.{Exchanged};
 ghost use Rattle.sj_document.specs.inner.Descents.{plug, IsSpine, Descended};
 
@@ -102,7 +102,7 @@ pub fn update_at<W: Leads<S>, S, T: KeyText + Drop, C: Change<Document<T>>>(
     change: C,
 ) -> Result<C::Answer, C>
     ensures changed { IfOk result (λ answer. (v : DocumentOf T) × (w : DocumentOf T) × (tree_at (map W.step_of path.now) (document_tree T.text_of value.old) ≡ Some (document_tree T.text_of v)) × C.makes change v w answer × (document_tree T.text_of value.new ≡ set_at (map W.step_of path.now) (document_tree T.text_of w) (document_tree T.text_of value.old))) }
-    ensures absent { IfErr result (λ back. (back ≡ change) × (tree_at (map W.step_of path.now) (document_tree T.text_of value.old) ≡ None) × (document_tree T.text_of value.new ≡ document_tree T.text_of value.old)) }
+    ensures absent { IfErr result (λ back. (back ≡ change) × (tree_at (map W.step_of path.now) (document_tree T.text_of value.old) ≡ None) × IsAsItWas T.text_of value.old value.new) }
 {
     let (up, depth) = descend::<W, S, T>(value, path);
     if depth < path.len() {
@@ -117,7 +117,7 @@ pub fn update_at<W: Leads<S>, S, T: KeyText + Drop, C: Change<Document<T>>>(
 /// Puts `new` in the place of what stands at the path of keys, if anything does. Else `new` is let
 /// go, and the document is as it was.
 pub fn replace_at<T: KeyText + Drop>(value: &mut Document<T>, path: &[String], new: Document<T>)
-    ensures { document_tree T.text_of value.new ≡ set_at (map (λ s. by_key (string_bytes s)) path.now) (document_tree T.text_of new) (document_tree T.text_of value.old) }
+    ensures { IsEdited T.text_of (set_at (map (λ s. by_key (string_bytes s)) path.now) (document_tree T.text_of new)) value.old value.new }
 {
     let _ = update_at::<ByKey, String, T, Replace<Document<T>>>(
         value,

@@ -1,10 +1,10 @@
 //! Edits. Each makes the value an owned document first, so it is one after every answer but that
 //! of a refused upgrade, which leaves it as it was.
 
-ghost use Rattle.std.specs.Prelude.{◌≡◌, ⊤, Some, None, option_map, OnOk, IfOk, IfErr, IsOk, IsSome};
+ghost use Rattle.std.specs.Prelude.{◌≡◌, ⊤, Some, None, OnOk, IfOk, IfErr, IsOk, IsSome};
 ghost use Rattle.sj_text_core.specs.Find.{find};
 ghost use Rattle.sj_text_core.specs.Reads.{as_items, as_members};
-ghost use Rattle.sj_document.specs.Document.{document_tree, edit_fault, with_member, without_member, with_item, without_last, last_item};
+ghost use Rattle.sj_document.specs.Document.{document_tree, edit_fault, with_member, without_member, with_item, without_last, last_item, Means};
 
 use super::Lazy;
 use crate::upgrade::{Lent, Upgrade};
@@ -27,7 +27,7 @@ impl<P: Upgrade<T> + Drop, B: Lent<T> + Drop, T: KeyText + Drop> Lazy<P, B, T> {
         key: T,
         value: Document<T>,
     ) -> Result<Option<Document<T>>, Refused<AccessError, Document<T>>>
-        ensures answer { IfOk result (λ before. option_map (document_tree T.text_of) before ≡ find (T.text_of key) (lazy_kept P.part_kept B.lent_tree T.text_of self.old)) }
+        ensures answer { IfOk result (Means T.text_of (find (T.text_of key) (lazy_kept P.part_kept B.lent_tree T.text_of self.old))) }
         ensures after { OnOk result (owned T.text_of self.new ≡ Some (with_member (T.text_of key) (document_tree T.text_of value) (lazy_kept P.part_kept B.lent_tree T.text_of self.old))) }
         ensures object { OnOk result (IsSome (as_members (lazy_kept P.part_kept B.lent_tree T.text_of self.old))) }
         ensures refused { IfErr result (λ r. IsLeft T.text_of (lazy_kept P.part_kept B.lent_tree T.text_of self.old) self.old self.new (r.why ≡ AccessError.OutOfMemory) (r.why ≡ edit_fault AccessError.NotAnObject (as_members (lazy_kept P.part_kept B.lent_tree T.text_of self.old)))) }
@@ -51,7 +51,7 @@ impl<P: Upgrade<T> + Drop, B: Lent<T> + Drop, T: KeyText + Drop> Lazy<P, B, T> {
         key: T,
         value: Document<T>,
     ) -> Result<Option<Document<T>>, Refused<AllocError, Document<T>>>
-        ensures answer { IfOk result (λ before. option_map (document_tree T.text_of) before ≡ find (T.text_of key) (lazy_kept P.part_kept B.lent_tree T.text_of self.old)) }
+        ensures answer { IfOk result (Means T.text_of (find (T.text_of key) (lazy_kept P.part_kept B.lent_tree T.text_of self.old))) }
         ensures after { OnOk result (owned T.text_of self.new ≡ Some (with_member (T.text_of key) (document_tree T.text_of value) (lazy_kept P.part_kept B.lent_tree T.text_of self.old))) }
         ensures refused { IfErr result (λ r. IsLeft T.text_of (lazy_kept P.part_kept B.lent_tree T.text_of self.old) self.old self.new (⊤) (IsSome (as_members (lazy_kept P.part_kept B.lent_tree T.text_of self.old)))) }
         ensures returned { IfErr result (λ r. r.value ≡ value) }
@@ -67,7 +67,7 @@ impl<P: Upgrade<T> + Drop, B: Lent<T> + Drop, T: KeyText + Drop> Lazy<P, B, T> {
     /// on a non-object, and where the upgrade is. Refused, it is as it was where the upgrade was
     /// refused, and else a document of the tree that it kept.
     pub fn remove(&mut self, alloc: Global, key: &str) -> Result<Option<Document<T>>, AccessError>
-        ensures answer { IfOk result (λ before. option_map (document_tree T.text_of) before ≡ find key.now (lazy_kept P.part_kept B.lent_tree T.text_of self.old)) }
+        ensures answer { IfOk result (Means T.text_of (find key.now (lazy_kept P.part_kept B.lent_tree T.text_of self.old))) }
         ensures after { OnOk result (owned T.text_of self.new ≡ Some (without_member key.now (lazy_kept P.part_kept B.lent_tree T.text_of self.old))) }
         ensures object { OnOk result (IsSome (as_members (lazy_kept P.part_kept B.lent_tree T.text_of self.old))) }
         ensures refused { IfErr result (λ e. IsLeft T.text_of (lazy_kept P.part_kept B.lent_tree T.text_of self.old) self.old self.new (e ≡ AccessError.OutOfMemory) ((e ≡ AccessError.NotAnObject) × (as_members (lazy_kept P.part_kept B.lent_tree T.text_of self.old) ≡ None))) }
@@ -104,7 +104,7 @@ impl<P: Upgrade<T> + Drop, B: Lent<T> + Drop, T: KeyText + Drop> Lazy<P, B, T> {
     /// upgrade is. Refused, it is as it was where the upgrade was refused, and else a document of
     /// the tree that it kept.
     pub fn pop(&mut self, alloc: Global) -> Result<Option<Document<T>>, AccessError>
-        ensures answer { IfOk result (λ last. option_map (document_tree T.text_of) last ≡ last_item (lazy_kept P.part_kept B.lent_tree T.text_of self.old)) }
+        ensures answer { IfOk result (Means T.text_of (last_item (lazy_kept P.part_kept B.lent_tree T.text_of self.old))) }
         ensures after { OnOk result (owned T.text_of self.new ≡ Some (without_last (lazy_kept P.part_kept B.lent_tree T.text_of self.old))) }
         ensures array { OnOk result (IsSome (as_items (lazy_kept P.part_kept B.lent_tree T.text_of self.old))) }
         ensures refused { IfErr result (λ e. IsLeft T.text_of (lazy_kept P.part_kept B.lent_tree T.text_of self.old) self.old self.new (e ≡ AccessError.OutOfMemory) ((e ≡ AccessError.NotAnArray) × (as_items (lazy_kept P.part_kept B.lent_tree T.text_of self.old) ≡ None))) }

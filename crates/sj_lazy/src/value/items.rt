@@ -31,7 +31,7 @@ impl<'b, 't, 'i> Value<'b, 't, 'i> {
 }
 
 impl<P: Upgrade<T> + Drop, B: Lent<T> + Drop, T: KeyText + Drop> Lazy<P, B, T> {
-    ghost use Rattle.sj_document.specs.Document.{document_tree, edit_fault};
+    ghost use Rattle.sj_document.specs.Document.{document_tree, edit_fault, Means};
     ghost use Rattle.sj_document.specs.Items.{with_item_at, without_item_at};
     ghost use Rattle.sj_lazy.specs.Value.{lazy_kept, owned};
     ghost use Rattle.sj_lazy.specs.Edits.{IsLeft};
@@ -70,7 +70,7 @@ impl<P: Upgrade<T> + Drop, B: Lent<T> + Drop, T: KeyText + Drop> Lazy<P, B, T> {
         alloc: Global,
         index: usize,
     ) -> Result<Option<Document<T>>, AccessError>
-        ensures answer { IfOk result (λ before. option_map (document_tree T.text_of) before ≡ nth index (lazy_kept P.part_kept B.lent_tree T.text_of self.old)) }
+        ensures answer { IfOk result (Means T.text_of (nth index (lazy_kept P.part_kept B.lent_tree T.text_of self.old))) }
         ensures after { OnOk result (owned T.text_of self.new ≡ Some (without_item_at index (lazy_kept P.part_kept B.lent_tree T.text_of self.old))) }
         ensures array { OnOk result (IsSome (as_items (lazy_kept P.part_kept B.lent_tree T.text_of self.old))) }
         ensures refused { IfErr result (λ e. IsLeft T.text_of (lazy_kept P.part_kept B.lent_tree T.text_of self.old) self.old self.new (e ≡ AccessError.OutOfMemory) ((e ≡ AccessError.NotAnArray) × (as_items (lazy_kept P.part_kept B.lent_tree T.text_of self.old) ≡ None))) }

@@ -1,11 +1,11 @@
 //! Edits of what a pointer finds in a lazy value. Each makes the value an owned document first, so it
 //! is one after every answer but that of a refused upgrade, which leaves it as it was.
 
-ghost use Rattle.std.specs.Prelude.{◌≡◌, Some, None, option_map, option_and_then, IfErr, IfOk, IsOk, IsSome, OnErr, OnOk};
+ghost use Rattle.std.specs.Prelude.{◌≡◌, Some, None, option_and_then, IfErr, IfOk, IsOk, IsSome, OnErr, OnOk};
 ghost use Rattle.sj_text_core.specs.Tree.{null};
 ghost use Rattle.sj_text_core.specs.Find.{find};
 ghost use Rattle.sj_text_core.specs.Reads.{as_items, as_members};
-ghost use Rattle.sj_document.specs.Document.{document_tree, edit_fault, with_member, without_member, with_item, without_last, last_item};
+ghost use Rattle.sj_document.specs.Document.{document_tree, edit_fault, with_member, without_member, with_item, without_last, last_item, Means};
 ghost use Rattle.sj_document.specs.declared.value.Document.{Document as DocumentOf};
 ghost use Rattle.sj_lazy.specs.Value.{lazy_kept, owned};
 ghost use Rattle.sj_lazy.specs.Edits.{IsLeft};
@@ -54,7 +54,7 @@ pub fn insert<P: Upgrade<T> + Drop, B: Lent<T> + Drop, T: KeyText + Drop>(
     key: T,
     new: Document<T>,
 ) -> Result<Option<Document<T>>, Refused<AccessError, Document<T>>>
-    ensures answer { IfOk result (λ before. option_map (document_tree T.text_of) before ≡ option_and_then (find (T.text_of key)) (pointed pointer.now (lazy_kept P.part_kept B.lent_tree T.text_of value.old))) }
+    ensures answer { IfOk result (Means T.text_of (option_and_then (find (T.text_of key)) (pointed pointer.now (lazy_kept P.part_kept B.lent_tree T.text_of value.old)))) }
     ensures after { OnOk result (owned T.text_of value.new ≡ Some (changed_at pointer.now (with_member (T.text_of key) (document_tree T.text_of new)) (lazy_kept P.part_kept B.lent_tree T.text_of value.old))) }
     ensures object { OnOk result (IsSome (option_and_then as_members (pointed pointer.now (lazy_kept P.part_kept B.lent_tree T.text_of value.old)))) }
     ensures refused { IfErr result (λ r. IsLeft T.text_of (lazy_kept P.part_kept B.lent_tree T.text_of value.old) value.old value.new (r.why ≡ AccessError.OutOfMemory) (r.why ≡ edit_fault AccessError.NotAnObject (option_and_then as_members (pointed pointer.now (lazy_kept P.part_kept B.lent_tree T.text_of value.old))))) }
@@ -80,7 +80,7 @@ pub fn remove<P: Upgrade<T> + Drop, B: Lent<T> + Drop, T: KeyText + Drop>(
     pointer: &Pointer,
     key: &str,
 ) -> Result<Option<Document<T>>, AccessError>
-    ensures answer { IfOk result (λ before. option_map (document_tree T.text_of) before ≡ option_and_then (find key.now) (pointed pointer.now (lazy_kept P.part_kept B.lent_tree T.text_of value.old))) }
+    ensures answer { IfOk result (Means T.text_of (option_and_then (find key.now) (pointed pointer.now (lazy_kept P.part_kept B.lent_tree T.text_of value.old)))) }
     ensures after { OnOk result (owned T.text_of value.new ≡ Some (changed_at pointer.now (without_member key.now) (lazy_kept P.part_kept B.lent_tree T.text_of value.old))) }
     ensures object { OnOk result (IsSome (option_and_then as_members (pointed pointer.now (lazy_kept P.part_kept B.lent_tree T.text_of value.old)))) }
     ensures refused { IfErr result (λ e. IsLeft T.text_of (lazy_kept P.part_kept B.lent_tree T.text_of value.old) value.old value.new (e ≡ AccessError.OutOfMemory) ((e ≡ AccessError.NotAnObject) × (option_and_then as_members (pointed pointer.now (lazy_kept P.part_kept B.lent_tree T.text_of value.old)) ≡ None))) }
@@ -123,7 +123,7 @@ pub fn pop<P: Upgrade<T> + Drop, B: Lent<T> + Drop, T: KeyText + Drop>(
     alloc: Global,
     pointer: &Pointer,
 ) -> Result<Option<Document<T>>, AccessError>
-    ensures answer { IfOk result (λ last. option_map (document_tree T.text_of) last ≡ option_and_then last_item (pointed pointer.now (lazy_kept P.part_kept B.lent_tree T.text_of value.old))) }
+    ensures answer { IfOk result (Means T.text_of (option_and_then last_item (pointed pointer.now (lazy_kept P.part_kept B.lent_tree T.text_of value.old)))) }
     ensures after { OnOk result (owned T.text_of value.new ≡ Some (changed_at pointer.now without_last (lazy_kept P.part_kept B.lent_tree T.text_of value.old))) }
     ensures array { OnOk result (IsSome (option_and_then as_items (pointed pointer.now (lazy_kept P.part_kept B.lent_tree T.text_of value.old)))) }
     ensures refused { IfErr result (λ e. IsLeft T.text_of (lazy_kept P.part_kept B.lent_tree T.text_of value.old) value.old value.new (e ≡ AccessError.OutOfMemory) ((e ≡ AccessError.NotAnArray) × (option_and_then as_items (pointed pointer.now (lazy_kept P.part_kept B.lent_tree T.text_of value.old)) ≡ None))) }
@@ -141,7 +141,7 @@ pub fn take<P: Upgrade<T> + Drop, B: Lent<T> + Drop, T: KeyText + Drop>(
     alloc: Global,
     pointer: &Pointer,
 ) -> Result<Option<Document<T>>, AllocError>
-    ensures answer { IfOk result (λ taken. option_map (document_tree T.text_of) taken ≡ pointed pointer.now (lazy_kept P.part_kept B.lent_tree T.text_of value.old)) }
+    ensures answer { IfOk result (Means T.text_of (pointed pointer.now (lazy_kept P.part_kept B.lent_tree T.text_of value.old))) }
     ensures after { OnOk result (owned T.text_of value.new ≡ Some (set_pointed pointer.now null (lazy_kept P.part_kept B.lent_tree T.text_of value.old))) }
     ensures refused { OnErr result (value.new ≡ value.old) }
     ensures succeeds { IsSome (owned T.text_of value.old) → IsOk result }
@@ -159,7 +159,7 @@ pub fn set<P: Upgrade<T> + Drop, B: Lent<T> + Drop, T: OwnedText + Drop>(
     pointer: &Pointer,
     new: Document<T>,
 ) -> Result<Option<Document<T>>, Refused<AccessError, Document<T>>>
-    ensures answer { IfOk result (λ before. option_map (document_tree T.text_of) before ≡ pointed pointer.now (lazy_kept P.part_kept B.lent_tree T.text_of value.old)) }
+    ensures answer { IfOk result (Means T.text_of (pointed pointer.now (lazy_kept P.part_kept B.lent_tree T.text_of value.old))) }
     ensures after { OnOk result (owned T.text_of value.new ≡ set_made pointer.now (document_tree T.text_of new) (lazy_kept P.part_kept B.lent_tree T.text_of value.old)) }
     ensures made { OnOk result (IsSome (set_made pointer.now (document_tree T.text_of new) (lazy_kept P.part_kept B.lent_tree T.text_of value.old))) }
     ensures refused { IfErr result (λ r. IsLeft T.text_of (lazy_kept P.part_kept B.lent_tree T.text_of value.old) value.old value.new (r.why ≡ AccessError.OutOfMemory) (r.why ≡ edit_fault AccessError.NotAnObject (set_made pointer.now (document_tree T.text_of new) (lazy_kept P.part_kept B.lent_tree T.text_of value.old)))) }
