@@ -72,6 +72,11 @@ module _ {T : Type 0} (t : T → List ℕ) where
   abbrev pub IsAsItWas : Document T → Document T → Type 0
   IsAsItWas old new = document_tree t new ≡ document_tree t old
 
+  -- what is found in the tree is changed, and the change answers so; what it becomes is set there
+  abbrev pub ChangesFound : {A : Type 0} → (Document T → Document T → A → Type 0) → (Tree → Option Tree) → (Tree → Tree → Tree) → Document T → Document T → A → Type 0
+  ChangesFound makes found set old new answer =
+      (v : Document T) × (w : Document T) × (found (document_tree t old) ≡ Some (document_tree t v)) × makes v w answer × IsEdited (set (document_tree t w)) old new
+
 -- why an edit is refused: the target is of another kind, else memory
 abbrev pub edit_fault : {A : Type 0} → AccessError → Option A → AccessError
 edit_fault wrong None = wrong

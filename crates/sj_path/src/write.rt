@@ -1,10 +1,9 @@
 //! Writes at a pointer.
 
-ghost use Rattle.std.specs.Prelude.{◌≡◌, Some, None, map, string_bytes, IfOk, IfErr, OnErr};
+ghost use Rattle.std.specs.Prelude.{◌≡◌, None, map, string_bytes, IfOk, IfErr, OnErr};
 ghost use Rattle.std.specs.Result.{result_ok};
 ghost use Rattle.sj_text_core.specs.Paths.{by_token};
-ghost use Rattle.sj_document.specs.Document.{document_tree, Means, IsEdited, IsAsItWas};
-ghost use Rattle.sj_document.specs.declared.value.Document.{Document as DocumentOf};
+ghost use Rattle.sj_document.specs.Document.{document_tree, Means, IsEdited, IsAsItWas, ChangesFound};
 ghost use Rattle.sj_document.specs.Descents.{Exchanged};
 ghost use Rattle.sj_pointer.specs.Pointed.{pointed, set_pointed};
 
@@ -36,7 +35,7 @@ pub fn update_in<T: KeyText + Drop, C: Change<Document<T>>>(
     tokens: &[String],
     change: C,
 ) -> Result<C::Answer, C>
-    ensures changed { IfOk result (λ answer. (v : DocumentOf T) × (w : DocumentOf T) × (pointed (map string_bytes tokens.now) (document_tree T.text_of value.old) ≡ Some (document_tree T.text_of v)) × C.makes change v w answer × (document_tree T.text_of value.new ≡ set_pointed (map string_bytes tokens.now) (document_tree T.text_of w) (document_tree T.text_of value.old))) }
+    ensures changed { IfOk result (ChangesFound T.text_of (C.makes change) (pointed (map string_bytes tokens.now)) (set_pointed (map string_bytes tokens.now)) value.old value.new) }
     ensures absent { IfErr result (λ back. (back ≡ change) × (pointed (map string_bytes tokens.now) (document_tree T.text_of value.old) ≡ None) × IsAsItWas T.text_of value.old value.new) }
 {
     update_at::<ByToken, String, T, C>(value, tokens, change)
@@ -49,7 +48,7 @@ pub fn update<T: KeyText + Drop, C: Change<Document<T>>>(
     pointer: &Pointer,
     change: C,
 ) -> Result<C::Answer, C>
-    ensures changed { IfOk result (λ answer. (v : DocumentOf T) × (w : DocumentOf T) × (pointed pointer.now (document_tree T.text_of value.old) ≡ Some (document_tree T.text_of v)) × C.makes change v w answer × (document_tree T.text_of value.new ≡ set_pointed pointer.now (document_tree T.text_of w) (document_tree T.text_of value.old))) }
+    ensures changed { IfOk result (ChangesFound T.text_of (C.makes change) (pointed pointer.now) (set_pointed pointer.now) value.old value.new) }
     ensures absent { IfErr result (λ back. (back ≡ change) × (pointed pointer.now (document_tree T.text_of value.old) ≡ None) × IsAsItWas T.text_of value.old value.new) }
 {
     update_in(value, pointer.tokens(), change)

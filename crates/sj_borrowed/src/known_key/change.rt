@@ -58,7 +58,7 @@ fn change_or_put<'k, K: StoredKey<'k>, V: Drop, C: Change<V>>(
 }
 
 impl<'k> KnownKey<'k> {
-    ghost use Rattle.sj_document.specs.Document.{document_tree, with_member, IsAsItWas};
+    ghost use Rattle.sj_document.specs.Document.{document_tree, with_member, IsEdited, IsAsItWas};
     ghost use Rattle.sj_borrowed.specs.Inserts.{known_fault};
 
     /// Changes the value of the key, and answers what the change does. The target is then as it
@@ -120,8 +120,8 @@ impl<'k> KnownKey<'k> {
         value: Document<T>,
         change: C,
     ) -> Result<C::Answer, Refused<Error, (Document<T>, C)>>
-        ensures present { IfSome (find (cow_str_bytes key.now) (document_tree T.text_of target.old)) (λ before. IfOk result (λ answer. (v : Document T) × (w : Document T) × (document_tree T.text_of v ≡ before) × C.makes change v w answer × (document_tree T.text_of target.new ≡ with_member (cow_str_bytes key.now) (document_tree T.text_of w) (document_tree T.text_of target.old)))) }
-        ensures absent { find (cow_str_bytes key.now) (document_tree T.text_of target.old) ≡ None → IfOk result (λ answer. (w : Document T) × C.makes change value w answer × (document_tree T.text_of target.new ≡ with_member (cow_str_bytes key.now) (document_tree T.text_of w) (document_tree T.text_of target.old))) }
+        ensures present { IfSome (find (cow_str_bytes key.now) (document_tree T.text_of target.old)) (λ before. IfOk result (λ answer. (v : Document T) × (w : Document T) × (document_tree T.text_of v ≡ before) × C.makes change v w answer × IsEdited T.text_of (with_member (cow_str_bytes key.now) (document_tree T.text_of w)) target.old target.new)) }
+        ensures absent { find (cow_str_bytes key.now) (document_tree T.text_of target.old) ≡ None → IfOk result (λ answer. (w : Document T) × C.makes change value w answer × IsEdited T.text_of (with_member (cow_str_bytes key.now) (document_tree T.text_of w)) target.old target.new) }
         ensures object { OnOk result (IsSome (as_members (document_tree T.text_of target.old))) }
         ensures refused { OnErr result (IsAsItWas T.text_of target.old target.new) }
         ensures returned { IfErr result (λ r. r.value ≡ (value, change)) }

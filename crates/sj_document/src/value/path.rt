@@ -3,10 +3,9 @@
 //! On the way down the part that a step finds is taken out, and what it stood in stands in turn in
 //! the place of the next part that is taken out. On the way up each goes back into its place.
 
-ghost use Rattle.std.specs.Prelude.{◌≡◌, ◌≤◌, Some, None, IfOk, IfErr, length, map, string_bytes};
+ghost use Rattle.std.specs.Prelude.{◌≡◌, ◌≤◌, None, IfOk, IfErr, length, map, string_bytes};
 ghost use Rattle.sj_text_core.specs.Paths.{Step, by_key, tree_at, set_at};
-ghost use Rattle.sj_document.specs.declared.value.Document.{Document as DocumentOf};
-ghost use Rattle.sj_document.specs.Document.{document_tree, IsEdited, IsAsItWas};
+ghost use Rattle.sj_document.specs.Document.{document_tree, IsEdited, IsAsItWas, ChangesFound};
 ghost use Rattle.sj_document.specs.Descents.{Exchanged};
 ghost use Rattle.sj_document.specs.inner.Descents.{plug, IsSpine, Descended};
 
@@ -101,7 +100,7 @@ pub fn update_at<W: Leads<S>, S, T: KeyText + Drop, C: Change<Document<T>>>(
     path: &[S],
     change: C,
 ) -> Result<C::Answer, C>
-    ensures changed { IfOk result (λ answer. (v : DocumentOf T) × (w : DocumentOf T) × (tree_at (map W.step_of path.now) (document_tree T.text_of value.old) ≡ Some (document_tree T.text_of v)) × C.makes change v w answer × (document_tree T.text_of value.new ≡ set_at (map W.step_of path.now) (document_tree T.text_of w) (document_tree T.text_of value.old))) }
+    ensures changed { IfOk result (ChangesFound T.text_of (C.makes change) (tree_at (map W.step_of path.now)) (set_at (map W.step_of path.now)) value.old value.new) }
     ensures absent { IfErr result (λ back. (back ≡ change) × (tree_at (map W.step_of path.now) (document_tree T.text_of value.old) ≡ None) × IsAsItWas T.text_of value.old value.new) }
 {
     let (up, depth) = descend::<W, S, T>(value, path);
