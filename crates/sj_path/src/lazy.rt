@@ -1,12 +1,13 @@
 //! Pointers into lazy documents.
 
-ghost use Rattle.std.specs.Prelude.{◌≡◌, Some, IfErr, IfOk, IfSome, IsSome, IsOk, OnErr, OnOk, option_map, map, string_bytes};
+ghost use Rattle.std.specs.Prelude.{◌≡◌, IfErr, IfOk, IfSome, IsSome, IsOk, OnErr, OnOk, option_map, map, string_bytes};
 ghost use Rattle.std.specs.Borrow.{sem};
 ghost use Rattle.std.specs.Result.{result_ok};
 ghost use Rattle.sj_document.specs.Document.{document_tree, Means};
 ghost use Rattle.sj_document.specs.Rows.{document_row};
 ghost use Rattle.sj_tape.specs.Value.{tape_tree, tape_choice};
 ghost use Rattle.sj_lazy.specs.Value.{value_tree, value_choice, form, part_form, lazy_kept, owned};
+ghost use Rattle.sj_lazy.specs.Edits.{IsOwnedAs};
 ghost use Rattle.sj_lazy.specs.Loans.{LendsPart};
 ghost use Rattle.sj_pointer.specs.Pointed.{token_into, pointed, pointed_by, set_pointed};
 
@@ -96,7 +97,7 @@ pub fn replace<P: Upgrade<T> + Drop, B: Lent<T> + Drop, T: KeyText + Drop>(
     new: Document<T>,
 ) -> Result<Result<Document<T>, Document<T>>, Refused<AllocError, Document<T>>>
     ensures before { IfOk result (λ answer. Means T.text_of (pointed pointer.now (lazy_kept P.part_kept B.lent_tree T.text_of value.old)) (result_ok answer)) }
-    ensures after { OnOk result (owned T.text_of value.new ≡ Some (set_pointed pointer.now (document_tree T.text_of new) (lazy_kept P.part_kept B.lent_tree T.text_of value.old))) }
+    ensures after { OnOk result (IsOwnedAs P.part_kept B.lent_tree T.text_of (set_pointed pointer.now (document_tree T.text_of new)) value.old value.new) }
     ensures back { IfOk result (λ answer. IfErr answer (λ given. given ≡ new)) }
     ensures refused { OnErr result (value.new ≡ value.old) }
     ensures returned { IfErr result (λ refused. refused.value ≡ new) }

@@ -1,10 +1,8 @@
 //! Changes of a part, which are handed in. Each makes the value an owned document first.
 
-ghost use Rattle.std.specs.Prelude.{◌≡◌, Some, None, IfOk, IfErr, IsSome, IsOk};
+ghost use Rattle.std.specs.Prelude.{◌≡◌, IfOk, IfErr, IsSome, IsOk};
 ghost use Rattle.sj_text_core.specs.Find.{find, nth};
 ghost use Rattle.sj_text_core.specs.Paths.{by_key, by_place, set_found};
-ghost use Rattle.sj_document.specs.Document.{document_tree};
-ghost use Rattle.sj_document.specs.declared.value.Document.{Document};
 
 use super::Lazy;
 use crate::upgrade::{Lent, Upgrade};
@@ -14,7 +12,8 @@ use sj_text_core::Refused;
 use std::alloc::{AllocError, Global};
 
 impl<P: Upgrade<T> + Drop, B: Lent<T> + Drop, T: KeyText + Drop> Lazy<P, B, T> {
-    ghost use Rattle.sj_lazy.specs.Value.{lazy_kept, owned};
+    ghost use Rattle.sj_lazy.specs.Value.{owned};
+    ghost use Rattle.sj_lazy.specs.Edits.{ChangesKept, ComesBack};
 
     /// Changes the value of the key, once it is owned, and answers what the change does. It is then
     /// as it was kept, with what the change left in the place of that value. Where there is none it
@@ -26,8 +25,8 @@ impl<P: Upgrade<T> + Drop, B: Lent<T> + Drop, T: KeyText + Drop> Lazy<P, B, T> {
         key: &str,
         change: C,
     ) -> Result<Result<C::Answer, C>, Refused<AllocError, C>>
-        ensures changed { IfOk result (λ done. IfOk done (λ answer. (v : Document T) × (w : Document T) × (Some (document_tree T.text_of v) ≡ find key.now (lazy_kept P.part_kept B.lent_tree T.text_of self.old)) × C.makes change v w answer × (owned T.text_of self.new ≡ Some (set_found (by_key key.now) (document_tree T.text_of w) (lazy_kept P.part_kept B.lent_tree T.text_of self.old))))) }
-        ensures absent { IfOk result (λ done. IfErr done (λ back. (back ≡ change) × (None ≡ find key.now (lazy_kept P.part_kept B.lent_tree T.text_of self.old)) × (owned T.text_of self.new ≡ Some (lazy_kept P.part_kept B.lent_tree T.text_of self.old)))) }
+        ensures changed { IfOk result (λ done. IfOk done (ChangesKept P.part_kept B.lent_tree T.text_of (C.makes change) (λ u o. o ≡ find key.now u) (set_found (by_key key.now)) self.old self.new)) }
+        ensures absent { IfOk result (λ done. IfErr done (ComesBack P.part_kept B.lent_tree T.text_of change (λ u o. o ≡ find key.now u) self.old self.new)) }
         ensures refused { IfErr result (λ r. (r.value ≡ change) × (self.new ≡ self.old)) }
         ensures succeeds { IsSome (owned T.text_of self.old) → IsOk result }
     {
@@ -47,8 +46,8 @@ impl<P: Upgrade<T> + Drop, B: Lent<T> + Drop, T: KeyText + Drop> Lazy<P, B, T> {
         index: usize,
         change: C,
     ) -> Result<Result<C::Answer, C>, Refused<AllocError, C>>
-        ensures changed { IfOk result (λ done. IfOk done (λ answer. (v : Document T) × (w : Document T) × (Some (document_tree T.text_of v) ≡ nth index (lazy_kept P.part_kept B.lent_tree T.text_of self.old)) × C.makes change v w answer × (owned T.text_of self.new ≡ Some (set_found (by_place index) (document_tree T.text_of w) (lazy_kept P.part_kept B.lent_tree T.text_of self.old))))) }
-        ensures absent { IfOk result (λ done. IfErr done (λ back. (back ≡ change) × (None ≡ nth index (lazy_kept P.part_kept B.lent_tree T.text_of self.old)) × (owned T.text_of self.new ≡ Some (lazy_kept P.part_kept B.lent_tree T.text_of self.old)))) }
+        ensures changed { IfOk result (λ done. IfOk done (ChangesKept P.part_kept B.lent_tree T.text_of (C.makes change) (λ u o. o ≡ nth index u) (set_found (by_place index)) self.old self.new)) }
+        ensures absent { IfOk result (λ done. IfErr done (ComesBack P.part_kept B.lent_tree T.text_of change (λ u o. o ≡ nth index u) self.old self.new)) }
         ensures refused { IfErr result (λ r. (r.value ≡ change) × (self.new ≡ self.old)) }
         ensures succeeds { IsSome (owned T.text_of self.old) → IsOk result }
     {

@@ -2,7 +2,7 @@
 //! document first, so it is one after every answer but that of a refused upgrade, which leaves it as it
 //! was.
 
-ghost use Rattle.std.specs.Prelude.{◌≡◌, ◌≤◌, Some, None, option_map, OnOk, IfOk, IfErr, IsSome};
+ghost use Rattle.std.specs.Prelude.{◌≡◌, ◌≤◌, option_map, OnOk, IfOk, IfErr, IsSome};
 ghost use Rattle.std.specs.Option.{ForSome};
 ghost use Rattle.sj_text_core.specs.Tree.{items_len};
 ghost use Rattle.sj_text_core.specs.Find.{nth};
@@ -31,10 +31,10 @@ impl<'b, 't, 'i> Value<'b, 't, 'i> {
 }
 
 impl<P: Upgrade<T> + Drop, B: Lent<T> + Drop, T: KeyText + Drop> Lazy<P, B, T> {
-    ghost use Rattle.sj_document.specs.Document.{document_tree, edit_fault, Means};
+    ghost use Rattle.sj_document.specs.Document.{document_tree, Means};
     ghost use Rattle.sj_document.specs.Items.{with_item_at, without_item_at};
-    ghost use Rattle.sj_lazy.specs.Value.{lazy_kept, owned};
-    ghost use Rattle.sj_lazy.specs.Edits.{IsLeft};
+    ghost use Rattle.sj_lazy.specs.Value.{lazy_kept};
+    ghost use Rattle.sj_lazy.specs.Edits.{IsOwnedAs, IsLeftByPut, IsLeftByRemoval};
 
     /// Inserts an item at that position, counted from 0: in front of the item that stands there, or
     /// behind all where `index` is the `array_len`, which it may not pass. Refused on a non-array
@@ -47,9 +47,9 @@ impl<P: Upgrade<T> + Drop, B: Lent<T> + Drop, T: KeyText + Drop> Lazy<P, B, T> {
         value: Document<T>,
     ) -> Result<(), Refused<AccessError, Document<T>>>
         requires { ForSome (option_map items_len (as_items (lazy_kept P.part_kept B.lent_tree T.text_of self.old))) (λ len. index ≤ len) }
-        ensures after { OnOk result (owned T.text_of self.new ≡ Some (with_item_at index (document_tree T.text_of value) (lazy_kept P.part_kept B.lent_tree T.text_of self.old))) }
+        ensures after { OnOk result (IsOwnedAs P.part_kept B.lent_tree T.text_of (with_item_at index (document_tree T.text_of value)) self.old self.new) }
         ensures array { OnOk result (IsSome (as_items (lazy_kept P.part_kept B.lent_tree T.text_of self.old))) }
-        ensures refused { IfErr result (λ r. IsLeft T.text_of (lazy_kept P.part_kept B.lent_tree T.text_of self.old) self.old self.new (r.why ≡ AccessError.OutOfMemory) (r.why ≡ edit_fault AccessError.NotAnArray (as_items (lazy_kept P.part_kept B.lent_tree T.text_of self.old)))) }
+        ensures refused { IfErr result (λ r. IsLeftByPut P.part_kept B.lent_tree T.text_of as_items AccessError.NotAnArray self.old self.new r.why) }
         ensures returned { IfErr result (λ r. r.value ≡ value) }
     {
         match self.as_mut(alloc) {
@@ -71,9 +71,9 @@ impl<P: Upgrade<T> + Drop, B: Lent<T> + Drop, T: KeyText + Drop> Lazy<P, B, T> {
         index: usize,
     ) -> Result<Option<Document<T>>, AccessError>
         ensures answer { IfOk result (Means T.text_of (nth index (lazy_kept P.part_kept B.lent_tree T.text_of self.old))) }
-        ensures after { OnOk result (owned T.text_of self.new ≡ Some (without_item_at index (lazy_kept P.part_kept B.lent_tree T.text_of self.old))) }
+        ensures after { OnOk result (IsOwnedAs P.part_kept B.lent_tree T.text_of (without_item_at index) self.old self.new) }
         ensures array { OnOk result (IsSome (as_items (lazy_kept P.part_kept B.lent_tree T.text_of self.old))) }
-        ensures refused { IfErr result (λ e. IsLeft T.text_of (lazy_kept P.part_kept B.lent_tree T.text_of self.old) self.old self.new (e ≡ AccessError.OutOfMemory) ((e ≡ AccessError.NotAnArray) × (as_items (lazy_kept P.part_kept B.lent_tree T.text_of self.old) ≡ None))) }
+        ensures refused { IfErr result (IsLeftByRemoval P.part_kept B.lent_tree T.text_of as_items AccessError.NotAnArray self.old self.new) }
     {
         match self.as_mut(alloc) {
             Ok(document) => document.remove_idx(index),

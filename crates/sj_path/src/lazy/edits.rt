@@ -1,14 +1,13 @@
 //! Edits of what a pointer finds in a lazy value. Each makes the value an owned document first, so it
 //! is one after every answer but that of a refused upgrade, which leaves it as it was.
 
-ghost use Rattle.std.specs.Prelude.{◌≡◌, Some, None, option_and_then, IfErr, IfOk, IsOk, IsSome, OnErr, OnOk};
+ghost use Rattle.std.specs.Prelude.{◌≡◌, option_and_then, IfErr, IfOk, IsOk, IsSome, OnErr, OnOk};
 ghost use Rattle.sj_text_core.specs.Tree.{null};
 ghost use Rattle.sj_text_core.specs.Find.{find};
 ghost use Rattle.sj_text_core.specs.Reads.{as_items, as_members};
-ghost use Rattle.sj_document.specs.Document.{document_tree, edit_fault, with_member, without_member, with_item, without_last, last_item, Means};
-ghost use Rattle.sj_document.specs.declared.value.Document.{Document as DocumentOf};
+ghost use Rattle.sj_document.specs.Document.{document_tree, with_member, without_member, with_item, without_last, last_item, Means};
 ghost use Rattle.sj_lazy.specs.Value.{lazy_kept, owned};
-ghost use Rattle.sj_lazy.specs.Edits.{IsLeft};
+ghost use Rattle.sj_lazy.specs.Edits.{IsOwnedAs, IsLeftByPut, IsLeftByRemoval, ChangesKept, ComesBack};
 ghost use Rattle.sj_pointer.specs.Pointed.{pointed, set_pointed};
 ghost use Rattle.sj_path.specs.Changes.{changed_at};
 ghost use Rattle.sj_path.specs.Made.{set_made};
@@ -30,8 +29,8 @@ pub fn update<P: Upgrade<T> + Drop, B: Lent<T> + Drop, T: KeyText + Drop, C: Cha
     pointer: &Pointer,
     change: C,
 ) -> Result<Result<C::Answer, C>, Refused<AllocError, C>>
-    ensures changed { IfOk result (λ made. IfOk made (λ answer. (v : DocumentOf T) × (w : DocumentOf T) × (pointed pointer.now (lazy_kept P.part_kept B.lent_tree T.text_of value.old) ≡ Some (document_tree T.text_of v)) × C.makes change v w answer × (owned T.text_of value.new ≡ Some (set_pointed pointer.now (document_tree T.text_of w) (lazy_kept P.part_kept B.lent_tree T.text_of value.old))))) }
-    ensures absent { IfOk result (λ made. IfErr made (λ back. (back ≡ change) × (pointed pointer.now (lazy_kept P.part_kept B.lent_tree T.text_of value.old) ≡ None) × (owned T.text_of value.new ≡ Some (lazy_kept P.part_kept B.lent_tree T.text_of value.old)))) }
+    ensures changed { IfOk result (λ made. IfOk made (ChangesKept P.part_kept B.lent_tree T.text_of (C.makes change) (λ u o. pointed pointer.now u ≡ o) (set_pointed pointer.now) value.old value.new)) }
+    ensures absent { IfOk result (λ made. IfErr made (ComesBack P.part_kept B.lent_tree T.text_of change (λ u o. pointed pointer.now u ≡ o) value.old value.new)) }
     ensures refused { OnErr result (value.new ≡ value.old) }
     ensures returned { IfErr result (λ refused. refused.value ≡ change) }
     ensures succeeds { IsSome (owned T.text_of value.old) → IsOk result }
@@ -55,9 +54,9 @@ pub fn insert<P: Upgrade<T> + Drop, B: Lent<T> + Drop, T: KeyText + Drop>(
     new: Document<T>,
 ) -> Result<Option<Document<T>>, Refused<AccessError, Document<T>>>
     ensures answer { IfOk result (Means T.text_of (option_and_then (find (T.text_of key)) (pointed pointer.now (lazy_kept P.part_kept B.lent_tree T.text_of value.old)))) }
-    ensures after { OnOk result (owned T.text_of value.new ≡ Some (changed_at pointer.now (with_member (T.text_of key) (document_tree T.text_of new)) (lazy_kept P.part_kept B.lent_tree T.text_of value.old))) }
+    ensures after { OnOk result (IsOwnedAs P.part_kept B.lent_tree T.text_of (changed_at pointer.now (with_member (T.text_of key) (document_tree T.text_of new))) value.old value.new) }
     ensures object { OnOk result (IsSome (option_and_then as_members (pointed pointer.now (lazy_kept P.part_kept B.lent_tree T.text_of value.old)))) }
-    ensures refused { IfErr result (λ r. IsLeft T.text_of (lazy_kept P.part_kept B.lent_tree T.text_of value.old) value.old value.new (r.why ≡ AccessError.OutOfMemory) (r.why ≡ edit_fault AccessError.NotAnObject (option_and_then as_members (pointed pointer.now (lazy_kept P.part_kept B.lent_tree T.text_of value.old))))) }
+    ensures refused { IfErr result (λ r. IsLeftByPut P.part_kept B.lent_tree T.text_of (λ u. option_and_then as_members (pointed pointer.now u)) AccessError.NotAnObject value.old value.new r.why) }
     ensures returned { IfErr result (λ r. r.value ≡ new) }
     ensures succeeds { IsSome (owned T.text_of value.old) → IsSome (option_and_then (find (T.text_of key)) (pointed pointer.now (lazy_kept P.part_kept B.lent_tree T.text_of value.old))) → IsOk result }
 {
@@ -81,9 +80,9 @@ pub fn remove<P: Upgrade<T> + Drop, B: Lent<T> + Drop, T: KeyText + Drop>(
     key: &str,
 ) -> Result<Option<Document<T>>, AccessError>
     ensures answer { IfOk result (Means T.text_of (option_and_then (find key.now) (pointed pointer.now (lazy_kept P.part_kept B.lent_tree T.text_of value.old)))) }
-    ensures after { OnOk result (owned T.text_of value.new ≡ Some (changed_at pointer.now (without_member key.now) (lazy_kept P.part_kept B.lent_tree T.text_of value.old))) }
+    ensures after { OnOk result (IsOwnedAs P.part_kept B.lent_tree T.text_of (changed_at pointer.now (without_member key.now)) value.old value.new) }
     ensures object { OnOk result (IsSome (option_and_then as_members (pointed pointer.now (lazy_kept P.part_kept B.lent_tree T.text_of value.old)))) }
-    ensures refused { IfErr result (λ e. IsLeft T.text_of (lazy_kept P.part_kept B.lent_tree T.text_of value.old) value.old value.new (e ≡ AccessError.OutOfMemory) ((e ≡ AccessError.NotAnObject) × (option_and_then as_members (pointed pointer.now (lazy_kept P.part_kept B.lent_tree T.text_of value.old)) ≡ None))) }
+    ensures refused { IfErr result (IsLeftByRemoval P.part_kept B.lent_tree T.text_of (λ u. option_and_then as_members (pointed pointer.now u)) AccessError.NotAnObject value.old value.new) }
 {
     match value.as_mut(alloc) {
         Ok(document) => edits::remove(document, pointer, key),
@@ -100,9 +99,9 @@ pub fn push<P: Upgrade<T> + Drop, B: Lent<T> + Drop, T: KeyText + Drop>(
     pointer: &Pointer,
     new: Document<T>,
 ) -> Result<(), Refused<AccessError, Document<T>>>
-    ensures after { OnOk result (owned T.text_of value.new ≡ Some (changed_at pointer.now (with_item (document_tree T.text_of new)) (lazy_kept P.part_kept B.lent_tree T.text_of value.old))) }
+    ensures after { OnOk result (IsOwnedAs P.part_kept B.lent_tree T.text_of (changed_at pointer.now (with_item (document_tree T.text_of new))) value.old value.new) }
     ensures array { OnOk result (IsSome (option_and_then as_items (pointed pointer.now (lazy_kept P.part_kept B.lent_tree T.text_of value.old)))) }
-    ensures refused { IfErr result (λ r. IsLeft T.text_of (lazy_kept P.part_kept B.lent_tree T.text_of value.old) value.old value.new (r.why ≡ AccessError.OutOfMemory) (r.why ≡ edit_fault AccessError.NotAnArray (option_and_then as_items (pointed pointer.now (lazy_kept P.part_kept B.lent_tree T.text_of value.old))))) }
+    ensures refused { IfErr result (λ r. IsLeftByPut P.part_kept B.lent_tree T.text_of (λ u. option_and_then as_items (pointed pointer.now u)) AccessError.NotAnArray value.old value.new r.why) }
     ensures returned { IfErr result (λ r. r.value ≡ new) }
 {
     match value.as_mut(alloc) {
@@ -124,9 +123,9 @@ pub fn pop<P: Upgrade<T> + Drop, B: Lent<T> + Drop, T: KeyText + Drop>(
     pointer: &Pointer,
 ) -> Result<Option<Document<T>>, AccessError>
     ensures answer { IfOk result (Means T.text_of (option_and_then last_item (pointed pointer.now (lazy_kept P.part_kept B.lent_tree T.text_of value.old)))) }
-    ensures after { OnOk result (owned T.text_of value.new ≡ Some (changed_at pointer.now without_last (lazy_kept P.part_kept B.lent_tree T.text_of value.old))) }
+    ensures after { OnOk result (IsOwnedAs P.part_kept B.lent_tree T.text_of (changed_at pointer.now without_last) value.old value.new) }
     ensures array { OnOk result (IsSome (option_and_then as_items (pointed pointer.now (lazy_kept P.part_kept B.lent_tree T.text_of value.old)))) }
-    ensures refused { IfErr result (λ e. IsLeft T.text_of (lazy_kept P.part_kept B.lent_tree T.text_of value.old) value.old value.new (e ≡ AccessError.OutOfMemory) ((e ≡ AccessError.NotAnArray) × (option_and_then as_items (pointed pointer.now (lazy_kept P.part_kept B.lent_tree T.text_of value.old)) ≡ None))) }
+    ensures refused { IfErr result (IsLeftByRemoval P.part_kept B.lent_tree T.text_of (λ u. option_and_then as_items (pointed pointer.now u)) AccessError.NotAnArray value.old value.new) }
 {
     match value.as_mut(alloc) {
         Ok(document) => edits::pop(document, pointer),
@@ -142,7 +141,7 @@ pub fn take<P: Upgrade<T> + Drop, B: Lent<T> + Drop, T: KeyText + Drop>(
     pointer: &Pointer,
 ) -> Result<Option<Document<T>>, AllocError>
     ensures answer { IfOk result (Means T.text_of (pointed pointer.now (lazy_kept P.part_kept B.lent_tree T.text_of value.old))) }
-    ensures after { OnOk result (owned T.text_of value.new ≡ Some (set_pointed pointer.now null (lazy_kept P.part_kept B.lent_tree T.text_of value.old))) }
+    ensures after { OnOk result (IsOwnedAs P.part_kept B.lent_tree T.text_of (set_pointed pointer.now null) value.old value.new) }
     ensures refused { OnErr result (value.new ≡ value.old) }
     ensures succeeds { IsSome (owned T.text_of value.old) → IsOk result }
 {
@@ -162,7 +161,7 @@ pub fn set<P: Upgrade<T> + Drop, B: Lent<T> + Drop, T: OwnedText + Drop>(
     ensures answer { IfOk result (Means T.text_of (pointed pointer.now (lazy_kept P.part_kept B.lent_tree T.text_of value.old))) }
     ensures after { OnOk result (owned T.text_of value.new ≡ set_made pointer.now (document_tree T.text_of new) (lazy_kept P.part_kept B.lent_tree T.text_of value.old)) }
     ensures made { OnOk result (IsSome (set_made pointer.now (document_tree T.text_of new) (lazy_kept P.part_kept B.lent_tree T.text_of value.old))) }
-    ensures refused { IfErr result (λ r. IsLeft T.text_of (lazy_kept P.part_kept B.lent_tree T.text_of value.old) value.old value.new (r.why ≡ AccessError.OutOfMemory) (r.why ≡ edit_fault AccessError.NotAnObject (set_made pointer.now (document_tree T.text_of new) (lazy_kept P.part_kept B.lent_tree T.text_of value.old)))) }
+    ensures refused { IfErr result (λ r. IsLeftByPut P.part_kept B.lent_tree T.text_of (set_made pointer.now (document_tree T.text_of new)) AccessError.NotAnObject value.old value.new r.why) }
     ensures returned { IfErr result (λ r. r.value ≡ new) }
     ensures succeeds { IsSome (owned T.text_of value.old) → IsSome (pointed pointer.now (lazy_kept P.part_kept B.lent_tree T.text_of value.old)) → IsOk result }
 {
