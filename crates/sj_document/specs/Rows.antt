@@ -1,7 +1,8 @@
 -- The types of what a document lends, as the logic names them.
-use Rattle.std.specs.Prelude.{◌≡◌, ⊤}
-use Rattle.std.specs.Borrow.{RattleType, MutBor, Fml, follows_so}
+use Rattle.std.specs.Prelude.{◌≡◌, Option, OnSome, ⊤}
+use Rattle.std.specs.Borrow.{RattleType, MutBor, Fml, LendsSo, follows_so}
 use mathlib.Core.Option as maybe
+use Rattle.sj_text_core.specs.Tree.{Tree}
 use Rattle.sj_text_core.specs.Paths.{Step, set_found}
 use Rattle.sj_document.specs.Document.{document_tree}
 use Rattle.std.specs.contracts.alloc.Global as heap
@@ -22,6 +23,10 @@ module _ (T : RattleType) (key : KeyMembers T.Denot) where
 
   abbrev pub array_row : RattleType
   array_row = vec.the_row document_row heap.the_row alloc.ghosts
+
+  -- d ends as `left` makes of the last value behind r and of its tree, where something is found, and else as it was
+  abbrev pub LendsIfFound : (X : RattleType) → MutBor document_row.Denot → Option (MutBor X.Denot) → (X.Denot → Tree → Tree) → Fml
+  LendsIfFound X d r left = LendsSo document_row X d r (λ n w. OnSome r (document_tree key.text_of n ≡ left w (document_tree key.text_of d.now))) (λ n. document_tree key.text_of n ≡ document_tree key.text_of d.now)
 
   -- d ends with the last value behind r in the place of what the step finds
   abbrev pub LendsFound : MutBor document_row.Denot → MutBor document_row.Denot → Step → Fml

@@ -14,9 +14,9 @@ abbrev pub found_name : {A E : Type 0} → Result (Option (MutBor A)) E → mayb
 found_name (Ok found) = ghost_name_of found
 found_name (Err e) = maybe.none
 
--- v ends owned: with the tree that a last value behind what is found gives, and as u where nothing is found; refused, as it was
+-- v ends owned: with the tree that `left` makes of the last value behind what is found and of u, and as u where nothing is found; refused, as it was
 module _ (P B T : RattleType) (key : KeyMembers T.Denot) (X : RattleType) where
-  abbrev pub LendsPart : MutBor (lazy_row P B T key).Denot → Result (Option (MutBor X.Denot)) AllocError → (X.Denot → Tree) → Tree → Fml
-  LendsPart v r gives u = follows_so (lazy_row P B T key) X v.ghost_name (found_name r)
-      (λ w n. IfOk r (λ found. OnSome found (owned key.text_of n ≡ Some (gives w))))
+  abbrev pub LendsPart : MutBor (lazy_row P B T key).Denot → Result (Option (MutBor X.Denot)) AllocError → (X.Denot → Tree → Tree) → Tree → Fml
+  LendsPart v r left u = follows_so (lazy_row P B T key) X v.ghost_name (found_name r)
+      (λ w n. IfOk r (λ found. OnSome found (owned key.text_of n ≡ Some (left w u))))
       (λ n. MatchResult r (λ _. owned key.text_of n ≡ Some u) (λ _. n ≡ v.now))

@@ -77,7 +77,7 @@ pub fn find_mut<'v, P: Upgrade<T> + Drop, B: Lent<T> + Drop, T: KeyText + Drop>(
     pointer: &Pointer,
 ) -> Result<Option<&'v mut Document<T>>, AllocError>
     ensures* writes_back { sem 𝓛 (LendsPart P.row B.row T.row T.KeyText (document_row T.row T.KeyText) value.entry result
-        (λ w. set_pointed pointer.now (document_tree T.text_of w) (lazy_kept P.part_kept B.lent_tree T.text_of value.old)) (lazy_kept P.part_kept B.lent_tree T.text_of value.old)) }
+        (λ w. set_pointed pointer.now (document_tree T.text_of w)) (lazy_kept P.part_kept B.lent_tree T.text_of value.old)) }
     ensures value { IfOk result (λ found. option_map (λ v. document_tree T.text_of v.now) found ≡ pointed pointer.now (lazy_kept P.part_kept B.lent_tree T.text_of value.old)) }
     ensures succeeds { IsSome (owned T.text_of value.old) → IsOk result }
 {

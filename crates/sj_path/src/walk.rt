@@ -1,10 +1,10 @@
 //! The walk over a document.
 
-ghost use Rattle.std.specs.Prelude.{◌≡◌, ◌<◌, ◌^◌, ◌+◌, map, option_and_then, option_map, string_bytes, IfSome, OnSome};
-ghost use Rattle.std.specs.Borrow.{LendsSo, sem};
+ghost use Rattle.std.specs.Prelude.{◌≡◌, ◌<◌, ◌^◌, ◌+◌, map, option_and_then, option_map, string_bytes, IfSome};
+ghost use Rattle.std.specs.Borrow.{sem};
 ghost use Rattle.std.specs.List.{slice_get};
 ghost use Rattle.sj_document.specs.Document.{document_tree};
-ghost use Rattle.sj_document.specs.Rows.{document_row};
+ghost use Rattle.sj_document.specs.Rows.{document_row, LendsIfFound};
 ghost use Rattle.sj_text_core.specs.Paths.{by_token, set_found};
 ghost use Rattle.sj_text_core.specs.Places.{place_of};
 ghost use Rattle.sj_text_core.specs.Reads.{as_items};
@@ -57,8 +57,7 @@ fn place_in<T: KeyText>(value: &Document<T>, token: &str) -> Option<usize>
 
 /// What one token finds, to write.
 fn step_mut<'v, T: KeyText>(value: &'v mut Document<T>, token: &str) -> Option<&'v mut Document<T>>
-    ensures* writes_back { sem 𝓛 (LendsSo (document_row T.row T.KeyText) (document_row T.row T.KeyText) value.entry result
-        (λ n w. OnSome result (document_tree T.text_of n ≡ set_found (by_token token.now) (document_tree T.text_of w) (document_tree T.text_of value.old))) (λ n. document_tree T.text_of n ≡ document_tree T.text_of value.old)) }
+    ensures* writes_back { sem 𝓛 (LendsIfFound T.row T.KeyText (document_row T.row T.KeyText) value.entry result (λ w. set_found (by_token token.now) (document_tree T.text_of w))) }
     ensures value { option_map (λ v. document_tree T.text_of v.now) result ≡ token_into First token.now (document_tree T.text_of value.old) }
 {
     match place_in(value, token) {
@@ -81,8 +80,7 @@ pub fn find_mut<'v, T: KeyText>(
     value: &'v mut Document<T>,
     pointer: &Pointer,
 ) -> Option<&'v mut Document<T>>
-    ensures* writes_back { sem 𝓛 (LendsSo (document_row T.row T.KeyText) (document_row T.row T.KeyText) value.entry result
-        (λ n w. OnSome result (document_tree T.text_of n ≡ set_pointed pointer.now (document_tree T.text_of w) (document_tree T.text_of value.old))) (λ n. document_tree T.text_of n ≡ document_tree T.text_of value.old)) }
+    ensures* writes_back { sem 𝓛 (LendsIfFound T.row T.KeyText (document_row T.row T.KeyText) value.entry result (λ w. set_pointed pointer.now (document_tree T.text_of w))) }
     ensures value { option_map (λ v. document_tree T.text_of v.now) result ≡ pointed pointer.now (document_tree T.text_of value.old) }
 {
     let mut at = value;

@@ -1,6 +1,6 @@
 //! What reads a part of a document, lends it for writing, or takes it out.
 
-ghost use Rattle.std.specs.Prelude.{◌≡◌, option_map, is_some, map, OnSome};
+ghost use Rattle.std.specs.Prelude.{◌≡◌, option_map, is_some, map};
 ghost use Rattle.std.specs.Result.{result_map_both};
 ghost use Rattle.sj_text_core.specs.Find.{find, nth};
 ghost use Rattle.sj_text_core.specs.Reads.{kind_of, as_items, as_members, as_text, read_as, found_in};
@@ -12,14 +12,14 @@ use sj_object::KeyText;
 use sj_text_core::{TryTypeError, TypedValue, ValueType};
 
 impl<T: KeyText> Document<T> {
-    ghost use Rattle.std.specs.Borrow.{LendsSo, LendsIf, sem};
+    ghost use Rattle.std.specs.Borrow.{LendsIf, sem};
     ghost use Rattle.std.specs.Option.{option_copied_mut};
     ghost use Rattle.std.specs.Vec.{with_item};
     ghost use Rattle.sj_text_core.specs.Find.{nth_item};
     ghost use Rattle.sj_text_core.specs.Paths.{by_key, by_place, set_found};
     ghost use Rattle.sj_object.specs.Edits.{lookup, with_value};
     ghost use Rattle.sj_document.specs.Document.{document_tree};
-    ghost use Rattle.sj_document.specs.Rows.{document_row, object_row, array_row};
+    ghost use Rattle.sj_document.specs.Rows.{document_row, object_row, array_row, LendsIfFound};
 
     /// The value of the key; None where there is none, and on a non-object.
     pub fn get(&self, key: &str) -> Option<&Document<T>>
@@ -123,8 +123,7 @@ impl<T: KeyText> Document<T> {
     /// The items, to write, where it is an array; else None. The document is then the array of what
     /// they last were.
     pub fn as_array_mut(&mut self) -> Option<&mut Vec<Document<T>>>
-        ensures* writes_back { sem 𝓛 (LendsSo (document_row T.row T.KeyText) (array_row T.row T.KeyText) self.entry result
-            (λ n w. OnSome result (document_tree T.text_of n ≡ list (items_from (map (document_tree T.text_of) w.items)))) (λ n. document_tree T.text_of n ≡ document_tree T.text_of self.old)) }
+        ensures* writes_back { sem 𝓛 (LendsIfFound T.row T.KeyText (array_row T.row T.KeyText) self.entry result (λ w _. list (items_from (map (document_tree T.text_of) w.items)))) }
         ensures value { option_map (λ v. items_from (map (document_tree T.text_of) v.now.items)) result ≡ as_items (document_tree T.text_of self.old) }
     {
         match self {
@@ -136,8 +135,7 @@ impl<T: KeyText> Document<T> {
     /// The map, to write, where it is an object; else None. The document is then the object of what
     /// it last was.
     pub fn as_object_mut(&mut self) -> Option<&mut Object<T>>
-        ensures* writes_back { sem 𝓛 (LendsSo (document_row T.row T.KeyText) (object_row T.row T.KeyText) self.entry result
-            (λ n w. OnSome result (document_tree T.text_of n ≡ obj (entry_members (document_tree T.text_of) w.entries))) (λ n. document_tree T.text_of n ≡ document_tree T.text_of self.old)) }
+        ensures* writes_back { sem 𝓛 (LendsIfFound T.row T.KeyText (object_row T.row T.KeyText) self.entry result (λ w _. obj (entry_members (document_tree T.text_of) w.entries))) }
         ensures value { option_map (λ m. entry_members (document_tree T.text_of) m.now.entries) result ≡ as_members (document_tree T.text_of self.old) }
     {
         match self {
@@ -158,8 +156,7 @@ impl<T: KeyText> Document<T> {
     /// The value of the key, to write; None where there is none, and on a non-object. The document
     /// is then as it was, with what the reference last held in the place of that value.
     pub fn get_mut(&mut self, key: &str) -> Option<&mut Document<T>>
-        ensures* writes_back { sem 𝓛 (LendsSo (document_row T.row T.KeyText) (document_row T.row T.KeyText) self.entry result
-            (λ n w. OnSome result (document_tree T.text_of n ≡ set_found (by_key key.now) (document_tree T.text_of w) (document_tree T.text_of self.old))) (λ n. document_tree T.text_of n ≡ document_tree T.text_of self.old)) }
+        ensures* writes_back { sem 𝓛 (LendsIfFound T.row T.KeyText (document_row T.row T.KeyText) self.entry result (λ w. set_found (by_key key.now) (document_tree T.text_of w))) }
         ensures value { option_map (λ v. document_tree T.text_of v.now) result ≡ find key.now (document_tree T.text_of self.old) }
     {
         match self.as_object_mut() {
@@ -179,8 +176,7 @@ impl<T: KeyText> Document<T> {
     /// The item at that position, counted from 0, to write; None past the last, and on a non-array.
     /// The document is then as it was, with what the reference last held in the place of that item.
     pub fn get_idx_mut(&mut self, index: usize) -> Option<&mut Document<T>>
-        ensures* writes_back { sem 𝓛 (LendsSo (document_row T.row T.KeyText) (document_row T.row T.KeyText) self.entry result
-            (λ n w. OnSome result (document_tree T.text_of n ≡ set_found (by_place index) (document_tree T.text_of w) (document_tree T.text_of self.old))) (λ n. document_tree T.text_of n ≡ document_tree T.text_of self.old)) }
+        ensures* writes_back { sem 𝓛 (LendsIfFound T.row T.KeyText (document_row T.row T.KeyText) self.entry result (λ w. set_found (by_place index) (document_tree T.text_of w))) }
         ensures value { option_map (λ v. document_tree T.text_of v.now) result ≡ nth index (document_tree T.text_of self.old) }
     {
         match self.as_array_mut() {

@@ -66,7 +66,7 @@ impl<P: Upgrade<T> + Drop, B: Lent<T> + Drop, T: KeyText + Drop> Lazy<P, B, T> {
     /// object of what they last were. Refused for want of memory, it is as it was.
     pub fn as_object_mut(&mut self, alloc: Global) -> Result<Option<&mut Object<T>>, AllocError>
         ensures* writes_back { sem 𝓛 (LendsPart P.row B.row T.row T.KeyText (object_row T.row T.KeyText) self.entry result
-            (λ w. obj (entry_members (document_tree T.text_of) w.entries)) (lazy_kept P.part_kept B.lent_tree T.text_of self.old)) }
+            (λ w _. obj (entry_members (document_tree T.text_of) w.entries)) (lazy_kept P.part_kept B.lent_tree T.text_of self.old)) }
         ensures value { IfOk result (λ found. option_map (λ m. entry_members (document_tree T.text_of) m.now.entries) found ≡ as_members (lazy_kept P.part_kept B.lent_tree T.text_of self.old)) }
         ensures succeeds { IsSome (owned T.text_of self.old) → IsOk result }
     {
@@ -83,7 +83,7 @@ impl<P: Upgrade<T> + Drop, B: Lent<T> + Drop, T: KeyText + Drop> Lazy<P, B, T> {
         alloc: Global,
     ) -> Result<Option<&mut Vec<Document<T>>>, AllocError>
         ensures* writes_back { sem 𝓛 (LendsPart P.row B.row T.row T.KeyText (array_row T.row T.KeyText) self.entry result
-            (λ w. list (items_from (map (document_tree T.text_of) w.items))) (lazy_kept P.part_kept B.lent_tree T.text_of self.old)) }
+            (λ w _. list (items_from (map (document_tree T.text_of) w.items))) (lazy_kept P.part_kept B.lent_tree T.text_of self.old)) }
         ensures value { IfOk result (λ found. option_map (λ v. items_from (map (document_tree T.text_of) v.now.items)) found ≡ as_items (lazy_kept P.part_kept B.lent_tree T.text_of self.old)) }
         ensures succeeds { IsSome (owned T.text_of self.old) → IsOk result }
     {
@@ -102,7 +102,7 @@ impl<P: Upgrade<T> + Drop, B: Lent<T> + Drop, T: KeyText + Drop> Lazy<P, B, T> {
         key: &str,
     ) -> Result<Option<&mut Document<T>>, AllocError>
         ensures* writes_back { sem 𝓛 (LendsPart P.row B.row T.row T.KeyText (document_row T.row T.KeyText) self.entry result
-            (λ w. set_found (by_key key.now) (document_tree T.text_of w) (lazy_kept P.part_kept B.lent_tree T.text_of self.old)) (lazy_kept P.part_kept B.lent_tree T.text_of self.old)) }
+            (λ w. set_found (by_key key.now) (document_tree T.text_of w)) (lazy_kept P.part_kept B.lent_tree T.text_of self.old)) }
         ensures value { IfOk result (λ found. option_map (λ v. document_tree T.text_of v.now) found ≡ find key.now (lazy_kept P.part_kept B.lent_tree T.text_of self.old)) }
         ensures succeeds { IsSome (owned T.text_of self.old) → IsOk result }
     {
@@ -121,7 +121,7 @@ impl<P: Upgrade<T> + Drop, B: Lent<T> + Drop, T: KeyText + Drop> Lazy<P, B, T> {
         index: usize,
     ) -> Result<Option<&mut Document<T>>, AllocError>
         ensures* writes_back { sem 𝓛 (LendsPart P.row B.row T.row T.KeyText (document_row T.row T.KeyText) self.entry result
-            (λ w. set_found (by_place index) (document_tree T.text_of w) (lazy_kept P.part_kept B.lent_tree T.text_of self.old)) (lazy_kept P.part_kept B.lent_tree T.text_of self.old)) }
+            (λ w. set_found (by_place index) (document_tree T.text_of w)) (lazy_kept P.part_kept B.lent_tree T.text_of self.old)) }
         ensures value { IfOk result (λ found. option_map (λ v. document_tree T.text_of v.now) found ≡ nth index (lazy_kept P.part_kept B.lent_tree T.text_of self.old)) }
         ensures succeeds { IsSome (owned T.text_of self.old) → IsOk result }
     {
