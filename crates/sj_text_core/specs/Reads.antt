@@ -58,6 +58,10 @@ abbrev pub read_as : {T : Type 0} → Option T → ValueType → ValueType → R
 read_as (Some x) expected got = Ok x
 read_as None expected got = Err (record { expected = expected; got = got })
 
+-- such a read of a tree
+abbrev pub try_as : {A : Type 0} → (Tree → Option A) → ValueType → Tree → Result A TryTypeError
+try_as read expected t = read_as (read t) expected (kind_of t)
+
 -- a typed read of a member: none where the key is absent, or its value is no such one
 abbrev pub member_as : {A : Type 0} → (Tree → Option A) → Option Tree → Option A
 member_as read None = None
@@ -67,6 +71,10 @@ member_as read (Some u) = read u
 abbrev pub found_in : {P A : Type 0} → Option P → ValueType → A → Result A TryTypeError
 found_in None got found = Err (record { expected = kind.Object; got = got })
 found_in (Some ms) got found = Ok found
+
+-- so of a tree
+abbrev pub try_found : {A : Type 0} → Tree → A → Result A TryTypeError
+try_found t found = found_in (as_members t) (kind_of t) found
 
 -- the value, which has to be there
 abbrev pub some_as : {A : Type 0} → Option A → ValueType → ValueType → Result (Option A) TryTypeError

@@ -3,7 +3,7 @@
 ghost use Rattle.std.specs.Prelude.{◌≡◌, option_map, is_some, map};
 ghost use Rattle.std.specs.Result.{result_map_both};
 ghost use Rattle.sj_text_core.specs.Find.{find, nth};
-ghost use Rattle.sj_text_core.specs.Reads.{kind_of, as_items, as_members, as_text, read_as, found_in};
+ghost use Rattle.sj_text_core.specs.Reads.{as_items, as_members, as_text, try_as, try_found};
 ghost use Rattle.sj_text_core.specs.Tree.{items_from, list, obj};
 ghost use Rattle.sj_object.specs.Members.{entry_members};
 
@@ -33,7 +33,7 @@ impl<T: KeyText> Document<T> {
 
     /// As `get`; of a non-object, which kind it is.
     pub fn try_get(&self, key: &str) -> Result<Option<&Document<T>>, TryTypeError>
-        ensures { result_map_both (option_map (λ v. document_tree T.text_of v.now)) (λ e. e) result ≡ found_in (as_members (document_tree T.text_of self.now)) (kind_of (document_tree T.text_of self.now)) (find key.now (document_tree T.text_of self.now)) }
+        ensures { result_map_both (option_map (λ v. document_tree T.text_of v.now)) (λ e. e) result ≡ try_found (document_tree T.text_of self.now) (find key.now (document_tree T.text_of self.now)) }
     {
         match self {
             Document::Object(members) => Ok(members.get(key)),
@@ -63,7 +63,7 @@ impl<T: KeyText> Document<T> {
 
     /// As `get_idx`; of a non-array, which kind it is.
     pub fn try_get_idx(&self, index: usize) -> Result<Option<&Document<T>>, TryTypeError>
-        ensures { result_map_both (option_map (λ v. document_tree T.text_of v.now)) (λ e. e) result ≡ read_as (option_map (λ _. nth index (document_tree T.text_of self.now)) (as_items (document_tree T.text_of self.now))) ValueType.Array (kind_of (document_tree T.text_of self.now)) }
+        ensures { result_map_both (option_map (λ v. document_tree T.text_of v.now)) (λ e. e) result ≡ try_as (λ u. option_map (λ _. nth index u) (as_items u)) ValueType.Array (document_tree T.text_of self.now) }
     {
         match self {
             Document::Array(items) => Ok(items.get(index)),
@@ -86,7 +86,7 @@ impl<T: KeyText> Document<T> {
 
     /// The items, where it is an array; else which kind it is.
     pub fn try_as_array(&self) -> Result<&Vec<Document<T>>, TryTypeError>
-        ensures { result_map_both (λ v. items_from (map (document_tree T.text_of) v.now.items)) (λ e. e) result ≡ read_as (as_items (document_tree T.text_of self.now)) ValueType.Array (kind_of (document_tree T.text_of self.now)) }
+        ensures { result_map_both (λ v. items_from (map (document_tree T.text_of) v.now.items)) (λ e. e) result ≡ try_as as_items ValueType.Array (document_tree T.text_of self.now) }
     {
         match self.as_array() {
             Some(items) => Ok(items),
@@ -109,7 +109,7 @@ impl<T: KeyText> Document<T> {
 
     /// The members, where it is an object; else which kind it is.
     pub fn try_as_object(&self) -> Result<&Object<T>, TryTypeError>
-        ensures { result_map_both (λ m. entry_members (document_tree T.text_of) m.now.entries) (λ e. e) result ≡ read_as (as_members (document_tree T.text_of self.now)) ValueType.Object (kind_of (document_tree T.text_of self.now)) }
+        ensures { result_map_both (λ m. entry_members (document_tree T.text_of) m.now.entries) (λ e. e) result ≡ try_as as_members ValueType.Object (document_tree T.text_of self.now) }
     {
         match self.as_object() {
             Some(members) => Ok(members),

@@ -5,7 +5,7 @@ ghost use Rattle.std.specs.Prelude.{◌≡◌, option_map, is_some, IfOk, IfSome
 ghost use Rattle.std.specs.Cow.{cow_str_bytes};
 ghost use Rattle.std.specs.Result.{result_map_both};
 ghost use Rattle.sj_text_core.specs.Find.{nth, nth_item};
-ghost use Rattle.sj_text_core.specs.Reads.{kind_of, as_items, as_members, read_as, found_in};
+ghost use Rattle.sj_text_core.specs.Reads.{kind_of, as_items, as_members, try_as, try_found};
 ghost use Rattle.sj_document.specs.Document.{document_tree};
 
 use super::{Lazy, Shared, Value, ValueCow};
@@ -95,7 +95,7 @@ impl<'b, 't, 'i> Value<'b, 't, 'i> {
 
     /// As `get`; of a non-object, that an object was expected and which kind it is.
     pub fn try_get(&self, key: &str) -> Result<Option<Value<'_, 't, 'i>>, TryTypeError>
-        ensures value { result_map_both (option_map value_tree) (λ e. e) result ≡ found_in (as_members (value_tree self.now)) (kind_of (value_tree self.now)) (value_found self.now key.now) }
+        ensures value { result_map_both (option_map value_tree) (λ e. e) result ≡ try_found (value_tree self.now) (value_found self.now key.now) }
         ensures choice { IfOk result (λ value. IfSome value (λ v. value_choice v ≡ value_choice self.now)) }
         ensures form { IfOk result (λ value. IfSome value (λ v. form v ≡ part_form self.now)) }
     {
@@ -104,7 +104,7 @@ impl<'b, 't, 'i> Value<'b, 't, 'i> {
 
     /// As `get_idx`; of a non-array, that an array was expected and which kind it is.
     pub fn try_get_idx(&self, index: usize) -> Result<Option<Value<'_, 't, 'i>>, TryTypeError>
-        ensures value { result_map_both (option_map value_tree) (λ e. e) result ≡ result_map_both (λ is. nth_item index is) (λ e. e) (read_as (as_items (value_tree self.now)) ValueType.Array (kind_of (value_tree self.now))) }
+        ensures value { result_map_both (option_map value_tree) (λ e. e) result ≡ result_map_both (λ is. nth_item index is) (λ e. e) (try_as as_items ValueType.Array (value_tree self.now)) }
         ensures choice { IfOk result (λ value. IfSome value (λ v. value_choice v ≡ value_choice self.now)) }
         ensures form { IfOk result (λ value. IfSome value (λ v. form v ≡ part_form self.now)) }
     {
@@ -113,7 +113,7 @@ impl<'b, 't, 'i> Value<'b, 't, 'i> {
 
     /// As `as_array`; of another value, that an array was expected and which kind it is.
     pub fn try_as_array(&self) -> Result<Array<'_, 't, 'i>, TryTypeError>
-        ensures items { result_map_both lazy_items (λ e. e) result ≡ read_as (as_items (value_tree self.now)) ValueType.Array (kind_of (value_tree self.now)) }
+        ensures items { result_map_both lazy_items (λ e. e) result ≡ try_as as_items ValueType.Array (value_tree self.now) }
         ensures choice { IfOk result (λ a. lazy_array_choice a ≡ value_choice self.now) }
         ensures form { IfOk result (λ a. item_form a ≡ part_form self.now) }
     {
@@ -125,7 +125,7 @@ impl<'b, 't, 'i> Value<'b, 't, 'i> {
 
     /// As `as_object`; of another value, that an object was expected and which kind it is.
     pub fn try_as_object(&self) -> Result<Object<'_, 't, 'i>, TryTypeError>
-        ensures members { result_map_both lazy_members (λ e. e) result ≡ read_as (as_members (value_tree self.now)) ValueType.Object (kind_of (value_tree self.now)) }
+        ensures members { result_map_both lazy_members (λ e. e) result ≡ try_as as_members ValueType.Object (value_tree self.now) }
         ensures choice { IfOk result (λ o. lazy_object_choice o ≡ value_choice self.now) }
         ensures form { IfOk result (λ o. value_form o ≡ part_form self.now) }
     {

@@ -3,7 +3,7 @@
 ghost use Rattle.std.specs.Prelude.{◌≡◌, ◌+◌, is_some, option_map, IfOk, IfSome};
 ghost use Rattle.std.specs.Result.{result_map_both};
 ghost use Rattle.sj_text_core.specs.Find.{nth, nth_item};
-ghost use Rattle.sj_text_core.specs.Reads.{kind_of, as_items, as_members, as_text, read_as, found_in};
+ghost use Rattle.sj_text_core.specs.Reads.{kind_of, as_items, as_members, as_text, try_as, try_found};
 ghost use Rattle.sj_text_core.specs.Repeats.{find_by, visited_in};
 ghost use Rattle.sj_text_core.specs.Scalars.{static_tree};
 ghost use Rattle.sj_tape.specs.Items.{items, array_choice};
@@ -43,7 +43,7 @@ impl<'t, 'i> Value<'t, 'i> {
 
     /// As `as_array`; of another part, that an array was expected and which kind it is.
     pub fn try_as_array(&self) -> Result<Array<'t, 'i>, TryTypeError>
-        ensures items { result_map_both items (λ e. e) result ≡ read_as (as_items (tape_tree self.now)) ValueType.Array (kind_of (tape_tree self.now)) }
+        ensures items { result_map_both items (λ e. e) result ≡ try_as as_items ValueType.Array (tape_tree self.now) }
         ensures choice { IfOk result (λ a. array_choice a ≡ tape_choice self.now) }
     {
         self.as_array().ok_or(self.fault(ValueType::Array))
@@ -51,7 +51,7 @@ impl<'t, 'i> Value<'t, 'i> {
 
     /// As `as_object`; of another part, that an object was expected and which kind it is.
     pub fn try_as_object(&self) -> Result<Object<'t, 'i>, TryTypeError>
-        ensures members { result_map_both members (λ e. e) result ≡ read_as (as_members (tape_tree self.now)) ValueType.Object (kind_of (tape_tree self.now)) }
+        ensures members { result_map_both members (λ e. e) result ≡ try_as as_members ValueType.Object (tape_tree self.now) }
         ensures choice { IfOk result (λ o. object_choice o ≡ tape_choice self.now) }
     {
         self.as_object().ok_or(self.fault(ValueType::Object))
@@ -102,7 +102,7 @@ impl<'t, 'i> Value<'t, 'i> {
 
     /// As `get`; of a non-object, that an object was expected and which kind it is.
     pub fn try_get(&self, key: &str) -> Result<Option<Value<'t, 'i>>, TryTypeError>
-        ensures value { result_map_both (option_map tape_tree) (λ e. e) result ≡ found_in (as_members (tape_tree self.now)) (kind_of (tape_tree self.now)) (find_by (tape_choice self.now) key.now (tape_tree self.now)) }
+        ensures value { result_map_both (option_map tape_tree) (λ e. e) result ≡ try_found (tape_tree self.now) (find_by (tape_choice self.now) key.now (tape_tree self.now)) }
         ensures choice { IfOk result (λ found. IfSome found (λ v. tape_choice v ≡ tape_choice self.now)) }
     {
         Ok(self.try_as_object()?.get(key))
@@ -121,7 +121,7 @@ impl<'t, 'i> Value<'t, 'i> {
 
     /// As `get_idx`; of a non-array, that an array was expected and which kind it is.
     pub fn try_get_idx(&self, index: usize) -> Result<Option<Value<'t, 'i>>, TryTypeError>
-        ensures value { result_map_both (option_map tape_tree) (λ e. e) result ≡ result_map_both (λ is. nth_item index is) (λ e. e) (read_as (as_items (tape_tree self.now)) ValueType.Array (kind_of (tape_tree self.now))) }
+        ensures value { result_map_both (option_map tape_tree) (λ e. e) result ≡ result_map_both (λ is. nth_item index is) (λ e. e) (try_as as_items ValueType.Array (tape_tree self.now)) }
         ensures choice { IfOk result (λ found. IfSome found (λ v. tape_choice v ≡ tape_choice self.now)) }
     {
         Ok(self.try_as_array()?.get(index))

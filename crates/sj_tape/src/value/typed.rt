@@ -2,7 +2,7 @@
 
 ghost use Rattle.std.specs.Prelude.{◌≡◌, option_map, IfOk, IfSome};
 ghost use Rattle.std.specs.Result.{result_map_both};
-ghost use Rattle.sj_text_core.specs.Reads.{as_text, as_items, as_members, kind_of, read_as, member_as, try_member_as};
+ghost use Rattle.sj_text_core.specs.Reads.{as_text, as_items, as_members, member_as, try_as, try_member_as};
 ghost use Rattle.sj_tape.specs.Items.{items, array_choice};
 ghost use Rattle.sj_tape.specs.Members.{members, object_choice};
 ghost use Rattle.sj_tape.specs.Value.{tape_tree, tape_choice, tape_found};
@@ -89,7 +89,7 @@ impl<'t, 'i> Value<'t, 'i> {
 
     /// As `into_string`; of another part, that a text was expected and which kind it is.
     fn try_into_string(self) -> Result<&'i str, TryTypeError>
-        ensures { result_map_both (λ s. s.now) (λ e. e) result ≡ read_as (as_text (tape_tree self.entry)) ValueType.String (kind_of (tape_tree self.entry)) }
+        ensures { result_map_both (λ s. s.now) (λ e. e) result ≡ try_as as_text ValueType.String (tape_tree self.entry) }
     {
         self.into_string().ok_or(self.fault(ValueType::String))
     }
