@@ -3,7 +3,7 @@
 ghost use Rattle.std.specs.Prelude.{◌≡◌, is_some, option_map};
 ghost use Rattle.std.specs.Result.{result_map_both};
 ghost use Rattle.sj_text_core.specs.Nulls.{as_nothing};
-ghost use Rattle.sj_text_core.specs.Reads.{kind_of, as_boolean, as_signed, as_unsigned, as_text, read_as};
+ghost use Rattle.sj_text_core.specs.Reads.{as_boolean, as_signed, as_unsigned, as_text, read_as, try_as};
 
 use crate::typed_value::TypedValue;
 use crate::value_type::{ExtendedValueType, TryTypeError, ValueType};
@@ -57,7 +57,7 @@ pub trait ValueAsScalar: TypedValue {
 
     /// That the value is a null; of another value, which one it is.
     final fn try_as_null(&self) -> Result<(), TryTypeError>
-        ensures { result ≡ read_as (as_nothing (Self.tree self.now)) ValueType.Null (kind_of (Self.tree self.now)) }
+        ensures { result ≡ try_as as_nothing ValueType.Null (Self.tree self.now) }
     {
         or_fault(self.as_null(), ValueType::Null, self.value_type())
     }
@@ -71,7 +71,7 @@ pub trait ValueAsScalar: TypedValue {
 
     /// As `as_bool`; of another value, which kind was expected and which one it is.
     final fn try_as_bool(&self) -> Result<bool, TryTypeError>
-        ensures { result ≡ read_as (as_boolean (Self.tree self.now)) ValueType.Bool (kind_of (Self.tree self.now)) }
+        ensures { result ≡ try_as as_boolean ValueType.Bool (Self.tree self.now) }
     {
         or_fault(self.as_bool(), ValueType::Bool, self.value_type())
     }
@@ -85,7 +85,7 @@ pub trait ValueAsScalar: TypedValue {
 
     /// As `as_str`; of another value, which kind was expected and which one it is.
     final fn try_as_str(&self) -> Result<&str, TryTypeError>
-        ensures { result_map_both (λ s. s.now) (λ e. e) result ≡ read_as (as_text (Self.tree self.now)) ValueType.String (kind_of (Self.tree self.now)) }
+        ensures { result_map_both (λ s. s.now) (λ e. e) result ≡ try_as as_text ValueType.String (Self.tree self.now) }
     {
         match self.as_str() {
             Some(text) => Ok(text),
@@ -112,7 +112,7 @@ pub trait ValueAsScalar: TypedValue {
 
     /// As `as_i8`; of another value, which kind was expected and which one it is.
     final fn try_as_i8(&self) -> Result<i8, TryTypeError>
-        ensures { result ≡ read_as (as_signed 8 (Self.tree self.now)) (ValueType.Extended ExtendedValueType.I8) (kind_of (Self.tree self.now)) }
+        ensures { result ≡ try_as (as_signed 8) (ValueType.Extended ExtendedValueType.I8) (Self.tree self.now) }
     {
         or_fault(
             self.as_i8(),
@@ -137,7 +137,7 @@ pub trait ValueAsScalar: TypedValue {
 
     /// As `as_i16`; of another value, which kind was expected and which one it is.
     final fn try_as_i16(&self) -> Result<i16, TryTypeError>
-        ensures { result ≡ read_as (as_signed 16 (Self.tree self.now)) (ValueType.Extended ExtendedValueType.I16) (kind_of (Self.tree self.now)) }
+        ensures { result ≡ try_as (as_signed 16) (ValueType.Extended ExtendedValueType.I16) (Self.tree self.now) }
     {
         or_fault(
             self.as_i16(),
@@ -162,7 +162,7 @@ pub trait ValueAsScalar: TypedValue {
 
     /// As `as_i32`; of another value, which kind was expected and which one it is.
     final fn try_as_i32(&self) -> Result<i32, TryTypeError>
-        ensures { result ≡ read_as (as_signed 32 (Self.tree self.now)) (ValueType.Extended ExtendedValueType.I32) (kind_of (Self.tree self.now)) }
+        ensures { result ≡ try_as (as_signed 32) (ValueType.Extended ExtendedValueType.I32) (Self.tree self.now) }
     {
         or_fault(
             self.as_i32(),
@@ -187,7 +187,7 @@ pub trait ValueAsScalar: TypedValue {
 
     /// As `as_i64`; of another value, which kind was expected and which one it is.
     final fn try_as_i64(&self) -> Result<i64, TryTypeError>
-        ensures { result ≡ read_as (as_signed 64 (Self.tree self.now)) ValueType.I64 (kind_of (Self.tree self.now)) }
+        ensures { result ≡ try_as (as_signed 64) ValueType.I64 (Self.tree self.now) }
     {
         or_fault(self.as_i64(), ValueType::I64, self.value_type())
     }
@@ -201,7 +201,7 @@ pub trait ValueAsScalar: TypedValue {
 
     /// As `as_i128`; of another value, which kind was expected and which one it is.
     final fn try_as_i128(&self) -> Result<i128, TryTypeError>
-        ensures { result ≡ read_as (as_signed 128 (Self.tree self.now)) ValueType.I128 (kind_of (Self.tree self.now)) }
+        ensures { result ≡ try_as (as_signed 128) ValueType.I128 (Self.tree self.now) }
     {
         or_fault(self.as_i128(), ValueType::I128, self.value_type())
     }
@@ -222,7 +222,7 @@ pub trait ValueAsScalar: TypedValue {
 
     /// As `as_u8`; of another value, which kind was expected and which one it is.
     final fn try_as_u8(&self) -> Result<u8, TryTypeError>
-        ensures { result ≡ read_as (as_unsigned 8 (Self.tree self.now)) (ValueType.Extended ExtendedValueType.U8) (kind_of (Self.tree self.now)) }
+        ensures { result ≡ try_as (as_unsigned 8) (ValueType.Extended ExtendedValueType.U8) (Self.tree self.now) }
     {
         or_fault(
             self.as_u8(),
@@ -247,7 +247,7 @@ pub trait ValueAsScalar: TypedValue {
 
     /// As `as_u16`; of another value, which kind was expected and which one it is.
     final fn try_as_u16(&self) -> Result<u16, TryTypeError>
-        ensures { result ≡ read_as (as_unsigned 16 (Self.tree self.now)) (ValueType.Extended ExtendedValueType.U16) (kind_of (Self.tree self.now)) }
+        ensures { result ≡ try_as (as_unsigned 16) (ValueType.Extended ExtendedValueType.U16) (Self.tree self.now) }
     {
         or_fault(
             self.as_u16(),
@@ -272,7 +272,7 @@ pub trait ValueAsScalar: TypedValue {
 
     /// As `as_u32`; of another value, which kind was expected and which one it is.
     final fn try_as_u32(&self) -> Result<u32, TryTypeError>
-        ensures { result ≡ read_as (as_unsigned 32 (Self.tree self.now)) (ValueType.Extended ExtendedValueType.U32) (kind_of (Self.tree self.now)) }
+        ensures { result ≡ try_as (as_unsigned 32) (ValueType.Extended ExtendedValueType.U32) (Self.tree self.now) }
     {
         or_fault(
             self.as_u32(),
@@ -297,7 +297,7 @@ pub trait ValueAsScalar: TypedValue {
 
     /// As `as_u64`; of another value, which kind was expected and which one it is.
     final fn try_as_u64(&self) -> Result<u64, TryTypeError>
-        ensures { result ≡ read_as (as_unsigned 64 (Self.tree self.now)) ValueType.U64 (kind_of (Self.tree self.now)) }
+        ensures { result ≡ try_as (as_unsigned 64) ValueType.U64 (Self.tree self.now) }
     {
         or_fault(self.as_u64(), ValueType::U64, self.value_type())
     }
@@ -311,7 +311,7 @@ pub trait ValueAsScalar: TypedValue {
 
     /// As `as_u128`; of another value, which kind was expected and which one it is.
     final fn try_as_u128(&self) -> Result<u128, TryTypeError>
-        ensures { result ≡ read_as (as_unsigned 128 (Self.tree self.now)) ValueType.U128 (kind_of (Self.tree self.now)) }
+        ensures { result ≡ try_as (as_unsigned 128) ValueType.U128 (Self.tree self.now) }
     {
         or_fault(self.as_u128(), ValueType::U128, self.value_type())
     }
@@ -332,7 +332,7 @@ pub trait ValueAsScalar: TypedValue {
 
     /// As `as_usize`; of another value, which kind was expected and which one it is.
     final fn try_as_usize(&self) -> Result<usize, TryTypeError>
-        ensures { result ≡ read_as (as_unsigned 64 (Self.tree self.now)) (ValueType.Extended ExtendedValueType.Usize) (kind_of (Self.tree self.now)) }
+        ensures { result ≡ try_as (as_unsigned 64) (ValueType.Extended ExtendedValueType.Usize) (Self.tree self.now) }
     {
         or_fault(
             self.as_usize(),
