@@ -58,6 +58,10 @@ abbrev pub last_item : Tree → Option Tree
 last_item (list is) = last is
 last_item t = None
 
+-- a value that is found is changed, and the change answers so; what it becomes is written
+abbrev pub ChangesInPlace : {V A : Type 0} → (V → V → A → Type 0) → (V → Type 0) → (V → Type 0) → A → Type 0
+ChangesInPlace {V} makes finds writes answer = (v : V) × (w : V) × finds v × makes v w answer × writes w
+
 -- what an edit answers and leaves
 module _ {T : Type 0} (t : T → List ℕ) where
   -- the document means that tree; where there is none, there is none
@@ -74,8 +78,7 @@ module _ {T : Type 0} (t : T → List ℕ) where
 
   -- what is found in the tree is changed, and the change answers so; what it becomes is set there
   abbrev pub ChangesFound : {A : Type 0} → (Document T → Document T → A → Type 0) → (Tree → Option Tree) → (Tree → Tree → Tree) → Document T → Document T → A → Type 0
-  ChangesFound makes found set old new answer =
-      (v : Document T) × (w : Document T) × (found (document_tree t old) ≡ Some (document_tree t v)) × makes v w answer × IsEdited (set (document_tree t w)) old new
+  ChangesFound makes found set old new answer = ChangesInPlace makes (λ v. found (document_tree t old) ≡ Some (document_tree t v)) (λ w. IsEdited (set (document_tree t w)) old new) answer
 
 -- why an edit is refused: the target is of another kind, else memory
 abbrev pub edit_fault : {A : Type 0} → AccessError → Option A → AccessError

@@ -3,7 +3,7 @@ use Rattle.std.specs.Prelude.{◌≡◌, ◌⊎◌, ℕ, List, Option, Some, Non
 use Rattle.sj_text_core.specs.Tree.{Tree}
 use Rattle.sj_text_core.specs.declared.error.AccessError.{AccessError}
 use Rattle.sj_text_core.specs.declared.error.AccessError.TheVariants.{OutOfMemory}
-use Rattle.sj_document.specs.Document.{document_tree, edit_fault}
+use Rattle.sj_document.specs.Document.{document_tree, edit_fault, ChangesInPlace}
 use Rattle.sj_document.specs.declared.value.Document.{Document}
 use Rattle.sj_lazy.specs.declared.value.Lazy.{Lazy}
 use Rattle.sj_lazy.specs.Value.{lazy_kept, owned}
@@ -28,8 +28,7 @@ module _ {P B T : Type 0} (p : P → Tree) (b : B → Tree) (t : T → List ℕ)
 
   -- what is found in the tree that it kept is changed, and the change answers so; what it becomes is set there
   abbrev pub ChangesKept : {A : Type 0} → (Document T → Document T → A → Type 0) → (Tree → Option Tree → Type 0) → (Tree → Tree → Tree) → Lazy P B T → Lazy P B T → A → Type 0
-  ChangesKept makes finds set old new answer =
-      (v : Document T) × (w : Document T) × finds (lazy_kept p b t old) (Some (document_tree t v)) × makes v w answer × IsOwnedAs (set (document_tree t w)) old new
+  ChangesKept makes finds set old new answer = ChangesInPlace makes (λ v. finds (lazy_kept p b t old) (Some (document_tree t v))) (λ w. IsOwnedAs (set (document_tree t w)) old new) answer
 
   -- nothing is found there, the change comes back, and it is owned with the tree that it kept
   abbrev pub ComesBack : {C : Type 0} → C → (Tree → Option Tree → Type 0) → Lazy P B T → Lazy P B T → C → Type 0

@@ -58,7 +58,7 @@ fn change_or_put<'k, K: StoredKey<'k>, V: Drop, C: Change<V>>(
 }
 
 impl<'k> KnownKey<'k> {
-    ghost use Rattle.sj_document.specs.Document.{document_tree, with_member, IsEdited, IsAsItWas};
+    ghost use Rattle.sj_document.specs.Document.{document_tree, with_member, IsEdited, IsAsItWas, ChangesInPlace};
     ghost use Rattle.sj_borrowed.specs.Inserts.{known_fault};
 
     /// Changes the value of the key, and answers what the change does. The target is then as it
@@ -74,7 +74,7 @@ impl<'k> KnownKey<'k> {
         key: &KnownKey<'k>,
         change: C,
     ) -> Result<C::Answer, C>
-        ensures changed { IfOk result (λ answer. (v : T.Output) × (w : T.Output) × T.finds target.old (cow_str_bytes key.now) (Some v) × C.makes change v w answer × T.writes target.old (cow_str_bytes key.now) w target.new) }
+        ensures changed { IfOk result (ChangesInPlace (C.makes change) (λ v. T.finds target.old (cow_str_bytes key.now) (Some v)) (λ w. T.writes target.old (cow_str_bytes key.now) w target.new)) }
         ensures absent { IfErr result (λ back. (back ≡ change) × T.finds target.old (cow_str_bytes key.now) None × T.stays target.old target.new) }
     {
         match KnownKey::lookup_mut(target, key) {
@@ -120,7 +120,7 @@ impl<'k> KnownKey<'k> {
         value: Document<T>,
         change: C,
     ) -> Result<C::Answer, Refused<Error, (Document<T>, C)>>
-        ensures present { IfSome (find (cow_str_bytes key.now) (document_tree T.text_of target.old)) (λ before. IfOk result (λ answer. (v : Document T) × (w : Document T) × (document_tree T.text_of v ≡ before) × C.makes change v w answer × IsEdited T.text_of (with_member (cow_str_bytes key.now) (document_tree T.text_of w)) target.old target.new)) }
+        ensures present { IfSome (find (cow_str_bytes key.now) (document_tree T.text_of target.old)) (λ before. IfOk result (ChangesInPlace (C.makes change) (λ v. document_tree T.text_of v ≡ before) (λ w. IsEdited T.text_of (with_member (cow_str_bytes key.now) (document_tree T.text_of w)) target.old target.new))) }
         ensures absent { find (cow_str_bytes key.now) (document_tree T.text_of target.old) ≡ None → IfOk result (λ answer. (w : Document T) × C.makes change value w answer × IsEdited T.text_of (with_member (cow_str_bytes key.now) (document_tree T.text_of w)) target.old target.new) }
         ensures object { OnOk result (IsSome (as_members (document_tree T.text_of target.old))) }
         ensures refused { OnErr result (IsAsItWas T.text_of target.old target.new) }

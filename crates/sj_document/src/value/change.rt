@@ -1,6 +1,7 @@
 //! Changes that are handed in, in the place of a reference that is lent.
 
 ghost use Rattle.std.specs.Prelude.{◌≡◌, Some, None, IfOk, IfErr};
+ghost use Rattle.sj_document.specs.Document.{ChangesInPlace};
 
 use crate::value::lend::{LendItem, LendMember};
 use std::mem;
@@ -44,7 +45,7 @@ pub fn change_member<L: LendMember, C: Change<L::Output>>(
     key: &str,
     change: C,
 ) -> Result<C::Answer, C>
-    ensures changed { IfOk result (λ answer. (v : L.Output) × (w : L.Output) × L.finds_member target.old key.now (Some v) × C.makes change v w answer × L.writes_member target.old key.now w target.new) }
+    ensures changed { IfOk result (ChangesInPlace (C.makes change) (λ v. L.finds_member target.old key.now (Some v)) (λ w. L.writes_member target.old key.now w target.new)) }
     ensures absent { IfErr result (λ back. (back ≡ change) × L.finds_member target.old key.now None × L.keeps_members target.old target.new) }
 {
     match target.member_mut(key) {
@@ -61,7 +62,7 @@ pub fn change_item<L: LendItem, C: Change<L::Output>>(
     index: usize,
     change: C,
 ) -> Result<C::Answer, C>
-    ensures changed { IfOk result (λ answer. (v : L.Output) × (w : L.Output) × L.finds_item target.old index (Some v) × C.makes change v w answer × L.writes_item target.old index w target.new) }
+    ensures changed { IfOk result (ChangesInPlace (C.makes change) (λ v. L.finds_item target.old index (Some v)) (λ w. L.writes_item target.old index w target.new)) }
     ensures absent { IfErr result (λ back. (back ≡ change) × L.finds_item target.old index None × L.keeps_items target.old target.new) }
 {
     match target.item_mut(index) {
