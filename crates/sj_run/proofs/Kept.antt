@@ -1,5 +1,5 @@
 -- Writes at a document, whose objects have no key twice.
-use Rattle.std.proofs.Common.{◌≡◌, ℕ, List, Option, Some, None, IfOk, OnOk, OnErr, Result, Ok, Err, inr, sym, ap, ◌∙◌, subst}
+use Rattle.std.proofs.Common.{◌≡◌, ℕ, List, Option, Some, None, IfOk, OnOk, OnErr, Result, Ok, Err, inl, inr, sym, ap, ◌∙◌, subst}
 use Rattle.std.specs.declared.alloc.AllocError.{AllocError}
 use Rattle.sj_text_core.specs.Tree.{Tree, null, boolean, int, text, list, obj}
 use Rattle.sj_text_core.specs.Edits.{last}
@@ -13,6 +13,8 @@ use Rattle.sj_run.specs.Answers.{edit, edit_found, changed, old_or_nothing, IsLo
 use Rattle.sj_run.specs.inner.Changed.{changed_meant, Edits}
 use Rattle.sj_commands.specs.Commands.{PlainCommand, Write, write, insert, remove, push, pop, put}
 use Rattle.sj_text_core.specs.declared.repeats.Repeats.{Repeats}
+use Rattle.sj_text_core.specs.declared.repeats.Repeats.TheVariants.{First}
+use Rattle.sj_run.specs.Replies.{PlainReply}
 use Rattle.sj_run.specs.Repeats.{answer_by}
 use Rattle.sj_run.specs.Run.{Leaves}
 use Rattle.sj_run.specs.declared.change.Changed.{Changed}
@@ -21,17 +23,17 @@ module _ {T : Type 0} (t : T → List ℕ) (p : List Step) (w : Write) (v : Docu
   kept : edit p w (document_tree t v) ≡ edit p w (keep (document_tree t v))
   kept = ap (edit p w) (sym (tree_kept t v))
 
-  pub kept_reply : (r : Result (Changed T) AllocError) → Edits t p w (document_tree t v) u r → IfOk r (λ x. changed_meant t x ≡ (edit p w (keep (document_tree t v))).1)
+  pub kept_reply : (r : Result (Changed T) AllocError) → Edits t p w (document_tree t v) u r → IfOk r (λ x. changed_meant t x ≡ (answer_by (First, document_tree t v) (write p w)).1)
   kept_reply (Ok x) h = ap (λ q. q.1) (h ∙ kept)
   kept_reply (Err x) h = tt
 
-  pub kept_after : (r : Result (Changed T) AllocError) → Edits t p w (document_tree t v) u r → OnOk r (u ≡ (edit p w (keep (document_tree t v))).0)
-  kept_after (Ok x) h = ap (λ q. q.0) (h ∙ kept)
+  pub kept_after : (r : Result (Changed T) AllocError) → Edits t p w (document_tree t v) u r → OnOk r (◌≡◌ {A = Repeats × Tree} (First, u) (answer_by (First, document_tree t v) (write p w)).0)
+  kept_after (Ok x) h = ap (λ (q : Tree × PlainReply). (First, q.0)) (h ∙ kept)
   kept_after (Err x) h = tt
 
-  pub kept_refused : (r : Result (Changed T) AllocError) → Edits t p w (document_tree t v) u r → OnErr r (u ≡ document_tree t v)
+  pub kept_refused : (r : Result (Changed T) AllocError) → Edits t p w (document_tree t v) u r → OnErr r (Leaves (First, document_tree t v) (write p w) (First, u))
   kept_refused (Ok x) h = tt
-  kept_refused (Err x) h = h
+  kept_refused (Err x) h = inl (ap (λ (s : Tree). (First, s)) h)
 
 -- what a write answers is no print
 short_old : (o : Option Tree) → IsLong (old_or_nothing o) → ⊥
@@ -71,9 +73,6 @@ short_found (Some u) p w t h = short_changed w u h
 
 pub short_edit : (p : List Step) (w : Write) (t : Tree) → IsLong (edit p w t).1 → ⊥
 short_edit p w t h = short_found _ p w t h
-
-pub short_write : (p : List Step) (w : Write) (t : Tree) → IsLong (edit p w (keep t)).1 → ⊥
-short_write p w t h = short_edit p w _ h
 
 -- what a write that was made leaves, where its reply was refused
 pub leaves_after : (d u : Repeats × Tree) (c : PlainCommand) (p : List Step) (w : Write) → write p w ≡ c → u ≡ (answer_by d (write p w)).0 → Leaves d c u

@@ -36,14 +36,17 @@ owned_part (Value (Borrowed x)) u e = cc
 owned_part (Value (Owned d)) u e = ap (λ (t : Tree). (First, t)) (some_is _ u e)
 
 module _ (v n : LazyValue) (p : List Step) (w : Write) where
-  pub lazy_reply : (r : Result (Changed Text) AllocError) → IfOk r (λ x. changed_meant cow_str_bytes x ≡ (edit p w (value_kept v)).1)
-      → IfOk r (λ x. changed_meant cow_str_bytes x ≡ (answer_by (value_part v) (write p w)).1)
-  lazy_reply (Ok x) e = e ∙ ap (λ t. (edit p w t).1) (kept_by v)
-  lazy_reply (Err x) e = e
+  -- the write x, which means the same
+  pub lazy_reply : (x : Write) → x ≡ w → (r : Result (Changed Text) AllocError) → IfOk r (λ c. changed_meant cow_str_bytes c ≡ (edit p x (value_kept v)).1)
+      → IfOk r (λ c. changed_meant cow_str_bytes c ≡ (answer_by (value_part v) (write p w)).1)
+  lazy_reply x same (Ok c) e = e ∙ ap (λ (y : Write). (edit p y (value_kept v)).1) same ∙ ap (λ t. (edit p w t).1) (kept_by v)
+  lazy_reply x same (Err c) e = e
 
-  pub lazy_after : (r : Result (Changed Text) AllocError) → OnOk r (owned cow_str_bytes n ≡ Some (edit p w (value_kept v)).0) → OnOk r (value_part n ≡ (answer_by (value_part v) (write p w)).0)
-  lazy_after (Ok x) e = owned_part n _ e ∙ ap (λ (t : Tree). (First, (edit p w t).0)) (kept_by v)
-  lazy_after (Err x) e = e
+  pub lazy_after : (x : Write) → x ≡ w → (r : Result (Changed Text) AllocError) → OnOk r (owned cow_str_bytes n ≡ Some (edit p x (value_kept v)).0)
+      → OnOk r (value_part n ≡ (answer_by (value_part v) (write p w)).0)
+  lazy_after x same (Ok c) e =
+      owned_part n _ e ∙ ap (λ (y : Write). (First, (edit p y (value_kept v)).0)) same ∙ ap (λ (t : Tree). (First, (edit p w t).0)) (kept_by v)
+  lazy_after x same (Err c) e = e
 
   lazy_left : (n ≡ v) ⊎ (owned cow_str_bytes n ≡ Some (value_kept v)) → Leaves (value_part v) (write p w) (value_part n)
   lazy_left (inl e) = inl (ap value_part e)

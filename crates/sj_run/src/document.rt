@@ -4,22 +4,23 @@ ghost use Rattle.std.specs.Prelude.{◌≡◌, ◌↔◌, IfOk, OnOk, OnErr, IsE
 ghost use Rattle.std.specs.Cow.{cow_str_bytes};
 ghost use Rattle.sj_text_core.specs.Tree.{Tree};
 ghost use Rattle.sj_text_core.specs.declared.repeats.Repeats.{Repeats};
+ghost use Rattle.sj_text_core.specs.declared.repeats.Repeats.TheVariants.{First};
+ghost use Rattle.sj_document.specs.Document.{document_tree};
+ghost use Rattle.sj_lazy.specs.Value.{value_part};
 ghost use Rattle.sj_run.specs.Answers.{IsLong};
 ghost use Rattle.sj_commands.specs.Meant.{command_meant};
 ghost use Rattle.sj_run.specs.Meant.{reply_meant};
 ghost use Rattle.sj_run.specs.Repeats.{answer_by};
 ghost use Rattle.sj_run.specs.Run.{Leaves};
 
-mod lazy;
-
-use crate::change::{borrowed_write, change_at, owned_changed, reply_of};
-pub use crate::document::lazy::LazyDoc;
-use crate::find::reply_at;
 use crate::reply::Reply;
+use crate::root::apply_to;
 use crate::runs::Why;
-use sj_commands::{Command, Request};
+use sj_commands::Command;
 use sj_document::{BorrowedValue, OwnedValue};
+use sj_lazy::Value;
 use std::alloc::Global;
+use std::borrow::CowStr;
 
 /// How the keys of commands are looked up.
 #[derive(Clone, Copy, Debug, PartialEq, Eq)]
@@ -55,20 +56,10 @@ pub struct OwnedDoc {
 }
 
 impl Document for OwnedDoc {
-    ghost use Rattle.std.specs.Prelude.{string_bytes};
-    ghost use Rattle.sj_document.specs.Document.{document_tree};
-    ghost use Rattle.sj_text_core.specs.declared.repeats.Repeats.TheVariants.{First};
-
     ghost part = { λ d. (First, document_tree string_bytes d.value) };
 
     fn apply(&mut self, alloc: Global, command: Command) -> Result<Reply, Why> {
-        match Request::from(command) {
-            Request::Read(path, read) => reply_at(alloc, &self.value, self.way, &path, &read),
-            Request::Write(path, write) => {
-                Ok(reply_of(change_at(&mut self.value, self.way, &path, write)?))
-            }
-            Request::Bad => Ok(Reply::BadCommand),
-        }
+        apply_to::<OwnedValue, String>(alloc, &mut self.value, self.way, command)
     }
 }
 
@@ -83,21 +74,26 @@ pub struct BorrowedDoc<'v> {
 }
 
 impl<'v> Document for BorrowedDoc<'v> {
-    ghost use Rattle.std.specs.Cow.{cow_str_bytes};
-    ghost use Rattle.sj_document.specs.Document.{document_tree};
-    ghost use Rattle.sj_text_core.specs.declared.repeats.Repeats.TheVariants.{First};
-
     ghost part = { λ d. (First, document_tree cow_str_bytes d.value) };
 
     fn apply(&mut self, alloc: Global, command: Command) -> Result<Reply, Why> {
-        match Request::from(command) {
-            Request::Read(path, read) => reply_at(alloc, &self.value, self.way, &path, &read),
-            Request::Write(path, write) => {
-                let write = borrowed_write(alloc, write)?;
-                let changed = change_at(&mut self.value, self.way, &path, write)?;
-                Ok(reply_of(owned_changed(alloc, changed)?))
-            }
-            Request::Bad => Ok(Reply::BadCommand),
-        }
+        apply_to::<BorrowedValue<'v>, CowStr<'v>>(alloc, &mut self.value, self.way, command)
+    }
+}
+
+/// A part of a tape until the first write, also one that is refused; a document from then on.
+/// What is written is made a document of this form first, so a write may be refused for memory
+/// before its target is looked at.
+#[derive(Debug, Drop)]
+pub struct LazyDoc<'b, 't, 'i> {
+    /// The document.
+    pub value: Value<'b, 't, 'i>,
+}
+
+impl<'b, 't, 'i> Document for LazyDoc<'b, 't, 'i> {
+    ghost part = { λ d. value_part d.value };
+
+    fn apply(&mut self, alloc: Global, command: Command) -> Result<Reply, Why> {
+        apply_to::<Value<'b, 't, 'i>, CowStr<'i>>(alloc, &mut self.value, Way::ByText, command)
     }
 }

@@ -17,6 +17,7 @@ mod json_error;
 pub mod laws;
 mod lookup;
 mod reply;
+mod root;
 mod runs;
 mod sessions;
 

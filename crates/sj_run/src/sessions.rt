@@ -16,6 +16,7 @@ use crate::runs::Why;
 use crate::sessions::answer::answer_all;
 use crate::sessions::forms::answered_as;
 use sj_commands::cut_at_mark;
+use sj_document::OwnedValue;
 use sj_text_core::{ErrorKind, Repeats};
 use std::alloc::{AllocError, Global};
 use thiserror::Error;
@@ -35,7 +36,8 @@ impl Form {
     ghost use Rattle.std.specs.Prelude.{◌↔◌, IsTrue};
     ghost use Rattle.sj_run.specs.Session.{IsServed};
 
-    /// Whether a session serves the form in this way: each by text, and all but lazy ones by known key.
+    /// Whether a session serves the form in this way: each by text, and all but lazy ones by known
+    /// key.
     pub fn is_served(self, way: Way) -> bool
         ensures { IsTrue result ↔ IsServed self way }
     {
@@ -92,10 +94,10 @@ impl From<Why> for SessionFault {
 /// and appends each printed reply with a line feed to `out`.
 ///
 /// A lazy document is built at the first write; that a session which only reads builds none is seen
-/// by its requests for memory, and said by no clause. Refused as `Usage` for lazy documents by known
-/// key, as `Refused` where the document can't be read, as `OutOfMemory` where memory was refused, and
-/// as `TooLong` only where `out` with all replies would pass `usize::MAX` bytes. On a fault `out` is
-/// as it was, and of the input's bytes nothing is said.
+/// by its requests for memory, and said by no clause. Refused as `Usage` for lazy documents by
+/// known key, as `Refused` where the document can't be read, as `OutOfMemory` where memory was
+/// refused, and as `TooLong` only where `out` with all replies would pass `usize::MAX` bytes. On a
+/// fault `out` is as it was, and of the input's bytes nothing is said.
 pub fn session(
     alloc: Global,
     form: Form,
@@ -143,8 +145,8 @@ pub fn session_repeats(
 /// line feed to `out`. The lines are written over.
 ///
 /// Refused as `OutOfMemory` where memory was refused, and as `TooLong` only where `out` with all
-/// replies would pass `usize::MAX` bytes. On a fault `out` is as it was; of which commands were done
-/// nothing is said.
+/// replies would pass `usize::MAX` bytes. On a fault `out` is as it was; of which commands were
+/// done nothing is said.
 pub fn answer_owned(
     alloc: Global,
     document: &mut OwnedDoc,
@@ -155,5 +157,5 @@ pub fn answer_owned(
     ensures err { OnErr result (out.new.items ≡ out.old.items) }
     ensures too_long { IsErrOf result Why.TooLong → PassesLines (First, document_tree string_bytes document.old.value) (line_texts (full_lines lines.old)) (length out.old.items) }
 {
-    answer_all(alloc, document, lines, out)
+    answer_all::<OwnedValue, String>(alloc, &mut document.value, document.way, lines, out)
 }

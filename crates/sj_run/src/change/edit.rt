@@ -8,9 +8,9 @@ ghost use Rattle.sj_document.specs.Document.{document_tree};
 ghost use Rattle.sj_run.specs.inner.Changed.{Edits};
 ghost use Rattle.sj_commands.specs.Meant.{step_meant, write_meant};
 
-use super::Changed;
 use super::steps::BySteps;
-use super::value::{Inserts, change};
+use super::value::change;
+use super::{Changed, Texts};
 use crate::document::Way;
 use crate::lookup::member_mut;
 use sj_commands::{Step, Write};
@@ -19,8 +19,8 @@ use sj_object::KeyText;
 use sj_pointer::position;
 use std::alloc::AllocError;
 
-/// How many steps are gone by calls, each of which looks its key up once. A longer path is gone on a
-/// bounded stack, and its keys are looked up by text, on the way down and on the way up.
+/// How many steps are gone by calls, each of which looks its key up once. A longer path is gone on
+/// a bounded stack, and its keys are looked up by text, on the way down and on the way up.
 const CALLS: usize = 64;
 
 /// Changes the value at the path in its place; where nothing stands there, it changes nothing.
@@ -32,7 +32,7 @@ pub(crate) fn edit_at<T: KeyText + Drop>(
     write: Write<T>,
 ) -> Result<Changed<T>, AllocError>
 where
-    Way: Inserts<T>,
+    Way: Texts<T>,
     ensures { Edits T.text_of (map step_meant path.now) (write_meant T.text_of write) (document_tree T.text_of value.old) (document_tree T.text_of value.new) result }
 {
     if path.len() <= CALLS {
@@ -51,7 +51,7 @@ struct WriteBy<T: KeyText> {
 
 impl<T: KeyText + Drop> Change<Document<T>> for WriteBy<T>
 where
-    Way: Inserts<T>,
+    Way: Texts<T>,
 {
     type Answer = Result<Changed<T>, AllocError>;
 
@@ -71,7 +71,7 @@ fn edit_far<T: KeyText + Drop>(
     write: Write<T>,
 ) -> Result<Changed<T>, AllocError>
 where
-    Way: Inserts<T>,
+    Way: Texts<T>,
     ensures { Edits T.text_of (map step_meant path.now) (write_meant T.text_of write) (document_tree T.text_of value.old) (document_tree T.text_of value.new) result }
 {
     match update_at::<BySteps, Step, T, WriteBy<T>>(value, path, WriteBy { way, write }) {
@@ -89,7 +89,7 @@ fn edit_near<T: KeyText + Drop>(
     write: Write<T>,
 ) -> Result<Changed<T>, AllocError>
 where
-    Way: Inserts<T>,
+    Way: Texts<T>,
     ensures { Edits T.text_of (map step_meant path.now) (write_meant T.text_of write) (document_tree T.text_of value.old) (document_tree T.text_of value.new) result }
 {
     match path {
@@ -107,7 +107,7 @@ fn edit_step<T: KeyText + Drop>(
     write: Write<T>,
 ) -> Result<Changed<T>, AllocError>
 where
-    Way: Inserts<T>,
+    Way: Texts<T>,
     ensures { Edits T.text_of (step_meant step.now ∷ map step_meant rest.now) (write_meant T.text_of write) (document_tree T.text_of value.old) (document_tree T.text_of value.new) result }
 {
     match step {
@@ -132,7 +132,7 @@ fn edit_token<T: KeyText + Drop>(
     write: Write<T>,
 ) -> Result<Changed<T>, AllocError>
 where
-    Way: Inserts<T>,
+    Way: Texts<T>,
     ensures { Edits T.text_of (by_token token.now ∷ map step_meant rest.now) (write_meant T.text_of write) (document_tree T.text_of value.old) (document_tree T.text_of value.new) result }
 {
     match value {
@@ -156,7 +156,7 @@ fn edit_member<T: KeyText + Drop>(
     write: Write<T>,
 ) -> Result<Changed<T>, AllocError>
 where
-    Way: Inserts<T>,
+    Way: Texts<T>,
     ensures { Edits T.text_of (by_key key.now ∷ map step_meant rest.now) (write_meant T.text_of write) (obj (entry_members (document_tree T.text_of) members.old.entries)) (obj (entry_members (document_tree T.text_of) members.new.entries)) result }
 {
     match member_mut(members, way, key) {
@@ -174,7 +174,7 @@ fn edit_item<T: KeyText + Drop>(
     write: Write<T>,
 ) -> Result<Changed<T>, AllocError>
 where
-    Way: Inserts<T>,
+    Way: Texts<T>,
     ensures { Edits T.text_of (by_place at ∷ map step_meant rest.now) (write_meant T.text_of write) (list (items_from (map (document_tree T.text_of) items.old.items))) (list (items_from (map (document_tree T.text_of) items.new.items))) result }
 {
     if at < items.len() {

@@ -7,7 +7,7 @@ ghost use Rattle.sj_run.specs.inner.Changed.{changed_meant};
 ghost use Rattle.sj_commands.specs.Meant.{step_meant, write_meant};
 
 use super::edit::edit_at;
-use super::{Changed, Inserts};
+use super::{Changed, Texts};
 use crate::document::Way;
 use sj_commands::{Step, Write};
 use sj_lazy::{Lazy, Lent, Upgrade};
@@ -24,7 +24,7 @@ pub(crate) fn change_lazy<P: Upgrade<T> + Drop, B: Lent<T> + Drop, T: KeyText + 
     write: Write<T>,
 ) -> Result<Changed<T>, AllocError>
 where
-    Way: Inserts<T>,
+    Way: Texts<T>,
     ensures reply { IfOk result (λ changed. changed_meant T.text_of changed ≡ (edit (map step_meant path.now) (write_meant T.text_of write) (lazy_kept P.part_kept B.lent_tree T.text_of value.old)).1) }
     ensures after { OnOk result (owned T.text_of value.new ≡ Some (edit (map step_meant path.now) (write_meant T.text_of write) (lazy_kept P.part_kept B.lent_tree T.text_of value.old)).0) }
     ensures refused { OnErr result ((value.new ≡ value.old) ⊎ (owned T.text_of value.new ≡ Some (lazy_kept P.part_kept B.lent_tree T.text_of value.old))) }

@@ -1,22 +1,36 @@
 //! What a write answers, as a reply and written out.
 
-ghost use Rattle.std.specs.Prelude.{◌≡◌, ◌+◌, ◌^◌, ◌≤◌, ◌++◌, length, IfOk, OnOk, OnErr, IsErrOf, string_bytes};
-ghost use Rattle.std.specs.Cow.{cow_str_bytes};
+ghost use Rattle.std.specs.Prelude.{◌≡◌, ◌+◌, ◌^◌, ◌≤◌, ◌++◌, length, IfOk, OnOk, OnErr, IsErrOf};
 ghost use Rattle.sj_run.specs.inner.Answered.{IsBegunBy};
 ghost use Rattle.sj_run.specs.inner.Changed.{changed_meant};
 ghost use Rattle.sj_run.specs.Meant.{reply_meant};
 ghost use Rattle.sj_run.specs.Shown.{reply_text};
 
-use super::Changed;
+use super::{Changed, Texts};
+use crate::document::Way;
 use crate::reply::Reply;
 use crate::runs::Why;
-use sj_document::OwnedValue;
 use sj_object::KeyText;
-use sj_text_core::{TryMake, Writable};
+use sj_text_core::Writable;
 use std::alloc::{AllocError, Global};
-use std::borrow::CowStr;
 
-impl<T: KeyText> Changed<T> {
+impl<T: KeyText + Drop> Changed<T> {
+    /// The reply, with the value that was there.
+    pub(crate) fn into_reply(self, alloc: Global) -> Result<Reply, AllocError>
+    where
+        Way: Texts<T>,
+        ensures { IfOk result (λ reply. reply_meant reply ≡ changed_meant T.text_of self) }
+    {
+        match self {
+            Changed::Old(mut value) => Ok(Reply::Old(<Way as Texts<T>>::owned(alloc, &mut value)?)),
+            Changed::Nothing => Ok(Reply::Nothing),
+            Changed::Done => Ok(Reply::Done),
+            Changed::Missing => Ok(Reply::Missing),
+            Changed::NotAnObject => Ok(Reply::NotAnObject),
+            Changed::NotAnArray => Ok(Reply::NotAnArray),
+        }
+    }
+
     /// Appends the text of the reply.
     pub(crate) fn write(&self, out: &mut Vec<u8>) -> Result<(), Why>
         ensures ok { OnOk result (out.new.items ≡ out.old.items ++ reply_text (changed_meant T.text_of self.now)) }
@@ -32,36 +46,5 @@ impl<T: KeyText> Changed<T> {
             Changed::NotAnArray => out.extend_from_slice(b"not an array")?,
         }
         Ok(())
-    }
-}
-
-/// The reply, with the value that was there.
-pub(crate) fn reply_of(changed: Changed<String>) -> Reply
-    ensures { reply_meant result ≡ changed_meant string_bytes changed }
-{
-    match changed {
-        Changed::Old(value) => Reply::Old(value),
-        Changed::Nothing => Reply::Nothing,
-        Changed::Done => Reply::Done,
-        Changed::Missing => Reply::Missing,
-        Changed::NotAnObject => Reply::NotAnObject,
-        Changed::NotAnArray => Reply::NotAnArray,
-    }
-}
-
-/// The same with texts of its own.
-pub(crate) fn owned_changed<'v>(
-    alloc: Global,
-    changed: Changed<CowStr<'v>>,
-) -> Result<Changed<String>, AllocError>
-    ensures { IfOk result (λ owned. changed_meant string_bytes owned ≡ changed_meant cow_str_bytes changed.entry) }
-{
-    match changed {
-        Changed::Old(value) => Ok(Changed::Old(OwnedValue::try_make(alloc, value)?)),
-        Changed::Nothing => Ok(Changed::Nothing),
-        Changed::Done => Ok(Changed::Done),
-        Changed::Missing => Ok(Changed::Missing),
-        Changed::NotAnObject => Ok(Changed::NotAnObject),
-        Changed::NotAnArray => Ok(Changed::NotAnArray),
     }
 }

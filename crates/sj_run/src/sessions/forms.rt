@@ -6,7 +6,7 @@ ghost use Rattle.sj_text_core.specs.Tree.{IsWithin};
 ghost use Rattle.sj_run.specs.inner.Answered.{ReadsTree, AnswersText, PassesText};
 ghost use Rattle.sj_run.specs.declared.sessions.Form.TheVariants as variant;
 
-use crate::document::{BorrowedDoc, LazyDoc, OwnedDoc, Way};
+use crate::document::Way;
 use crate::sessions::answer::answer_all;
 use crate::sessions::{Form, SessionFault};
 use sj_document::{BorrowedValue, OwnedValue};
@@ -78,8 +78,8 @@ fn owned(
     ensures utf8 { IsErrOf result (SessionFault.Refused ErrorKind.InvalidUtf8) ↔ ¬ (IsUtf8 text.old) }
     ensures too_long { IsErrOf result SessionFault.TooLong → PassesText repeats variant.Owned text.old lines.old (length out.old.items) }
 {
-    let value = read_document::<OwnedValue, String>(alloc, text, repeats)?;
-    answer_all(alloc, &mut OwnedDoc { way, value }, lines, out)?;
+    let mut value = read_document::<OwnedValue, String>(alloc, text, repeats)?;
+    answer_all::<OwnedValue, String>(alloc, &mut value, way, lines, out)?;
     Ok(())
 }
 
@@ -99,8 +99,8 @@ fn borrowed<'i>(
     ensures utf8 { IsErrOf result (SessionFault.Refused ErrorKind.InvalidUtf8) ↔ ¬ (IsUtf8 text.old) }
     ensures too_long { IsErrOf result SessionFault.TooLong → PassesText repeats variant.Borrowed text.old lines.old (length out.old.items) }
 {
-    let value = read_document::<BorrowedValue<'i>, CowStr<'i>>(alloc, text, repeats)?;
-    answer_all(alloc, &mut BorrowedDoc { way, value }, lines, out)?;
+    let mut value = read_document::<BorrowedValue<'i>, CowStr<'i>>(alloc, text, repeats)?;
+    answer_all::<BorrowedValue<'i>, CowStr<'i>>(alloc, &mut value, way, lines, out)?;
     Ok(())
 }
 
@@ -120,13 +120,13 @@ fn lazy<'i>(
     ensures too_long { IsErrOf result SessionFault.TooLong → PassesText repeats variant.Lazy text.old lines.old (length out.old.items) }
 {
     let tape = read_tape(alloc, text)?;
-    let value = Value::from_tape(tape.as_value_repeats(repeats));
-    answer_all(alloc, &mut LazyDoc { value }, lines, out)?;
+    let mut value = Value::from_tape(tape.as_value_repeats(repeats));
+    answer_all::<Value<'_, '_, 'i>, CowStr<'i>>(alloc, &mut value, Way::ByText, lines, out)?;
     Ok(())
 }
 
-/// Reads a document of the form, and answers the commands of the lines on it. A lazy one is looked up
-/// in by text.
+/// Reads a document of the form, and answers the commands of the lines on it. A lazy one is looked
+/// up in by text.
 pub(super) fn answered_as(
     alloc: Global,
     form: Form,

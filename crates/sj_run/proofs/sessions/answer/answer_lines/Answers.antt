@@ -16,8 +16,8 @@ loop-at-preserved-in_ok-answer_line g c =
     let n = c.text_len.result in
     let i = c.loop-at.invariant in
     let h : TextAt b at len n = text_ahead a b at len n i.ahead (text_at a at len n (line_at a at len c.line_len.ensures.within c.line_len.ensures.first) c.text_len.ensures.within c.text_len.ensures.text) in
-    let t = g.D.Document.part c.loop-at.document in
-    let v = g.D.Document.part c.answer_line.new.document in
+    let t = g.V.Root.part c.loop-at.value in
+    let v = g.V.Root.part c.answer_line.new.value in
     let out = c.loop-at.out.items in
     let mid = c.answer_line.new.out.items in
     let line = take n (drop at b) in
@@ -29,7 +29,7 @@ loop-at-preserved-in_ok-answer_line g c =
       same_length = written_length a at n c.answer_line.new.line (omega (arith, h.line.within, h.within, length-drop at b, i.same_length)) c.answer_line.auto.line ∙ i.same_length;
       ahead = behind_line a b c.answer_line.new.line at n len (omega arith) h.within (c.answer_line.auto.line ∙ part_length a at n (omega (arith, h.line.within, h.within, length-drop at b, i.same_length))) i.ahead;
       begun = begun_more c.args.out.now.items out mid i.begun (grown out _ mid a1.shows);
-      told = told-more (g.D.Document.part c.args.document.now) t v (line_texts (full_lines b)) rest (line_texts (full_lines (drop at b))) line c.args.out.now.items out mid i.told some a1;
+      told = told-more (g.V.Root.part c.args.value.now) t v (line_texts (full_lines b)) rest (line_texts (full_lines (drop at b))) line c.args.out.now.items out mid i.told some a1;
       passes = λ k. i.passes (subst (λ (ls : List (List ℕ)). PassesLines t ls (length out)) (sym some) (passes_more t v line rest out mid a1 k));
     }
 
@@ -42,7 +42,7 @@ loop-at-preserved g c =
     let n = c.text_len.result in
     let i = c.loop-at.invariant in
     let h : TextAt b at len n = text_ahead a b at len n i.ahead (text_at a at len n (line_at a at len c.line_len.ensures.within c.line_len.ensures.first) c.text_len.ensures.within c.text_len.ensures.text) in
-    let t = g.D.Document.part c.loop-at.document in
+    let t = g.V.Root.part c.loop-at.value in
     let out = c.loop-at.out.items in
     let none = text-none b at len (subst (λ (k : ℕ). TextAt b at len k) (omega (arith, c.if-at-stop.false)) h) in
     record {
@@ -50,7 +50,7 @@ loop-at-preserved g c =
       same_length = i.same_length;
       ahead = sym (drop-drop len at a) ∙ ap (λ r. drop len r) i.ahead ∙ drop-drop len at b;
       begun = i.begun;
-      told = told-passed (g.D.Document.part c.args.document.now) t (line_texts (full_lines b)) (line_texts (full_lines (drop (at + len) b))) (line_texts (full_lines (drop at b))) c.args.out.now.items out i.told none;
+      told = told-passed (g.V.Root.part c.args.value.now) t (line_texts (full_lines b)) (line_texts (full_lines (drop (at + len) b))) (line_texts (full_lines (drop at b))) c.args.out.now.items out i.told none;
       passes = λ k. i.passes (subst (λ (ls : List (List ℕ)). PassesLines t ls (length out)) (sym none) k);
     }
 
@@ -63,7 +63,7 @@ returns-in_err-answer_line-clause-too_long g c =
     let n = c.text_len.result in
     let i = c.loop-at.invariant in
     let h : TextAt b at len n = text_ahead a b at len n i.ahead (text_at a at len n (line_at a at len c.line_len.ensures.within c.line_len.ensures.first) c.text_len.ensures.within c.text_len.ensures.text) in
-    let t = g.D.Document.part c.loop-at.document in
+    let t = g.V.Root.part c.loop-at.value in
     let m = length c.loop-at.out.items in
     let some = text-some b at len n (omega arith) h in
     λ e.
