@@ -1,5 +1,6 @@
 -- A part of a tape and a document, compared.
-use Rattle.std.proofs.Common.{◌≡◌, ℕ, suc, zero, ◌+◌, ◌-◌, ◌<◌, Bool, true, false, ◌||◌, List, [], ◌∷◌, length, map, take, drop, get_or, drop-cons, Some, None, option_map, refl, sym, ap, ◌∙◌, subst, arith, true≢false, bytes_eq}
+use Rattle.std.proofs.Common.{◌≡◌, ℕ, suc, zero, ◌+◌, ◌-◌, ◌<◌, ◌≤◌, Bool, true, false, ◌||◌, List, [], ◌∷◌, length, map, take, drop, get_or, drop-cons, Some, None, option_map, refl, sym, ap, ◌∙◌, subst, arith, true≢false, bytes_eq}
+use Rattle.std.proofs.lemmas.List.{drop_all, nil_from_length}
 use Rattle.std.proofs.lemmas.Slice.Eq.{bytes_eq-Decides}
 use Rattle.std.proofs.lemmas.Bool.{or_from, or_right}
 use Rattle.sj_text_core.specs.Tree.{Tree, list, Items, items_len, items_from, listed, Members, paired}
@@ -31,6 +32,13 @@ from_mixed c is js h = subst (λ v. Same v (list js)) (sym (items_by c is)) h
 module _ {B : Type 0} (g : B → Tree) where
   pub lens_mixed : (is : Items) (ys : List B) → SameItems is (items_from (map g ys)) → items_len is ≡ length ys
   lens_mixed is ys h = same_items_len is _ h ∙ sym (length-items g ys)
+
+  -- both at their end
+  pub ended_mixed : (c : Repeats) (ts : List Tree) (i : ℕ) (ys : List B) → length ys ≤ i → length ts ≡ length (drop i ys) → SameItems (part_items (parts c ts)) (items_from (map g (drop i ys)))
+  ended_mixed c ts i ys h e =
+      let gone = drop_all i ys h in
+      let none = nil_from_length ts (e ∙ ap (λ (l : List B). length l) gone) in
+      subst (λ ts. SameItems (part_items (parts c ts)) (items_from (map g (drop i ys)))) (sym none) (ap (λ (l : List B). items_from (map g l)) gone)
 
   module _ (ahead next : List Tree) (x : Tree) (steps : ahead ≡ x ∷ next) (i : ℕ) (ys : List B) (y : B) (hy : i < length ys) (ey : y ≡ get_or ys i y) where
     abbrev Both : List Tree → List B → Type 0

@@ -102,6 +102,14 @@ same_items-returns t c =
     let others = none_left _ _ (items_end c.loop-item.item-iterator.repeats (items_ahead c.loop-item.item-iterator) c.in-None.ensures.steps.0) c.loop-item.invariant.lens in
     (λ _. c.loop-item.invariant.on (moved [] [] _ _ (sym c.in-None.ensures.steps.0) (sym (ap (parts c.loop-item.others.repeats) others)) refl), λ h. refl)
 
+pub same_members-returns-in-First-repeats : goal.same_members-returns-in-First-repeats
+same_members-returns-in-First-repeats t c =
+    as_same (object_choice c.args.left) (object_choice c.args.right) (obj (members c.args.left)) (obj (members c.args.right)) _ First First _ _ (sym c.in-First.is ∙ c.repeats.ensures) (sym c.in-First-repeats.is ∙ c.repeats-in-First.ensures) refl refl c.first_in_step.ensures
+
+pub same_members-returns-in-Last : goal.same_members-returns-in-Last
+same_members-returns-in-Last t c =
+    as_same (object_choice c.args.left) (object_choice c.args.right) (obj (members c.args.left)) (obj (members c.args.right)) _ Last (object_choice c.args.right) _ _ (sym c.in-Last.is ∙ c.repeats.ensures) refl refl refl c.last_members.ensures
+
 pub same_members-returns-in-Last-repeats : goal.same_members-returns-in-Last-repeats
 same_members-returns-in-Last-repeats t c =
     let mine = by_first (object_choice c.args.left) (obj (members c.args.left)) in
@@ -113,9 +121,8 @@ same_members-returns-in-Last-repeats t c =
 
 pub first_in_step-overflow_add-place : goal.first_in_step-overflow_add-place
 first_in_step-overflow_add-place r c =
-    let own = walked First (members c.args.left) c.loop-key.place c.in-Some.key.now c.in-Some.value c.loop-key.key-iterator c.next.new.self c.loop-key.invariant.ahead c.loop-key.invariant.mine c.in-Some.ensures.steps in
     let g : c.args.left.len < 2 ^ 64 = search (rules, c.well_formed) in
-    omega (arith, own.fits, g, c.args.left.counted)
+    omega (arith, (walked First (members c.args.left) c.loop-key.place c.in-Some.key.now c.in-Some.value c.loop-key.key-iterator c.next.new.self c.loop-key.invariant.ahead c.loop-key.invariant.mine c.in-Some.ensures.steps).fits, g, c.args.left.counted)
 
 pub first_in_step-same_parts-requires : goal.first_in_step-same_parts-requires
 first_in_step-same_parts-requires r c =
@@ -180,15 +187,13 @@ first_in_step-returns-in-None-next t c =
 
 pub first_by_key-overflow_add-at : goal.first_by_key-overflow_add-at
 first_by_key-overflow_add-at r c =
-    let own = walked First (members c.args.left) c.loop-key.at c.in-Some.key.now c.in-Some.value c.loop-key.key-iterator c.next.new.self c.loop-key.invariant.ahead c.loop-key.invariant.mine c.in-Some.ensures.steps in
     let g : c.args.left.len < 2 ^ 64 = search (rules, c.well_formed) in
-    omega (arith, own.fits, g, c.args.left.counted)
+    omega (arith, (walked First (members c.args.left) c.loop-key.at c.in-Some.key.now c.in-Some.value c.loop-key.key-iterator c.next.new.self c.loop-key.invariant.ahead c.loop-key.invariant.mine c.in-Some.ensures.steps).fits, g, c.args.left.counted)
 
 pub first_by_key-same_parts-requires : goal.first_by_key-same_parts-requires
 first_by_key-same_parts-requires r c =
-    let own = walked First (members c.args.left) c.loop-key.at c.in-Some.key.now c.in-Some.value c.loop-key.key-iterator c.next.new.self c.loop-key.invariant.ahead c.loop-key.invariant.mine c.in-Some.ensures.steps in
     let beside = found_within (object_choice c.args.right) c.in-Some.key.now (members c.args.right) (tape_tree c.in-Some-get.other) (sym c.in-Some-get.ensures.value) in
-    (omega (arith, c.decreases, own.within, beside), tt)
+    (omega (arith, c.decreases, (walked First (members c.args.left) c.loop-key.at c.in-Some.key.now c.in-Some.value c.loop-key.key-iterator c.next.new.self c.loop-key.invariant.ahead c.loop-key.invariant.mine c.in-Some.ensures.steps).within, beside), tt)
 
 pub first_by_key-returns-then-not-same_parts : goal.first_by_key-returns-then-not-same_parts
 first_by_key-returns-then-not-same_parts r c =
@@ -254,9 +259,8 @@ first_by_key-returns t c =
 
 pub last_in_step-overflow_add-seen : goal.last_in_step-overflow_add-seen
 last_in_step-overflow_add-seen r c =
-    let own = walked Last (members c.args.left) c.loop-key.seen c.in-Some.key.now c.in-Some.value c.loop-key.key-iterator c.next.new.self c.loop-key.invariant.ahead c.loop-key.invariant.mine c.in-Some.ensures.steps in
     let g : c.args.left.len < 2 ^ 64 = search (rules, c.well_formed) in
-    omega (arith, own.fits, g, c.args.left.counted)
+    omega (arith, (walked Last (members c.args.left) c.loop-key.seen c.in-Some.key.now c.in-Some.value c.loop-key.key-iterator c.next.new.self c.loop-key.invariant.ahead c.loop-key.invariant.mine c.in-Some.ensures.steps).fits, g, c.args.left.counted)
 
 pub last_in_step-same_parts-requires : goal.last_in_step-same_parts-requires
 last_in_step-same_parts-requires r c =
@@ -313,10 +317,8 @@ last_in_step-loop-key-preserved r c =
 pub last_in_step-returns-in-None-next : goal.last_in_step-returns-in-None-next
 last_in_step-returns-in-None-next r c =
     let i = c.loop-key.invariant in
-    let m = members c.args.left in
-    let k = c.in-Some.key.now in
-    let own = walked Last m c.loop-key.seen k c.in-Some.value c.loop-key.key-iterator c.next.new.self i.ahead i.mine c.in-Some.ensures.steps in
-    absurd (goes_on m (members c.args.right) c.requires.keys c.loop-key.seen k (tape_tree c.in-Some.value) _ _ i.ahead own.step _ i.others (members_end c.loop-key.others.repeats (members_ahead c.loop-key.others) c.in-None-next.ensures.steps.0))
+    let own = walked Last (members c.args.left) c.loop-key.seen c.in-Some.key.now c.in-Some.value c.loop-key.key-iterator c.next.new.self i.ahead i.mine c.in-Some.ensures.steps in
+    absurd (goes_on (members c.args.left) (members c.args.right) c.requires.keys c.loop-key.seen c.in-Some.key.now (tape_tree c.in-Some.value) _ _ i.ahead own.step _ i.others (members_end c.loop-key.others.repeats (members_ahead c.loop-key.others) c.in-None-next.ensures.steps.0))
 
 pub last_in_step-returns : goal.last_in_step-returns
 last_in_step-returns t c =
@@ -324,15 +326,13 @@ last_in_step-returns t c =
 
 pub last_by_key-overflow_add-seen : goal.last_by_key-overflow_add-seen
 last_by_key-overflow_add-seen r c =
-    let own = walked Last (members c.args.left) c.loop-key.seen c.in-Some.key.now c.in-Some.value c.loop-key.key-iterator c.next.new.self c.loop-key.invariant.ahead c.loop-key.invariant.mine c.in-Some.ensures.steps in
     let g : c.args.left.len < 2 ^ 64 = search (rules, c.well_formed) in
-    omega (arith, own.fits, g, c.args.left.counted)
+    omega (arith, (walked Last (members c.args.left) c.loop-key.seen c.in-Some.key.now c.in-Some.value c.loop-key.key-iterator c.next.new.self c.loop-key.invariant.ahead c.loop-key.invariant.mine c.in-Some.ensures.steps).fits, g, c.args.left.counted)
 
 pub last_by_key-same_parts-requires : goal.last_by_key-same_parts-requires
 last_by_key-same_parts-requires r c =
-    let own = walked Last (members c.args.left) c.loop-key.seen c.in-Some.key.now c.in-Some.value c.loop-key.key-iterator c.next.new.self c.loop-key.invariant.ahead c.loop-key.invariant.mine c.in-Some.ensures.steps in
     let beside = found_within (object_choice c.args.right) c.in-Some.key.now (members c.args.right) (tape_tree c.in-Some-get.other) (sym c.in-Some-get.ensures.value) in
-    (omega (arith, c.decreases, own.within, beside), tt)
+    (omega (arith, c.decreases, (walked Last (members c.args.left) c.loop-key.seen c.in-Some.key.now c.in-Some.value c.loop-key.key-iterator c.next.new.self c.loop-key.invariant.ahead c.loop-key.invariant.mine c.in-Some.ensures.steps).within, beside), tt)
 
 pub last_by_key-returns-then-not-same_parts : goal.last_by_key-returns-then-not-same_parts
 last_by_key-returns-then-not-same_parts r c =

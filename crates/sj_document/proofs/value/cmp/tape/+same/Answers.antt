@@ -1,5 +1,5 @@
 use Rattle.std.proofs.Common.{◌≡◌, List, ◌+◌, ◌<◌, ◌^◌, ◌↔◌, map, refl, sym, ap, subst, ◌∙◌, arith, rules, length, IsTrue, bytes_eq}
-use Rattle.sj_text_core.specs.Tree.{Tree, list, obj, items_depth, items_from, listed, paired}
+use Rattle.sj_text_core.specs.Tree.{Tree, list, obj, depth, items_depth, items_from, listed, paired}
 use Rattle.sj_text_core.specs.Agree.{is_seen_before}
 use Rattle.sj_text_core.specs.inner.Agree.{HasTexts}
 use Rattle.sj_text_core.specs.Keep.{is_seen}
@@ -9,7 +9,7 @@ use Rattle.sj_text_core.specs.declared.repeats.Repeats.{Repeats}
 use Rattle.sj_text_core.specs.declared.repeats.Repeats.TheVariants.{First, Last}
 use Rattle.sj_text_core.proofs.Shapes.{items_from-listed, list_is, obj_is}
 use Rattle.sj_tape.specs.Items.{items, items_ahead, array_choice}
-use Rattle.sj_tape.specs.Members.{members, members_ahead, chosen_pairs, members_parts_ahead}
+use Rattle.sj_tape.specs.Members.{members, members_ahead, object_choice, chosen_pairs, members_parts_ahead}
 use Rattle.sj_tape.specs.Value.{tape_tree, tape_choice, tape_part}
 use Rattle.sj_tape.proofs.Chosen.{item_step, members_end}
 use Rattle.sj_tape.proofs.Compared.{scalar_is, length-listed, drop_next, same_here, further_repeat, further_in_step, texts_further, same_at_end, same_found, differ_absent, further_found, same_if_has, has_if_same, allowed, denied, agree_less}
@@ -21,7 +21,7 @@ use Rattle.sj_object.specs.Members.{entry_members}
 use Rattle.sj_object.specs.Texts.{no_repeats}
 use Rattle.sj_document.specs.Document.{document_tree}
 use Rattle.sj_document.proofs.Trees.{tree-Static, tree-Array, tree-Object}
-use Rattle.sj_document.proofs.Mixed.{lens_mixed, into_mixed, from_mixed, taken_mixed, joined_mixed, lens_next, texts_paired, found_at, absent_at, first_here, last_here, found_here}
+use Rattle.sj_document.proofs.Mixed.{lens_mixed, ended_mixed, into_mixed, from_mixed, taken_mixed, joined_mixed, lens_next, texts_paired, found_at, absent_at, first_here, last_here, found_here}
 use Rattle.sj_document.proofs.Sorts.{text_is, same_text, tree-String, by_static, by_text, unlike_static, unlike_text, unlike_list, unlike_obj}
 use Rattle.sj_document.proofs.value.cmp.tape.+same.Goals as goal
 use Rattle.sj_document.proofs.value.cmp.tape.+same.Goals.{first_by_key-then-at-place+then-not-has_before+in-Some-get+else-not-same_as_tape, first_by_key-else-at-place, first_by_key-else-at-place-via-then-at-place+else-not-has_before, first_by_key-else-at-place-via-else-at-place}
@@ -50,23 +50,23 @@ same_as_tape-returns-in-Some-as_array g r c =
 
 pub same_as_tape-returns-in-None : goal.same_as_tape-returns-in-None
 same_as_tape-returns-in-None g r c =
-    let u = g.T.KeyText.text_of in
-    (λ f. absurd (cc), λ h. absurd (unlike_static (tape_tree c.args.left) (by_first (tape_choice c.args.left) (tape_tree c.args.left)) (document_tree u c.args.right.now) (sort_by (tape_choice c.args.left) (tape_tree c.args.left)) c.in-None.ensures c.in-Static.other (ap (document_tree u) c.in-Static.is ∙ tree-Static u c.in-Static.other) h))
+    (λ f. absurd (cc), λ h. absurd (unlike_static (tape_tree c.args.left) (by_first (tape_choice c.args.left) (tape_tree c.args.left)) (document_tree g.T.KeyText.text_of c.args.right.now) (sort_by (tape_choice c.args.left) (tape_tree c.args.left)) c.in-None.ensures c.in-Static.other (ap (document_tree g.T.KeyText.text_of) c.in-Static.is ∙ tree-Static g.T.KeyText.text_of c.in-Static.other) h))
 
 pub same_as_tape-returns-in-None-into_string : goal.same_as_tape-returns-in-None-into_string
 same_as_tape-returns-in-None-into_string g r c =
-    let u = g.T.KeyText.text_of in
-    (λ f. absurd (cc), λ h. absurd (unlike_text (tape_tree c.args.left) (by_first (tape_choice c.args.left) (tape_tree c.args.left)) (document_tree u c.args.right.now) (sort_by (tape_choice c.args.left) (tape_tree c.args.left)) c.in-None-into_string.ensures _ (ap (document_tree u) c.in-String.is ∙ tree-String u c.in-String.other) h))
+    (λ f. absurd (cc), λ h. absurd (unlike_text (tape_tree c.args.left) (by_first (tape_choice c.args.left) (tape_tree c.args.left)) (document_tree g.T.KeyText.text_of c.args.right.now) (sort_by (tape_choice c.args.left) (tape_tree c.args.left)) c.in-None-into_string.ensures _ (ap (document_tree g.T.KeyText.text_of) c.in-String.is ∙ tree-String g.T.KeyText.text_of c.in-String.other) h))
 
 pub same_as_tape-returns-in-None-as_array : goal.same_as_tape-returns-in-None-as_array
 same_as_tape-returns-in-None-as_array g r c =
-    let u = g.T.KeyText.text_of in
-    (λ f. absurd (cc), λ h. absurd (unlike_list (tape_tree c.args.left) (by_first (tape_choice c.args.left) (tape_tree c.args.left)) (document_tree u c.args.right.now) (sort_by (tape_choice c.args.left) (tape_tree c.args.left)) c.in-None-as_array.ensures.items _ (ap (document_tree u) c.in-Array.is ∙ tree-Array u c.in-Array.others) h))
+    (λ f. absurd (cc), λ h. absurd (unlike_list (tape_tree c.args.left) (by_first (tape_choice c.args.left) (tape_tree c.args.left)) (document_tree g.T.KeyText.text_of c.args.right.now) (sort_by (tape_choice c.args.left) (tape_tree c.args.left)) c.in-None-as_array.ensures.items _ (ap (document_tree g.T.KeyText.text_of) c.in-Array.is ∙ tree-Array g.T.KeyText.text_of c.in-Array.others) h))
 
 pub same_as_tape-returns-in-None-as_object : goal.same_as_tape-returns-in-None-as_object
 same_as_tape-returns-in-None-as_object g r c =
-    let u = g.T.KeyText.text_of in
-    (λ f. absurd (cc), λ h. absurd (unlike_obj (tape_tree c.args.left) (by_first (tape_choice c.args.left) (tape_tree c.args.left)) (document_tree u c.args.right.now) (sort_by (tape_choice c.args.left) (tape_tree c.args.left)) c.in-None-as_object.ensures.members _ (ap (document_tree u) c.in-Object.is ∙ tree-Object u c.in-Object.others) h))
+    (λ f. absurd (cc), λ h. absurd (unlike_obj (tape_tree c.args.left) (by_first (tape_choice c.args.left) (tape_tree c.args.left)) (document_tree g.T.KeyText.text_of c.args.right.now) (sort_by (tape_choice c.args.left) (tape_tree c.args.left)) c.in-None-as_object.ensures.members _ (ap (document_tree g.T.KeyText.text_of) c.in-Object.is ∙ tree-Object g.T.KeyText.text_of c.in-Object.others) h))
+
+pub same_as_tape-same_members-requires : goal.same_as_tape-same_members-requires
+same_as_tape-same_members-requires g r c κs within =
+    (omega (arith, c.decreases, ap depth (obj_is (tape_tree c.args.left) (members c.in-Some-as_object.members) c.in-Some-as_object.ensures.members)), (within, c.repeats.ensures ∙ sym c.in-Some-as_object.ensures.choice))
 
 pub same_as_tape-returns-in-Some-as_object : goal.same_as_tape-returns-in-Some-as_object
 same_as_tape-returns-in-Some-as_object g r c =
@@ -121,16 +121,27 @@ same_items-loop-other-preserved g r c =
       within = omega (arith, i.within, ap (λ l. items_depth (items_from l)) step);
     }
 
+pub same_items-returns : goal.same_items-returns
+same_items-returns g r c =
+    let all = c.loop-other.invariant.on (ended_mixed (document_tree g.T.KeyText.text_of) c.loop-other.items.repeats (items_ahead c.loop-other.items) c.loop-other.other-index c.as_slice-others.result.now (omega (arith, c.loop-other-test.false)) c.loop-other.invariant.lens) in
+    (λ _. rw c.as_slice-others.ensures.value at all, λ h. refl)
+
+pub same_members-returns-in-First : goal.same_members-returns-in-First
+same_members-returns-in-First g r c =
+    as_same (object_choice c.args.left) First (obj (members c.args.left)) (obj (entry_members (document_tree g.T.KeyText.text_of) c.args.right.now.entries)) _ First First _ _ (sym c.in-First.is ∙ c.requires) refl refl refl c.first_in_step.ensures
+
+pub same_members-returns-in-Last : goal.same_members-returns-in-Last
+same_members-returns-in-Last g r c =
+    as_same (object_choice c.args.left) First (obj (members c.args.left)) (obj (entry_members (document_tree g.T.KeyText.text_of) c.args.right.now.entries)) _ Last First _ _ (sym c.in-Last.is ∙ c.requires) refl refl refl c.last_members.ensures
+
 pub first_in_step-overflow_add-place : goal.first_in_step-overflow_add-place
 first_in_step-overflow_add-place g r c =
-    let own = walked First (members c.args.left) c.loop-key.place c.in-Some.key.now c.in-Some.value c.loop-key.key-iterator c.next.new.self c.loop-key.invariant.ahead c.loop-key.invariant.mine c.in-Some.ensures.steps in
     let f : c.args.left.len < 2 ^ 64 = search (rules, c.well_formed) in
-    omega (arith, own.fits, f, c.args.left.counted)
+    omega (arith, (walked First (members c.args.left) c.loop-key.place c.in-Some.key.now c.in-Some.value c.loop-key.key-iterator c.next.new.self c.loop-key.invariant.ahead c.loop-key.invariant.mine c.in-Some.ensures.steps).fits, f, c.args.left.counted)
 
 pub first_in_step-same_as_tape-requires : goal.first_in_step-same_as_tape-requires
 first_in_step-same_as_tape-requires g r c κs within =
-    let own = walked First (members c.args.left) c.loop-key.place c.in-Some.key.now c.in-Some.value c.loop-key.key-iterator c.next.new.self c.loop-key.invariant.ahead c.loop-key.invariant.mine c.in-Some.ensures.steps in
-    (omega (arith, c.decreases, own.within), within)
+    (omega (arith, c.decreases, (walked First (members c.args.left) c.loop-key.place c.in-Some.key.now c.in-Some.value c.loop-key.key-iterator c.next.new.self c.loop-key.invariant.ahead c.loop-key.invariant.mine c.in-Some.ensures.steps).within), within)
 
 pub first_in_step-returns-then-not-same_as_tape : goal.first_in_step-returns-then-not-same_as_tape
 first_in_step-returns-then-not-same_as_tape g r c =
@@ -172,20 +183,17 @@ first_in_step-loop-key-preserved g r c =
 
 pub first_in_step-returns-in-None-next : goal.first_in_step-returns-in-None-next
 first_in_step-returns-in-None-next g r c =
-    let u = g.T.KeyText.text_of in
     let i = c.loop-key.invariant in
-    (λ _. same_at_end c.loop-key.place (members c.args.left) (entry_members (document_tree u) c.args.right.now.entries) _ _ i.ahead (members_end c.loop-key.key-iterator.repeats (members_ahead c.loop-key.key-iterator) c.in-None.ensures.steps.0) i.others (ap (λ s. paired (entry_members (document_tree u) (entries_of u s))) c.in-None-next.ensures.steps.0) i.in_step i.agree, λ h. refl)
+    (λ _. same_at_end c.loop-key.place (members c.args.left) (entry_members (document_tree g.T.KeyText.text_of) c.args.right.now.entries) _ _ i.ahead (members_end c.loop-key.key-iterator.repeats (members_ahead c.loop-key.key-iterator) c.in-None.ensures.steps.0) i.others (ap (λ s. paired (entry_members (document_tree g.T.KeyText.text_of) (entries_of g.T.KeyText.text_of s))) c.in-None-next.ensures.steps.0) i.in_step i.agree, λ h. refl)
 
 pub first_by_key-overflow_add-at : goal.first_by_key-overflow_add-at
 first_by_key-overflow_add-at g r c =
-    let own = walked First (members c.args.left) c.loop-key.at c.in-Some.key.now c.in-Some.value c.loop-key.key-iterator c.next.new.self c.loop-key.invariant.ahead c.loop-key.invariant.mine c.in-Some.ensures.steps in
     let f : c.args.left.len < 2 ^ 64 = search (rules, c.well_formed) in
-    omega (arith, own.fits, f, c.args.left.counted)
+    omega (arith, (walked First (members c.args.left) c.loop-key.at c.in-Some.key.now c.in-Some.value c.loop-key.key-iterator c.next.new.self c.loop-key.invariant.ahead c.loop-key.invariant.mine c.in-Some.ensures.steps).fits, f, c.args.left.counted)
 
 pub first_by_key-same_as_tape-requires : goal.first_by_key-same_as_tape-requires
 first_by_key-same_as_tape-requires g r c κs within =
-    let own = walked First (members c.args.left) c.loop-key.at c.in-Some.key.now c.in-Some.value c.loop-key.key-iterator c.next.new.self c.loop-key.invariant.ahead c.loop-key.invariant.mine c.in-Some.ensures.steps in
-    (omega (arith, c.decreases, own.within), within)
+    (omega (arith, c.decreases, (walked First (members c.args.left) c.loop-key.at c.in-Some.key.now c.in-Some.value c.loop-key.key-iterator c.next.new.self c.loop-key.invariant.ahead c.loop-key.invariant.mine c.in-Some.ensures.steps).within), within)
 
 pub first_by_key-returns-then-not-same_as_tape : goal.first_by_key-returns-then-not-same_as_tape
 first_by_key-returns-then-not-same_as_tape g r c =
@@ -261,8 +269,7 @@ last_in_step-loop-value-init g r c =
 
 pub last_in_step-same_as_tape-requires : goal.last_in_step-same_as_tape-requires
 last_in_step-same_as_tape-requires g r c κs within =
-    let own = walked Last (members c.args.left) c.loop-value.invariant.at.0 c.in-Some.field-0-0.now c.in-Some.value c.loop-value.value-iterator c.next.new.self c.loop-value.invariant.at.1 c.loop-value.invariant.mine c.in-Some.ensures.steps in
-    (omega (arith, c.decreases, own.within), within)
+    (omega (arith, c.decreases, (walked Last (members c.args.left) c.loop-value.invariant.at.0 c.in-Some.field-0-0.now c.in-Some.value c.loop-value.value-iterator c.next.new.self c.loop-value.invariant.at.1 c.loop-value.invariant.mine c.in-Some.ensures.steps).within), within)
 
 pub last_in_step-returns-then-not-same_as_tape : goal.last_in_step-returns-then-not-same_as_tape
 last_in_step-returns-then-not-same_as_tape g r c =
@@ -313,25 +320,20 @@ last_in_step-returns-in-None-next g r c =
     let i = c.loop-value.invariant in
     let k = c.in-Some.field-0-0.now in
     let own = walked Last (members c.args.left) i.at.0 k c.in-Some.value c.loop-value.value-iterator c.next.new.self i.at.1 i.mine c.in-Some.ensures.steps in
-    let t = g.T.KeyText.text_of in
-    let u = document_tree t in
-    absurd (goes_on (members c.args.left) (entry_members u c.args.right.now.entries) c.requires.keys i.at.0 k (tape_tree c.in-Some.value) _ _ i.at.1 own.step _ i.at.2 (ap (λ s. paired (entry_members u (entries_of t s))) c.in-None-next.ensures.steps.0))
+    absurd (goes_on (members c.args.left) (entry_members (document_tree g.T.KeyText.text_of) c.args.right.now.entries) c.requires.keys i.at.0 k (tape_tree c.in-Some.value) _ _ i.at.1 own.step _ i.at.2 (ap (λ s. paired (entry_members (document_tree g.T.KeyText.text_of) (entries_of g.T.KeyText.text_of s))) c.in-None-next.ensures.steps.0))
 
 pub last_in_step-returns : goal.last_in_step-returns
 last_in_step-returns g r c =
-    let none = members_end c.loop-value.value-iterator.repeats (members_ahead c.loop-value.value-iterator) c.in-None.ensures.steps.0 in
-    (λ _. same_if_counted First (members c.args.left) (entry_members (document_tree g.T.KeyText.text_of) c.args.right.now.entries) _ none c.loop-value.invariant.counted (λ k s. ap (is_seen k) c.requires.keys ∙ s), λ h. refl)
+    (λ _. same_if_counted First (members c.args.left) (entry_members (document_tree g.T.KeyText.text_of) c.args.right.now.entries) _ (members_end c.loop-value.value-iterator.repeats (members_ahead c.loop-value.value-iterator) c.in-None.ensures.steps.0) c.loop-value.invariant.counted (λ k s. ap (is_seen k) c.requires.keys ∙ s), λ h. refl)
 
 pub last_by_key-overflow_add-seen : goal.last_by_key-overflow_add-seen
 last_by_key-overflow_add-seen g r c =
-    let own = walked Last (members c.args.left) c.loop-key.seen c.in-Some.key.now c.in-Some.value c.loop-key.key-iterator c.next.new.self c.loop-key.invariant.ahead c.loop-key.invariant.mine c.in-Some.ensures.steps in
     let f : c.args.left.len < 2 ^ 64 = search (rules, c.well_formed) in
-    omega (arith, own.fits, f, c.args.left.counted)
+    omega (arith, (walked Last (members c.args.left) c.loop-key.seen c.in-Some.key.now c.in-Some.value c.loop-key.key-iterator c.next.new.self c.loop-key.invariant.ahead c.loop-key.invariant.mine c.in-Some.ensures.steps).fits, f, c.args.left.counted)
 
 pub last_by_key-same_as_tape-requires : goal.last_by_key-same_as_tape-requires
 last_by_key-same_as_tape-requires g r c κs within =
-    let own = walked Last (members c.args.left) c.loop-key.seen c.in-Some.key.now c.in-Some.value c.loop-key.key-iterator c.next.new.self c.loop-key.invariant.ahead c.loop-key.invariant.mine c.in-Some.ensures.steps in
-    (omega (arith, c.decreases, own.within), within)
+    (omega (arith, c.decreases, (walked Last (members c.args.left) c.loop-key.seen c.in-Some.key.now c.in-Some.value c.loop-key.key-iterator c.next.new.self c.loop-key.invariant.ahead c.loop-key.invariant.mine c.in-Some.ensures.steps).within), within)
 
 pub last_by_key-returns-then-not-same_as_tape : goal.last_by_key-returns-then-not-same_as_tape
 last_by_key-returns-then-not-same_as_tape g r c =
@@ -341,12 +343,11 @@ last_by_key-returns-then-not-same_as_tape g r c =
     let own = walked Last m c.loop-key.seen k c.in-Some.value c.loop-key.key-iterator c.next.new.self i.ahead i.mine c.in-Some.ensures.steps in
     let u = document_tree g.T.KeyText.text_of in
     let es = c.args.right.now.entries in
-    let t = tape_tree c.in-Some.value in
     let behind = seen_behind c.has_behind.result (c.loop-key.seen + 1) k (paired m) _ c.has_behind.ensures own.rest in (
       λ f. absurd (cc),
       λ h. absurd (denied c.same_as_tape.result _ c.same_as_tape.ensures c.if-not-same_as_tape.true
-          (by_choices Last First (tape_choice c.in-Some.value) First t (u c.in-Some-get.other.now) (sym own.choice) refl
-          (same_last First m (entry_members u es) k t _ _ own.step c.loop-key.seen i.ahead (sym behind ∙ c.if-not-has_behind.true) (u c.in-Some-get.other.now) (found_at u k es c.in-Some-get.other.now c.in-Some-get.ensures) h))),
+          (by_choices Last First (tape_choice c.in-Some.value) First (tape_tree c.in-Some.value) (u c.in-Some-get.other.now) (sym own.choice) refl
+          (same_last First m (entry_members u es) k (tape_tree c.in-Some.value) _ _ own.step c.loop-key.seen i.ahead (sym behind ∙ c.if-not-has_behind.true) (u c.in-Some-get.other.now) (found_at u k es c.in-Some-get.other.now c.in-Some-get.ensures) h))),
     )
 
 pub last_by_key-loop-key-preserved-else-not-same_as_tape : goal.last_by_key-loop-key-preserved-else-not-same_as_tape
@@ -357,12 +358,11 @@ last_by_key-loop-key-preserved-else-not-same_as_tape g r c =
     let own = walked Last m c.loop-key.seen k c.in-Some.value c.loop-key.key-iterator c.next.new.self i.ahead i.mine c.in-Some.ensures.steps in
     let u = document_tree g.T.KeyText.text_of in
     let es = c.args.right.now.entries in
-    let t = tape_tree c.in-Some.value in
     let behind = seen_behind c.has_behind.result (c.loop-key.seen + 1) k (paired m) _ c.has_behind.ensures own.rest in
     record {
       ahead = own.rest;
-      counted = counted_same First m (entry_members u es) k t _ _ own.step c.loop-key.seen i.ahead (sym behind ∙ c.if-not-has_behind.true) (u c.in-Some-get.other.now) (found_at u k es c.in-Some-get.other.now c.in-Some-get.ensures)
-          (by_choices (tape_choice c.in-Some.value) First Last First t (u c.in-Some-get.other.now) own.choice refl (allowed c.same_as_tape.result _ c.same_as_tape.ensures c.if-not-same_as_tape.false)) i.counted;
+      counted = counted_same First m (entry_members u es) k (tape_tree c.in-Some.value) _ _ own.step c.loop-key.seen i.ahead (sym behind ∙ c.if-not-has_behind.true) (u c.in-Some-get.other.now) (found_at u k es c.in-Some-get.other.now c.in-Some-get.ensures)
+          (by_choices (tape_choice c.in-Some.value) First Last First (tape_tree c.in-Some.value) (u c.in-Some-get.other.now) own.choice refl (allowed c.same_as_tape.result _ c.same_as_tape.ensures c.if-not-same_as_tape.false)) i.counted;
       mine = own.mine;
     }
 
@@ -395,5 +395,4 @@ last_by_key-returns g r c =
     let m = members c.args.left in
     let n = entry_members (document_tree g.T.KeyText.text_of) c.args.right.now.entries in
     let now : IsTrue c.has_keys.result ↔ HasTexts (paired m) (paired n) = c.has_keys.ensures in
-    let none = members_end c.loop-key.key-iterator.repeats (members_ahead c.loop-key.key-iterator) c.in-None.ensures.steps.0 in
-    (λ h. same_if_counted First m n _ none c.loop-key.invariant.counted (now.0 h), λ h. now.1 (has_if_counted First m n h))
+    (λ h. same_if_counted First m n _ (members_end c.loop-key.key-iterator.repeats (members_ahead c.loop-key.key-iterator) c.in-None.ensures.steps.0) c.loop-key.invariant.counted (now.0 h), λ h. now.1 (has_if_counted First m n h))
