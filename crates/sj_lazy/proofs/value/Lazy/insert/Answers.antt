@@ -8,4 +8,4 @@ use Rattle.sj_lazy.proofs.value.Lazy.insert.Goals as goal
 pub returns-in-Ok-clause-refused : goal.returns-in-Ok-clause-refused
 returns-in-Ok-clause-refused g c =
     let left = rw c.in-Ok.is at (c.as_mut.follows.holds c.insert.new.self) in
-    left_by _ _ _ _ _ _ c.insert.result _ _ _ (left refl) c.in-Ok.ensures.value c.insert.ensures.refused (λ r e. e ∙ ap (λ v. edit_fault NotAnObject (as_members v)) c.in-Ok.ensures.value) c.insert.ensures.kind
+    left_by g.T.KeyText.text_of _ _ _ _ _ c.insert.result _ _ _ (left refl) c.in-Ok.ensures.value c.insert.ensures.refused (λ r e. e ∙ ap (λ v. edit_fault NotAnObject (as_members v)) c.in-Ok.ensures.value) c.insert.ensures.kind

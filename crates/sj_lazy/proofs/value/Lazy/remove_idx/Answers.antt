@@ -6,4 +6,4 @@ use Rattle.sj_lazy.proofs.value.Lazy.remove_idx.Goals as goal
 pub returns-in-Ok-clause-refused : goal.returns-in-Ok-clause-refused
 returns-in-Ok-clause-refused g c =
     let left = rw c.in-Ok.is at (c.as_mut.follows.holds c.remove_idx.new.self) in
-    left_by _ _ _ _ _ _ c.remove_idx.result _ _ _ (left refl) c.in-Ok.ensures.value c.remove_idx.ensures.refused (λ x e. (e.0, sym (ap as_items c.in-Ok.ensures.value) ∙ e.1)) c.remove_idx.ensures.kind
+    left_by g.T.KeyText.text_of _ _ _ _ _ c.remove_idx.result _ _ _ (left refl) c.in-Ok.ensures.value c.remove_idx.ensures.refused (λ x e. (e.0, sym (ap as_items c.in-Ok.ensures.value) ∙ e.1)) c.remove_idx.ensures.kind

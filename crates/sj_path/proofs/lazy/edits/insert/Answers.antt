@@ -16,4 +16,4 @@ returns-in-Ok-clause-after g c =
 pub returns-in-Ok-clause-refused : goal.returns-in-Ok-clause-refused
 returns-in-Ok-clause-refused g c =
     let left = rw c.in-Ok.is at (c.as_mut.follows.holds c.insert.new.value) in
-    left_by _ _ _ _ _ _ c.insert.result _ _ _ (left refl) c.in-Ok.ensures.value c.insert.ensures.refused (λ r e. e ∙ ap (λ v. edit_fault NotAnObject (option_and_then as_members (pointed c.args.pointer.now v))) c.in-Ok.ensures.value) c.insert.ensures.kind
+    left_by g.T.KeyText.text_of _ _ _ _ _ c.insert.result _ _ _ (left refl) c.in-Ok.ensures.value c.insert.ensures.refused (λ r e. e ∙ ap (λ v. edit_fault NotAnObject (option_and_then as_members (pointed c.args.pointer.now v))) c.in-Ok.ensures.value) c.insert.ensures.kind

@@ -15,4 +15,4 @@ returns-in-Ok-clause-after g c =
 pub returns-in-Ok-clause-refused : goal.returns-in-Ok-clause-refused
 returns-in-Ok-clause-refused g c =
     let left = rw c.in-Ok.is at (c.as_mut.follows.holds c.pop.new.value) in
-    left_by _ _ _ _ _ _ c.pop.result _ _ _ (left refl) c.in-Ok.ensures.value c.pop.ensures.refused (λ x e. (e.0, sym (ap (λ v. option_and_then as_items (pointed c.args.pointer.now v)) c.in-Ok.ensures.value) ∙ e.1)) c.pop.ensures.kind
+    left_by g.T.KeyText.text_of _ _ _ _ _ c.pop.result _ _ _ (left refl) c.in-Ok.ensures.value c.pop.ensures.refused (λ x e. (e.0, sym (ap (λ v. option_and_then as_items (pointed c.args.pointer.now v)) c.in-Ok.ensures.value) ∙ e.1)) c.pop.ensures.kind

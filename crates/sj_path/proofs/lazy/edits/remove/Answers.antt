@@ -15,4 +15,4 @@ returns-in-Ok-clause-after g c =
 pub returns-in-Ok-clause-refused : goal.returns-in-Ok-clause-refused
 returns-in-Ok-clause-refused g c =
     let left = rw c.in-Ok.is at (c.as_mut.follows.holds c.remove.new.value) in
-    left_by _ _ _ _ _ _ c.remove.result _ _ _ (left refl) c.in-Ok.ensures.value c.remove.ensures.refused (λ x e. (e.0, sym (ap (λ v. option_and_then as_members (pointed c.args.pointer.now v)) c.in-Ok.ensures.value) ∙ e.1)) c.remove.ensures.kind
+    left_by g.T.KeyText.text_of _ _ _ _ _ c.remove.result _ _ _ (left refl) c.in-Ok.ensures.value c.remove.ensures.refused (λ x e. (e.0, sym (ap (λ v. option_and_then as_members (pointed c.args.pointer.now v)) c.in-Ok.ensures.value) ∙ e.1)) c.remove.ensures.kind
