@@ -7,4 +7,4 @@ use Rattle.sj_uses.proofs.patch.add.Goals as goal
 pub returns-in-Ok-clause-kept : goal.returns-in-Ok-clause-kept
 returns-in-Ok-clause-kept c =
     let h = c.in-Ok.ensures.changed in
-    on_err_weaker c.in-Ok.answer (put_back _ (document_tree string_bytes h.0) (document_tree string_bytes h.1) (document_tree string_bytes c.args.document.now) (document_tree string_bytes c.update.new.value) h.2 h.4) h.3.1
+    on_err_weaker c.in-Ok.answer (put_back c.args.place.parent (document_tree string_bytes h.0) (document_tree string_bytes h.1) (document_tree string_bytes c.args.document.now) (document_tree string_bytes c.update.new.value) h.2 h.4) h.3.1

@@ -1,7 +1,8 @@
 use Rattle.std.proofs.Common.{◌+◌, Some, take, map, string_bytes, refl, ap, ◌∙◌, arith}
 use Rattle.std.proofs.lemmas.List.{take_all}
 use Rattle.sj_text_core.specs.Tree.{items_from}
-use Rattle.sj_text_core.specs.Reads.{as_items}
+use Rattle.sj_text_core.specs.Reads.{as_items, kind_of}
+use Rattle.sj_text_core.specs.declared.value_type.ValueType.TheVariants as kind
 use Rattle.sj_document.specs.Document.{document_tree}
 use Rattle.sj_uses.proofs.Each.{each_pushed, each_of, one_more, list_means, was_read}
 use Rattle.sj_uses.proofs.typed.VecFromJson.from_json.Goals as goal
@@ -17,6 +18,7 @@ pub returns : goal.returns
 returns g c =
     let ds = c.deref-item-items.result.now in
     let i = c.loop-item.item-index in
-    list_means (document_tree string_bytes) g.T.Meant.means (as_items (document_tree string_bytes c.args.value.now)) ds c.loop-item.items.items
-    (ap (λ l. Some (items_from (map (document_tree string_bytes) l))) c.deref-item-items.ensures.value ∙ was_read _ _ _ _ c.in_ok-try_as_array.ensures)
+    let u = document_tree string_bytes c.args.value.now in
+    list_means (document_tree string_bytes) g.T.Meant.means (as_items u) ds c.loop-item.items.items
+    (ap (λ l. Some (items_from (map (document_tree string_bytes) l))) c.deref-item-items.ensures.value ∙ was_read (as_items u) _ kind.Array (kind_of u) c.in_ok-try_as_array.ensures)
     (each_of (λ d x. g.T.Meant.means (document_tree string_bytes d) x) _ _ _ _ (take_all i ds (omega (arith, c.loop-item-test.false))) refl c.loop-item.invariant)
