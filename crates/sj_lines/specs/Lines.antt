@@ -1,5 +1,6 @@
 -- The lines of an input, and their texts.
 use Rattle.std.specs.Prelude.{ℕ, suc, List, [], ◌∷◌, ◌==◌, if◌then◌else◌, map, filter, not}
+use Rattle.sj_text_core.specs.Ascii.{line_feed, carriage_return}
 use Rattle.sj_text_core.specs.Places.{is_empty}
 
 -- the bytes with c in front of the first line
@@ -10,7 +11,7 @@ onto_line c (l ∷ ls) = (c ∷ l) ∷ ls
 -- the lines, each with its line feed
 abbrev pub full_lines : List ℕ → List (List ℕ)
 full_lines [] = []
-full_lines (c ∷ b) = if c == 10 then (c ∷ []) ∷ full_lines b else onto_line c (full_lines b)
+full_lines (c ∷ b) = if c == line_feed then (c ∷ []) ∷ full_lines b else onto_line c (full_lines b)
 
 -- without one byte c at the end
 abbrev pub without_end : ℕ → List ℕ → List ℕ
@@ -20,7 +21,7 @@ without_end c (x ∷ y ∷ b) = x ∷ without_end c (y ∷ b)
 
 -- a line without its line feed, and without one carriage return in front of that
 abbrev pub line_text : List ℕ → List ℕ
-line_text l = without_end 13 (without_end 10 l)
+line_text l = without_end carriage_return (without_end line_feed l)
 
 -- the texts of the lines that have one
 abbrev pub line_texts : List (List ℕ) → List (List ℕ)

@@ -1,6 +1,7 @@
 -- What a patch makes of a tree, and where it fails (RFC 6902).
 use Rattle.std.specs.Prelude.{ℕ, suc, ◌&&◌, Bool, true, false, List, [], ◌∷◌, Option, Some, None, Result, Ok, Err, option_map, if◌then◌else◌, bytes_eq, nat_le}
 use Rattle.sj_text_core.specs.Tree.{Tree, list, obj, Items, items_len}
+use Rattle.sj_text_core.specs.Ascii.{minus}
 use Rattle.sj_text_core.specs.Find.{find_member, nth_item}
 use Rattle.sj_text_core.specs.Edits.{put, cut}
 use Rattle.sj_text_core.specs.Equal.{tree_eq}
@@ -42,7 +43,7 @@ up_to n (Some i) = if nat_le i n then Some i else None
 
 -- where a token puts a new item among n: `-` behind them (RFC 6901, section 4), an index no greater than n at that place
 abbrev pub place_among : ℕ → List ℕ → Option ℕ
-place_among n k = if bytes_eq k (45 ∷ []) then Some n else up_to n (place_of k)
+place_among n k = if bytes_eq k (minus ∷ []) then Some n else up_to n (place_of k)
 
 abbrev pub added_at : Option ℕ → Tree → Items → Result Tree OperationFault
 added_at None v is = Err NoPlace

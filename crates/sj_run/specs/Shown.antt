@@ -1,6 +1,7 @@
 -- What a session writes for a reply.
 use Rattle.std.specs.Prelude.{ℕ, pos, Bool, true, false, List, [], ◌∷◌, ◌++◌, codes, flat_map}
 use Rattle.std.specs.Fmt.{signed_decimal}
+use Rattle.sj_text_core.specs.Ascii.{line_feed, comma, open_bracket, close_bracket}
 use Rattle.sj_text_core.specs.Print.{quoted, compact}
 use Rattle.sj_text_core.specs.declared.value_type.ValueType.{ValueType}
 use Rattle.sj_text_core.specs.declared.value_type.ValueType.TheVariants as value_type
@@ -26,12 +27,12 @@ truth_name false = codes "false"
 -- texts behind commas
 abbrev pub more_texts : List (List ℕ) → List ℕ
 more_texts [] = []
-more_texts (s ∷ ss) = 44 ∷ (quoted s ++ more_texts ss)
+more_texts (s ∷ ss) = comma ∷ (quoted s ++ more_texts ss)
 
 -- a compact array of texts
 abbrev pub text_array : List (List ℕ) → List ℕ
 text_array [] = codes "[]"
-text_array (s ∷ ss) = 91 ∷ (quoted s ++ more_texts ss ++ 93 ∷ [])
+text_array (s ∷ ss) = open_bracket ∷ (quoted s ++ more_texts ss ++ close_bracket ∷ [])
 
 abbrev pub reply_text : PlainReply → List ℕ
 reply_text (kind k) = kind_name k
@@ -52,7 +53,7 @@ reply_text bad_command = codes "bad command"
 
 -- the printed bytes, and one line feed
 abbrev pub shown : PlainReply → List ℕ
-shown r = reply_text r ++ 10 ∷ []
+shown r = reply_text r ++ line_feed ∷ []
 
 abbrev pub shown_all : List PlainReply → List ℕ
 shown_all rs = flat_map shown rs

@@ -5,11 +5,12 @@ use Rattle.std.specs.Char.{digit_value, encode_utf8, IsScalar}
 use Rattle.std.specs.Char.Utf16.{surrogate_pair_char}
 use Rattle.std.specs.Int.{IsInRange}
 use Rattle.std.specs.Str.{encode_utf8_all}
+use Rattle.sj_text_core.specs.Ascii.{backspace, tab, line_feed, form_feed, carriage_return, space, quote, comma, minus, slash, digit_zero, digit_nine, colon, open_bracket, backslash, close_bracket, lower_b, lower_f, lower_n, lower_r, lower_t, lower_u, open_brace, close_brace}
 use Rattle.sj_text_core.specs.Tree.{i64, u64, i128, u128, Tree, null, boolean, int, text, list, obj, Items, no_items, item, Members, no_members, member, IsWithin}
 
 -- section 2: space, tab, line feed, carriage return
 abbrev pub IsSpace : ℕ → Type 0
-IsSpace c = (c ≡ 32) ⊎ (c ≡ 9) ⊎ (c ≡ 10) ⊎ (c ≡ 13)
+IsSpace c = (c ≡ space) ⊎ (c ≡ tab) ⊎ (c ≡ line_feed) ⊎ (c ≡ carriage_return)
 
 -- section 2: whitespace, free around each structural byte
 abbrev pub IsBlank : List ℕ → Type 0
@@ -27,17 +28,17 @@ pub record Spaced (W : List ℕ → Type 0) (b : List ℕ) : Type 0 where
 
 -- section 6: a digit
 abbrev pub IsDigit : ℕ → Type 0
-IsDigit c = (48 ≤ c) × (c ≤ 57)
+IsDigit c = (digit_zero ≤ c) × (c ≤ digit_nine)
 
 -- section 6: `0`, or a digit from 1 to 9 and digits
 pub record IsNumeral (b : List ℕ) : Type 0 where
   pub some : 0 < length b
   pub digits : AllByRecursion IsDigit b
-  pub plain : slice_index b 0 ≡ 48 → b ≡ 48 ∷ []
+  pub plain : slice_index b 0 ≡ digit_zero → b ≡ digit_zero ∷ []
 
 -- section 6: the number that decimal digits write
 abbrev pub value_of : List ℕ → ℕ
-value_of b = fold (λ n c. n * 10 + (c - 48)) 0 b
+value_of b = fold (λ n c. n * 10 + (c - digit_zero)) 0 b
 
 -- section 6: the number of that magnitude in its carrier, by whether a `-` stands before it; past 128 bits there is none
 abbrev pub number_of : Bool → ℕ → Option Tree
@@ -48,17 +49,17 @@ number_of true n = if nat_le n (2 ^ 63) then Some (int (neg_ℤ (pos n)) i64) el
 abbrev pub IsNumber : List ℕ → Tree → Type 0
 IsNumber b t =
     (IsNumeral b × (number_of false (value_of b) ≡ Some t))
-    ⊎ ((digits : List ℕ) × (b ≡ 45 ∷ digits) × IsNumeral digits × (number_of true (value_of digits) ≡ Some t))
+    ⊎ ((digits : List ℕ) × (b ≡ minus ∷ digits) × IsNumeral digits × (number_of true (value_of digits) ≡ Some t))
 
 -- section 7: the character of a two-byte escape, by its second byte
 abbrev pub short_escape : ℕ → Option ℕ
 short_escape x =
-    if (x == 34) || (x == 92) || (x == 47) then Some x
-    else if x == 98 then Some 8
-    else if x == 102 then Some 12
-    else if x == 110 then Some 10
-    else if x == 114 then Some 13
-    else if x == 116 then Some 9
+    if (x == quote) || (x == backslash) || (x == slash) then Some x
+    else if x == lower_b then Some backspace
+    else if x == lower_f then Some form_feed
+    else if x == lower_n then Some line_feed
+    else if x == lower_r then Some carriage_return
+    else if x == lower_t then Some tab
     else None
 
 -- section 7: a hexadecimal digit of either case
@@ -68,7 +69,7 @@ IsHexDigit d = digit_value d < 16
 -- section 7: b is `\u` and four hexadecimal digits that write u
 pub record IsUnit (u : ℕ) (b : List ℕ) : Type 0 where
   pub digits : List ℕ
-  pub is : b ≡ 92 ∷ 117 ∷ digits
+  pub is : b ≡ backslash ∷ lower_u ∷ digits
   pub four : length digits ≡ 4
   pub hex : AllByRecursion IsHexDigit digits
   pub value : u ≡ fold (λ n d. n * 16 + digit_value d) 0 digits
@@ -77,14 +78,14 @@ pub record IsUnit (u : ℕ) (b : List ℕ) : Type 0 where
 pub record IsRaw (c : ℕ) (b : List ℕ) : Type 0 where
   pub is : b ≡ encode_utf8 c
   pub scalar : IsScalar c
-  pub printed : 32 ≤ c
-  pub no_quote : c ≢ 34
-  pub no_backslash : c ≢ 92
+  pub printed : space ≤ c
+  pub no_quote : c ≢ quote
+  pub no_backslash : c ≢ backslash
 
 -- section 7: a backslash and one more byte
 pub record IsShort (c : ℕ) (b : List ℕ) : Type 0 where
   pub second : ℕ
-  pub is : b ≡ 92 ∷ second ∷ []
+  pub is : b ≡ backslash ∷ second ∷ []
   pub names : short_escape second ≡ Some c
 
 -- section 7: one escape for a character below U+10000 that is no surrogate
@@ -118,7 +119,7 @@ AreItems (c ∷ cs) b = (first : List ℕ) × (rest : List ℕ) × (b ≡ first 
 pub record IsString (b : List ℕ) (s : List ℕ) : Type 0 where
   pub inside : List ℕ
   pub chars : List ℕ
-  pub is : b ≡ 34 ∷ (inside ++ 34 ∷ [])
+  pub is : b ≡ quote ∷ (inside ++ quote ∷ [])
   pub items : AreItems chars inside
   pub text : s ≡ encode_utf8_all chars
 
@@ -131,8 +132,8 @@ abbrev mutual
   Spelling (boolean false) b = b ≡ codes "false"
   Spelling (int n c) b = IsNumber b (int n c)
   Spelling (text s) b = IsString b s
-  Spelling (list is) b = (inside : List ℕ) × (b ≡ 91 ∷ (inside ++ 93 ∷ [])) × SpellsItems is inside
-  Spelling (obj ms) b = (inside : List ℕ) × (b ≡ 123 ∷ (inside ++ 125 ∷ [])) × SpellsMembers ms inside
+  Spelling (list is) b = (inside : List ℕ) × (b ≡ open_bracket ∷ (inside ++ close_bracket ∷ [])) × SpellsItems is inside
+  Spelling (obj ms) b = (inside : List ℕ) × (b ≡ open_brace ∷ (inside ++ close_brace ∷ [])) × SpellsMembers ms inside
 
   -- the items, with `,` between each two
   pub SpellsItems : Items → List ℕ → Type 0
@@ -141,17 +142,17 @@ abbrev mutual
 
   pub MoreItems : Items → List ℕ → Type 0
   MoreItems no_items b = b ≡ []
-  MoreItems (item t is) b = (first : List ℕ) × (rest : List ℕ) × (b ≡ 44 ∷ (first ++ rest)) × Spaced (λ w. Spelling t w) first × MoreItems is rest
+  MoreItems (item t is) b = (first : List ℕ) × (rest : List ℕ) × (b ≡ comma ∷ (first ++ rest)) × Spaced (λ w. Spelling t w) first × MoreItems is rest
 
   -- the members, each a string, `:` and a value
   pub SpellsMembers : Members → List ℕ → Type 0
   SpellsMembers no_members b = IsBlank b
-  SpellsMembers (member k t ms) b = (key : List ℕ) × (first : List ℕ) × (rest : List ℕ) × (b ≡ key ++ (58 ∷ (first ++ rest)))
+  SpellsMembers (member k t ms) b = (key : List ℕ) × (first : List ℕ) × (rest : List ℕ) × (b ≡ key ++ (colon ∷ (first ++ rest)))
       × Spaced (λ w. IsString w k) key × Spaced (λ w. Spelling t w) first × MoreMembers ms rest
 
   pub MoreMembers : Members → List ℕ → Type 0
   MoreMembers no_members b = b ≡ []
-  MoreMembers (member k t ms) b = (key : List ℕ) × (first : List ℕ) × (rest : List ℕ) × (b ≡ 44 ∷ (key ++ (58 ∷ (first ++ rest))))
+  MoreMembers (member k t ms) b = (key : List ℕ) × (first : List ℕ) × (rest : List ℕ) × (b ≡ comma ∷ (key ++ (colon ∷ (first ++ rest))))
       × Spaced (λ w. IsString w k) key × Spaced (λ w. Spelling t w) first × MoreMembers ms rest
 
 -- section 2: the whole text

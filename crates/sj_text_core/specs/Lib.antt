@@ -1,4 +1,5 @@
 pub mod Tree
+pub mod Ascii
 pub mod Grammar
 pub mod Find
 pub mod Keep

@@ -1,5 +1,6 @@
 -- Where a message goes, and what is written of it.
 use Rattle.std.specs.Prelude.{ℕ, ◌+◌, ◌++◌, pos, List, [], ◌∷◌, Option, Some, None, if◌then◌else◌, bytes_eq, codes}
+use Rattle.sj_text_core.specs.Ascii.{line_feed}
 use Rattle.sj_text_core.specs.Tree.{Tree, int, u64}
 use Rattle.sj_text_core.specs.Find.{find}
 use Rattle.sj_text_core.specs.Keep.{keep}
@@ -43,4 +44,4 @@ changed hops Other t = t
 
 -- the line that is written of a message
 abbrev pub forwarded : List ℕ → List (List ℕ) → List ℕ → Tree → List ℕ
-forwarded topic urgent hops t = (route_name (route topic urgent t) ++ compact (changed hops (route topic urgent t) t)) ++ 10 ∷ []
+forwarded topic urgent hops t = (route_name (route topic urgent t) ++ compact (changed hops (route topic urgent t) t)) ++ line_feed ∷ []

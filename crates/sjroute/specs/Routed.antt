@@ -2,6 +2,7 @@
 use Rattle.std.specs.Prelude.{◌≡◌, ◌↔◌, ℕ, List, [], ◌∷◌, ◌++◌, Bool, false, Option, Some, None, IsTrue, ⊤, ◌⊎◌, if◌then◌else◌, string_bytes}
 use Rattle.std.specs.declared.string.String.{String}
 use Rattle.std.specs.declared.alloc.Global.{Global}
+use Rattle.sj_text_core.specs.Ascii.{line_feed}
 use Rattle.sj_text_core.specs.Tree.{Tree, IsWithin}
 use Rattle.sj_text_core.specs.Grammar.{IsReadable, Spells}
 use Rattle.sj_text_core.specs.Keep.{keep}
@@ -16,8 +17,8 @@ use Rattle.sjroute.specs.declared.routing.Route.{Route}
 
 -- what is written of a message: its text as it came, or the print of what the merge patch makes of the message, with the first member of each key
 abbrev pub line_of : Option (Document (String Global)) → List ℕ → Tree → List ℕ
-line_of None s t = s ++ 10 ∷ []
-line_of (Some p) s t = compact (merged (Some (keep t)) (document_tree string_bytes p)) ++ 10 ∷ []
+line_of None s t = s ++ line_feed ∷ []
+line_of (Some p) s t = compact (merged (Some (keep t)) (document_tree string_bytes p)) ++ line_feed ∷ []
 
 -- the same to an output
 abbrev pub line_to : List ℕ → Tree → Route → List ℕ
@@ -25,7 +26,7 @@ line_to s t r = line_of r.merge s t
 
 -- a text as it came, to any output
 abbrev pub text_to : List ℕ → Route → List ℕ
-text_to s r = s ++ 10 ∷ []
+text_to s r = s ++ line_feed ∷ []
 
 -- an output has a rule that selects the message
 abbrev pub MeetsRule : Tree → Takes → Type 0
