@@ -43,18 +43,20 @@ pub(crate) trait Root<T: KeyText> {
         ensures err { OnErr result (IsBegunBy out.old.items out.new.items) }
         ensures too_long { IsErrOf result Why.TooLong → PassesOne (part self.now) (command.read (map step_meant path.now) (read_meant read.now)) (length out.old.items) };
 
-    /// Changes the value at a path, as the command does on the tree.
+    // Why so: docs/REFUSED.md, "`Texts` and `Root` take values by `&mut`".
+    /// Changes the value at a path, as the command does on the tree. The write is taken out of its
+    /// place.
     fn change(
         &mut self,
         alloc: Global,
         way: Way,
         path: &[Step],
-        write: Write<String>,
+        write: &mut Write<String>,
     ) -> Result<Changed<T>, AllocError>
-        ensures reply { IfOk result (λ changed. changed_meant T.text_of changed ≡ (answer_by (part self.old) (command.write (map step_meant path.now) (write_meant string_bytes write))).1) }
-        ensures after { OnOk result (part self.new ≡ (answer_by (part self.old) (command.write (map step_meant path.now) (write_meant string_bytes write))).0) }
-        ensures refused { OnErr result (Leaves (part self.old) (command.write (map step_meant path.now) (write_meant string_bytes write)) (part self.new)) }
-        ensures short { ¬ (IsLong (answer_by (part self.old) (command.write (map step_meant path.now) (write_meant string_bytes write))).1) };
+        ensures reply { IfOk result (λ changed. changed_meant T.text_of changed ≡ (answer_by (part self.old) (command.write (map step_meant path.now) (write_meant string_bytes write.old))).1) }
+        ensures after { OnOk result (part self.new ≡ (answer_by (part self.old) (command.write (map step_meant path.now) (write_meant string_bytes write.old))).0) }
+        ensures refused { OnErr result (Leaves (part self.old) (command.write (map step_meant path.now) (write_meant string_bytes write.old)) (part self.new)) }
+        ensures short { ¬ (IsLong (answer_by (part self.old) (command.write (map step_meant path.now) (write_meant string_bytes write.old))).1) };
 }
 
 impl<T: KeyText + Drop> Root<T> for Document<T>
@@ -76,10 +78,10 @@ where
         alloc: Global,
         way: Way,
         path: &[Step],
-        write: Write<String>,
+        write: &mut Write<String>,
     ) -> Result<Changed<T>, AllocError> {
-        let write = <Way as Texts<T>>::written(alloc, write)?;
-        edit_at(self, way, path, write)
+        let made = <Way as Texts<T>>::written(alloc, write)?;
+        edit_at(self, way, path, made)
     }
 }
 
@@ -106,10 +108,10 @@ impl<'b, 't, 'i> Root<CowStr<'i>> for Value<'b, 't, 'i> {
         alloc: Global,
         _way: Way,
         path: &[Step],
-        write: Write<String>,
+        write: &mut Write<String>,
     ) -> Result<Changed<CowStr<'i>>, AllocError> {
-        let write = <Way as Texts<CowStr<'i>>>::written(alloc, write)?;
-        change_lazy(alloc, self, path, write)
+        let made = <Way as Texts<CowStr<'i>>>::written(alloc, write)?;
+        change_lazy(alloc, self, path, made)
     }
 }
 
@@ -129,8 +131,9 @@ where
 {
     match Request::from(command) {
         Request::Read(path, read) => value.reply(alloc, way, &path, &read),
-        Request::Write(path, write) => {
-            Ok(value.change(alloc, way, &path, write)?.into_reply(alloc)?)
+        Request::Write(path, mut write) => {
+            let changed = value.change(alloc, way, &path, &mut write)?;
+            Ok(changed.into_reply(alloc)?)
         }
         Request::Bad => Ok(Reply::BadCommand),
     }

@@ -21,8 +21,8 @@ use std::borrow::CowStr;
 use std::mem;
 
 /// What writes do by the texts of a document.
+// Why so: docs/REFUSED.md, "`Texts` and `Root` take values by `&mut`".
 pub(crate) trait Texts<T: KeyText> {
-    // Why so: docs/REFUSED.md, "`Texts` takes values by `&mut`".
     /// Sets the value of the key to the new one, which is taken out of its place.
     fn insert(
         self,
@@ -32,9 +32,10 @@ pub(crate) trait Texts<T: KeyText> {
     ) -> Result<Changed<T>, AllocError>
         ensures { Edits T.text_of [] (command.insert (T.text_of key) (document_tree T.text_of new.old)) (document_tree T.text_of value.old) (document_tree T.text_of value.new) result };
 
-    /// The write of a command with such texts. Its keys and texts are moved.
-    fn written(alloc: Global, write: Write<String>) -> Result<Write<T>, AllocError>
-        ensures { IfOk result (λ w. write_meant T.text_of w ≡ write_meant string_bytes write) };
+    /// The write of a command with such texts. It is taken out of its place, and its keys and texts
+    /// are moved.
+    fn written(alloc: Global, write: &mut Write<String>) -> Result<Write<T>, AllocError>
+        ensures { IfOk result (λ w. write_meant T.text_of w ≡ write_meant string_bytes write.old) };
 
     /// The value with texts of its own. It is taken out of its place.
     fn owned(alloc: Global, value: &mut Document<T>) -> Result<OwnedValue, AllocError>
@@ -90,8 +91,8 @@ impl Texts<String> for Way {
         insert_text(value, key, mem::take(new))
     }
 
-    fn written(_alloc: Global, write: Write<String>) -> Result<Write<String>, AllocError> {
-        Ok(write)
+    fn written(_alloc: Global, write: &mut Write<String>) -> Result<Write<String>, AllocError> {
+        Ok(mem::replace(write, Write::Pop))
     }
 
     fn owned(_alloc: Global, value: &mut OwnedValue) -> Result<OwnedValue, AllocError> {
@@ -114,8 +115,8 @@ impl<'v> Texts<CowStr<'v>> for Way {
         }
     }
 
-    fn written(alloc: Global, write: Write<String>) -> Result<Write<CowStr<'v>>, AllocError> {
-        match write {
+    fn written(alloc: Global, write: &mut Write<String>) -> Result<Write<CowStr<'v>>, AllocError> {
+        match mem::replace(write, Write::Pop) {
             Write::Insert(key, value) => Ok(Write::Insert(
                 CowStr::Owned(key),
                 BorrowedValue::try_make(alloc, value)?,

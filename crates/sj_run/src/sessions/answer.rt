@@ -28,7 +28,9 @@ fn answer<V: Root<T>, T: KeyText + Drop>(
 {
     match request {
         Request::Read(path, read) => value.write(way, &path, &read, out),
-        Request::Write(path, write) => value.change(alloc, way, &path, write)?.write(out),
+        Request::Write(path, mut write) => {
+            value.change(alloc, way, &path, &mut write)?.write(out)
+        }
         Request::Bad => Ok(out.extend_from_slice(b"bad command")?),
     }
 }

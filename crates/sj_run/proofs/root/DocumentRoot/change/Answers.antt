@@ -6,17 +6,17 @@ use Rattle.sj_run.specs.inner.Changed.{Edits}
 use Rattle.sj_run.proofs.Kept.{kept_reply, kept_after, kept_refused, short_edit}
 use Rattle.sj_run.proofs.root.DocumentRoot.change.Goals as goal
 
-pub returns-in_err-write-clause-short : goal.returns-in_err-write-clause-short
-returns-in_err-write-clause-short g c = short_edit (map step_meant c.args.path.now) (write_meant string_bytes c.args.write) _
+pub returns-in_err-made-clause-short : goal.returns-in_err-made-clause-short
+returns-in_err-made-clause-short g c = short_edit (map step_meant c.args.path.now) (write_meant string_bytes c.args.write.now) _
 
 pub returns : goal.returns
 returns g c =
     let t = g.T.KeyText.text_of in
     let p = map step_meant c.args.path.now in
-    let w = write_meant string_bytes c.args.write in
+    let w = write_meant string_bytes c.args.write.now in
     let v = c.args.self.now in
     let u = document_tree t c.edit_at.new.value in
-    let edits : Edits t p w (document_tree t v) u c.edit_at.result = subst (λ (x : Write). Edits t p x (document_tree t v) u c.edit_at.result) c.in_ok-write.ensures c.edit_at.ensures in
+    let edits : Edits t p w (document_tree t v) u c.edit_at.result = subst (λ (x : Write). Edits t p x (document_tree t v) u c.edit_at.result) c.in_ok-made.ensures c.edit_at.ensures in
     record {
       reply = kept_reply t p w v u c.edit_at.result edits;
       after = kept_after t p w v u c.edit_at.result edits;
