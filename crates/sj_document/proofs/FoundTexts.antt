@@ -15,6 +15,10 @@ use Rattle.sj_document.specs.inner.SameWith.{EachFound, HasKeys}
 use Rattle.sj_document.proofs.Compared.{seen_by}
 use Rattle.sj_document.proofs.Subsets.{Within, within_len, within_back}
 
+-- keys that are no two equal have texts that are no two equal
+not_equal : {L : Type 0} (text : L → List ℕ) (eq : L → L → Bool) → ((a b : L) → Decides (eq a b) (text a ≡ text b)) → (a b : L) → eq a b ≡ false → bytes_eq (text a) (text b) ≡ false
+not_equal text eq law a b e = ne_bytes_eq (text a) (text b) (λ q. true≢false (sym ((law a b).1 q) ∙ e))
+
 module _ {L X : Type 0} (text : L → List ℕ) where
   abbrev pub names : List (L × X) → List (List ℕ)
   names ps = map (λ (p : L × X). text p.0) ps
@@ -31,14 +35,10 @@ module _ {L X : Type 0} (text : L → List ℕ) where
     by true h = refl
     by false h = h
 
-  -- keys that are no two equal have texts that are no two equal
   module _ (eq : L → L → Bool) (law : (a b : L) → Decides (eq a b) (text a ≡ text b)) where
-    not_equal : (a b : L) → eq a b ≡ false → bytes_eq (text a) (text b) ≡ false
-    not_equal a b e = ne_bytes_eq (text a) (text b) (λ q. true≢false (sym ((law a b).1 q) ∙ e))
-
     none_after : (a : L) (ps : List (L × X)) → AllByRecursion (λ y. eq a y ≡ false) (map (λ (p : L × X). p.0) ps) → is_seen (text a) (names ps) ≡ false
     none_after a [] h = refl
-    none_after a (p ∷ ps) h = or_from (bytes_eq (text a) (text p.0)) (is_seen (text a) (names ps)) (not_equal a p.0 h.0) (none_after a ps h.1)
+    none_after a (p ∷ ps) h = or_from (bytes_eq (text a) (text p.0)) (is_seen (text a) (names ps)) (not_equal text eq law a p.0 h.0) (none_after a ps h.1)
 
     pub names_apart : (ps : List (L × X)) → IsDistinct eq (map (λ (p : L × X). p.0) ps) → no_repeats (names ps) ≡ true
     unfolding IsDistinct
