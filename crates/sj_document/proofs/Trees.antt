@@ -1,5 +1,5 @@
 -- A document, level by level, and the tree that it means.
-use Rattle.std.proofs.Common.{◌≡◌, ℕ, List, map, Option, Some, None, option_map, Box, Vec, Global, Bor, MutBor, refl, ap, ◌∙◌, rules}
+use Rattle.std.proofs.Common.{◌≡◌, ℕ, List, map, Option, Some, None, is_some, option_map, Box, Vec, Global, Bor, MutBor, refl, ap, ◌∙◌, rules}
 use Rattle.std.specs.Option.{IsSome, option_copied, option_copied_mut}
 use Rattle.sj_text_core.specs.Tree.{list, obj, items_from}
 use Rattle.sj_text_core.specs.Scalars.{static_tree}
@@ -35,3 +35,7 @@ module _ {T : Type 0} (t : T → List ℕ) where
 pub some_before : {A B : Type 0} (f : A → B) (o : Option A) → IsSome (option_map f o) → IsSome o
 some_before f None h = h
 some_before f (Some x) h = h
+
+pub is_some-option_map : {A B : Type 0} (f : A → B) (o : Option A) → is_some (option_map f o) ≡ is_some o
+is_some-option_map f None = refl
+is_some-option_map f (Some x) = refl

@@ -102,7 +102,3 @@ eq_true u w b d e = (tree_eq-decides u w).1 (d.0 e)
 
 pub eq_false : (u w : Tree) (b : Bool) → (IsTrue b ↔ Same u w) → b ≡ false → tree_eq u w ≡ false
 eq_false u w b d e = false_from_ne_true (tree_eq u w) (λ f. true≢false (sym (d.1 ((tree_eq-decides u w).0 f)) ∙ e))
-
-pub some_map : {A B : Type 0} (f : A → B) (o : Option A) → is_some (option_map f o) ≡ is_some o
-some_map f None = refl
-some_map f (Some x) = refl

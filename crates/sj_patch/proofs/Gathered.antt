@@ -9,7 +9,7 @@ use Rattle.sj_text_core.specs.Scalars.{static_tree}
 use Rattle.sj_text_core.specs.declared.static_node.StaticNode.{StaticNode}
 use Rattle.sj_text_core.specs.declared.static_node.StaticNode.TheVariants.{Null, Bool, I64, U64, I128, U128}
 use Rattle.sj_document.specs.declared.value.Document.{Document, Static, String, the_lemmas}
-use Rattle.sj_document.proofs.Trees.{tree-Static}
+use Rattle.sj_document.proofs.Trees.{tree-Static, is_some-option_map}
 use Rattle.sj_document.specs.Items.{insert_at}
 use Rattle.std.proofs.lemmas.List.{map-append}
 use Rattle.sj_text_core.proofs.Writes.{set_at-same}
@@ -24,7 +24,6 @@ use Rattle.sj_object.proofs.Shown.{lookup-entry_members, length-members}
 use Rattle.sj_patch.specs.Patch.{removed}
 use Rattle.sj_document.proofs.Arrays.{items_seen, length-items}
 use Rattle.sj_document.proofs.Placed.{items-insert}
-use Rattle.sj_merge.proofs.Changes.{some_map}
 use Rattle.sj_patch.specs.inner.Changed.{stepped, filled_below, or_same, is_placed, where_so, insert_member, member_back, item_back, member_step, item_step, items_filled, gaps_filled, gap_filled, IsFirstGap, Takes, reversed_in, reversed_whole, undone_at}
 use Rattle.sj_patch.specs.declared.gaps.Gap.{Gap}
 use Rattle.sj_patch.specs.declared.gaps.Gap.TheVariants as gap
@@ -146,7 +145,7 @@ module _ {T : Type 0} (t : T → List ℕ) where
   -- what a map makes of a member that goes back is what the tree makes of it
   taken_seen : (n i : ℕ) (k : List ℕ) (es : List (Entry T (Document T))) → (is_placed (members_len (entry_members (document_tree t) es)) n i && not (is_some (find_member k (entry_members (document_tree t) es)))) ≡ takes n i k es
   taken_seen n i k es =
-      let found : is_some (find_member k (entry_members (document_tree t) es)) ≡ is_some (lookup k es) = ap is_some (sym (lookup-entry_members (document_tree t) k es)) ∙ some_map (document_tree t) (lookup k es) in
+      let found : is_some (find_member k (entry_members (document_tree t) es)) ≡ is_some (lookup k es) = ap is_some (sym (lookup-entry_members (document_tree t) k es)) ∙ is_some-option_map (document_tree t) (lookup k es) in
       (λ j. is_placed (sym (length-members (document_tree t) es) j) n i && not (found j))
 
   placed_of : (a b : Boolean) → a && b ≡ true → a ≡ true

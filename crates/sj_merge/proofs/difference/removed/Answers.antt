@@ -7,8 +7,9 @@ use Rattle.sj_object.specs.Edits.{lookup}
 use Rattle.sj_object.specs.Members.{entry_members}
 use Rattle.sj_object.proofs.Shown.{lookup-entry_members, entry_members-put}
 use Rattle.sj_document.specs.Document.{document_tree}
+use Rattle.sj_document.proofs.Trees.{is_some-option_map}
 use Rattle.sj_merge.specs.MergeDiff.{removals}
-use Rattle.sj_merge.proofs.Changes.{single_object, some_map}
+use Rattle.sj_merge.proofs.Changes.{single_object}
 use Rattle.sj_merge.proofs.Putting.{put_each, removed_begin, removed_stays, removed_goes}
 use Rattle.sj_merge.proofs.difference.removed.Goals as goal
 
@@ -33,7 +34,7 @@ loop-key-preserved-in_ok-set g c =
     let rest = entry_members (document_tree t) (entries_of t c.next.new.self) in
     let ahead = ap (entries_of t) c.in-Some.ensures.steps in
     let absent : is_some (find_member (t key) ns) ≡ false =
-    sym (ap is_some (lookup-entry_members (document_tree t) (t key) c.args.wanted.now.entries)) ∙ some_map (document_tree t) (lookup (t key) c.args.wanted.now.entries) ∙ sym (ap (λ k. is_some (lookup k c.args.wanted.now.entries)) c.text.ensures) ∙ sym c.contains_key.ensures ∙ c.if-not-contains_key.true in
+    sym (ap is_some (lookup-entry_members (document_tree t) (t key) c.args.wanted.now.entries)) ∙ is_some-option_map (document_tree t) (lookup (t key) c.args.wanted.now.entries) ∙ sym (ap (λ k. is_some (lookup k c.args.wanted.now.entries)) c.text.ensures) ∙ sym c.contains_key.ensures ∙ c.if-not-contains_key.true in
     record {
       can = tt;
       ends = tt;
@@ -53,7 +54,7 @@ loop-key-preserved g c =
     let rest = entry_members (document_tree t) (entries_of t c.next.new.self) in
     let ahead = ap (entries_of t) c.in-Some.ensures.steps in
     let there : is_some (find_member (t key) ns) ≡ true =
-    sym (ap is_some (lookup-entry_members (document_tree t) (t key) c.args.wanted.now.entries)) ∙ some_map (document_tree t) (lookup (t key) c.args.wanted.now.entries) ∙ sym (ap (λ k. is_some (lookup k c.args.wanted.now.entries)) c.text.ensures) ∙ sym c.contains_key.ensures ∙ c.if-not-contains_key.false in
+    sym (ap is_some (lookup-entry_members (document_tree t) (t key) c.args.wanted.now.entries)) ∙ is_some-option_map (document_tree t) (lookup (t key) c.args.wanted.now.entries) ∙ sym (ap (λ k. is_some (lookup k c.args.wanted.now.entries)) c.text.ensures) ∙ sym c.contains_key.ensures ∙ c.if-not-contains_key.false in
     record {
       can = tt;
       ends = tt;
