@@ -91,14 +91,14 @@ impl<'b, 't, 'i> Root<CowStr<'i>> for Value<'b, 't, 'i> {
 
     fn reply(&self, alloc: Global, way: Way, path: &[Step], read: &Read) -> Result<Reply, Why> {
         match self {
-            Lazy::Tape(part) => reply_at(alloc, *part, way, path, read),
+            Lazy::Tape(tape) => reply_at(alloc, *tape, way, path, read),
             Lazy::Value(value) => reply_at(alloc, value.document(), way, path, read),
         }
     }
 
     fn write(&self, way: Way, path: &[Step], read: &Read, out: &mut Vec<u8>) -> Result<(), Why> {
         match self {
-            Lazy::Tape(part) => write_at(*part, way, path, read, out),
+            Lazy::Tape(tape) => write_at(*tape, way, path, read, out),
             Lazy::Value(value) => write_at(value.document(), way, path, read, out),
         }
     }
