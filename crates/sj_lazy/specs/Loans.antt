@@ -1,5 +1,5 @@
 -- What a lazy value ends as, where a call lends a part of its document, if there is one.
-use Rattle.std.specs.Prelude.{◌≡◌, List, ℕ, Option, Some, Result, Ok, Err, IfOk, OnSome, MatchResult}
+use Rattle.std.specs.Prelude.{◌≡◌, Option, Some, Result, Ok, Err, IfOk, OnSome, MatchResult}
 use Rattle.std.specs.Borrow.{MutBor, Fml, GName, RattleType, follows_so}
 use mathlib.Core.Option as maybe
 use Rattle.std.specs.Option.{ghost_name_of}

@@ -1,6 +1,6 @@
 //! What a document is compared with through a reference, as a slice and as a map of std.
 
-ghost use Rattle.std.specs.Prelude.{◌≡◌, ◌↔◌, IsTrue, MatchOption, option_map};
+ghost use Rattle.std.specs.Prelude.{◌↔◌, IsTrue, MatchOption};
 ghost use Rattle.sj_object.specs.Edits.{lookup};
 ghost use Rattle.sj_document.specs.SameWith.{document_members};
 ghost use Rattle.sj_document.specs.SameWith.{document_items, SameEach, SameSlice, SameTexts, SameMap};
