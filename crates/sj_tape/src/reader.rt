@@ -7,7 +7,7 @@ mod digits;
 mod escape;
 mod nodes;
 mod number;
-mod run;
+mod plain;
 mod spare;
 mod structure;
 mod text;
@@ -24,7 +24,7 @@ ghost use Rattle.sj_text_core.specs.Readings.{SpellsOnly, IsReadFault};
 use crate::packed::Packed;
 pub use crate::reader::buffers::Buffers;
 pub use crate::reader::spare::Spare;
-use crate::reader::value::whole;
+use crate::reader::value::read_tree;
 use crate::tape::Tape;
 use sj_text_core::{ErrorKind, Refused};
 use std::alloc::Global;
@@ -130,7 +130,7 @@ pub fn to_tape_with_spare<'i>(
             value: Spare { nodes },
         });
     }
-    match whole(bytes, DEPTH_LIMIT, &mut nodes) {
+    match read_tree(bytes, DEPTH_LIMIT, &mut nodes) {
         Ok(()) => Ok(Tape::from_packed(nodes)),
         Err(why) => Err(Refused {
             why,
@@ -180,7 +180,7 @@ fn read<'i>(
     // A node takes two bytes at least, but for the last.
     let most = bytes.len() / 2 + 1;
     let mut nodes = Vec::with_capacity(alloc, most.min(*room))?;
-    whole(bytes, DEPTH_LIMIT, &mut nodes)?;
+    read_tree(bytes, DEPTH_LIMIT, &mut nodes)?;
     *room = nodes.len().max(*room);
     Ok(tape_for(purpose, nodes))
 }

@@ -24,7 +24,7 @@ fn is_space(byte: u8) -> bool
 
 /// The lanes that are no whitespace.
 #[inline(always)]
-fn solids(v: u8x16) -> u64
+fn solid_lanes(v: u8x16) -> u64
     ensures { result ≡ mask_l (map is_solid v) }
 {
     (v.simd_ne(u8x16::splat(b' '))
@@ -54,7 +54,7 @@ fn blank_end(bytes: &[u8], from: usize) -> usize
 {
     let mut at = from;
     while bytes.len() - at >= 16 {
-        let found = solids(u8x16::from_slice(&bytes[at..]));
+        let found = solid_lanes(u8x16::from_slice(&bytes[at..]));
         if found != 0 {
             return at + found.trailing_zeros() as usize;
         }

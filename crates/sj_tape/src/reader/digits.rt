@@ -30,7 +30,7 @@ fn lanes_at(bytes: &[u8], at: usize) -> u8x16
 
 /// The lanes that no digit gives.
 #[inline(always)]
-fn others(lanes: u8x16) -> u64
+fn other_lanes(lanes: u8x16) -> u64
     ensures { result ≡ mask_l (map is_other lanes) }
 {
     lanes.simd_ge(u8x16::splat(10)).to_bitmask()
@@ -38,7 +38,7 @@ fn others(lanes: u8x16) -> u64
 
 /// The first `count` lanes at the end, behind zeros.
 #[inline(always)]
-fn moved(lanes: u8x16, count: usize) -> u8x16
+fn move_to_end(lanes: u8x16, count: usize) -> u8x16
     requires { count ≤ 16 }
     ensures { result ≡ replicate (16 - count) 0 ++ take count lanes }
 {
@@ -47,7 +47,7 @@ fn moved(lanes: u8x16, count: usize) -> u8x16
 
 /// The numbers of four lanes each.
 #[inline(always)]
-fn fours(lanes: u8x16) -> u32x4
+fn numbers_of_four(lanes: u8x16) -> u32x4
     ensures { result ≡ number_from_digits 10 (take 4 lanes) ∷ number_from_digits 10 (slice_range lanes 4 8) ∷ number_from_digits 10 (slice_range lanes 8 12) ∷ number_from_digits 10 (slice_range lanes 12 16) ∷ [] }
 {
     let tens = lanes.dot4(u8x16::from_array([10, 1, 0, 0, 10, 1, 0, 0, 10, 1, 0, 0, 10, 1, 0, 0]));
@@ -57,10 +57,10 @@ fn fours(lanes: u8x16) -> u32x4
 
 /// The numbers of eight lanes each.
 #[inline(always)]
-fn eights(lanes: u8x16) -> [u64; 2]
+fn numbers_of_eight(lanes: u8x16) -> [u64; 2]
     ensures { result ≡ number_from_digits 10 (take 8 lanes) ∷ number_from_digits 10 (slice_range lanes 8 16) ∷ [] }
 {
-    let fours = u64x2::from_le_bytes(fours(lanes).to_le_bytes());
+    let fours = u64x2::from_le_bytes(numbers_of_four(lanes).to_le_bytes());
     let first = fours & u64x2::splat(0xffff_ffff);
     let second = fours >> u64x2::splat(32);
     (first * u64x2::splat(10_000) + second).to_array()
@@ -71,7 +71,7 @@ fn eights(lanes: u8x16) -> [u64; 2]
 fn number(lanes: u8x16) -> u64
     ensures { result ≡ number_from_digits 10 lanes }
 {
-    let eights = eights(lanes);
+    let eights = numbers_of_eight(lanes);
     eights[0] * 100_000_000 + eights[1]
 }
 
@@ -110,12 +110,12 @@ fn run(bytes: &[u8], at: usize) -> (usize, u64)
         return last_run(bytes, at);
     }
     let lanes = lanes_at(bytes, at);
-    let others = others(lanes);
+    let others = other_lanes(lanes);
     if others == 0 {
         return long_run(bytes, at);
     }
     let count = others.trailing_zeros() as usize;
-    (at + count, number(moved(lanes, count)))
+    (at + count, number(move_to_end(lanes, count)))
 }
 
 /// The first place from `at` on that is no digit, and the last 64 bits of what the digits write.

@@ -38,7 +38,7 @@ fn unit(bytes: &[u8], at: usize) -> Option<u32>
 
 /// The character of a two-byte escape.
 #[inline(always)]
-fn short(byte: u8) -> Option<u8>
+fn escaped_character(byte: u8) -> Option<u8>
     ensures { result ≡ short_escape byte }
 {
     if byte == b'"' || byte == b'\\' || byte == b'/' {
@@ -131,7 +131,7 @@ pub(crate) fn escape(bytes: &[u8], at: usize) -> Result<(char, usize), ErrorKind
     if byte == b'u' {
         return code(bytes, at + 1);
     }
-    match short(byte) {
+    match escaped_character(byte) {
         Some(character) => Ok((char::from(character), at + 1)),
         None => Err(ErrorKind::Syntax),
     }

@@ -12,7 +12,7 @@ use sj_text_core::{ErrorKind, StaticNode};
 
 /// The number that at most 19 digits write.
 #[inline(always)]
-fn word(digits: &[u8]) -> u64
+fn narrow_value(digits: &[u8]) -> u64
     requires digits { EachIndex digits.now (λ k. (48 ≤ slice_index digits.now k) × (slice_index digits.now k ≤ 57)) }
     requires few { length digits.now ≤ 19 }
     ensures { result ≡ value_of digits.now }
@@ -23,7 +23,7 @@ fn word(digits: &[u8]) -> u64
 
 /// The number that 19 digits or more write, the first of them no zero, if it is below 2 ^ 128.
 /// Such a number has 39 digits at most.
-fn large(digits: &[u8]) -> Option<u128>
+fn wide_value(digits: &[u8]) -> Option<u128>
     requires digits { EachIndex digits.now (λ k. (48 ≤ slice_index digits.now k) × (slice_index digits.now k ≤ 57)) }
     requires first { get_or digits.now 0 0 ≢ 48 }
     requires many { 19 ≤ length digits.now }
@@ -33,8 +33,8 @@ fn large(digits: &[u8]) -> Option<u128>
         return None;
     }
     let middle = digits.len().min(38);
-    let high = u128::from(word(&digits[..19])) * u128::from(ten_to((middle - 19) as u64));
-    let n = high + u128::from(word(&digits[19..middle]));
+    let high = u128::from(narrow_value(&digits[..19])) * u128::from(ten_to((middle - 19) as u64));
+    let n = high + u128::from(narrow_value(&digits[19..middle]));
     if digits.len() <= 38 {
         return Some(n);
     }
@@ -45,7 +45,7 @@ fn large(digits: &[u8]) -> Option<u128>
 }
 
 /// The number with its carrier, where one has it.
-fn carried(is_negative: bool, n: u128) -> Option<StaticNode>
+fn in_carrier(is_negative: bool, n: u128) -> Option<StaticNode>
     ensures { option_map static_tree result ≡ number_of is_negative n }
 {
     if !is_negative {
@@ -79,7 +79,7 @@ fn goes_on(bytes: &[u8], at: usize) -> bool
 
 /// A number of at most 64 bits, of at most 18 digits where it is negative.
 #[inline(always)]
-fn few(is_negative: bool, n: u64) -> StaticNode
+fn small_number(is_negative: bool, n: u64) -> StaticNode
     requires { is_negative ≡ true → n < 10 ^ 18 }
     ensures { number_of is_negative n ≡ Some (static_tree result) }
 {
@@ -93,28 +93,28 @@ fn few(is_negative: bool, n: u64) -> StaticNode
 /// The number of 19 digits or more, where it has a carrier. `low` is its last 64 bits: they are the
 /// whole of a number of 19 digits, and of one of 20 that begins with a 1 where they are no less.
 #[inline(never)]
-fn many(digits: &[u8], is_negative: bool, low: u64) -> Option<StaticNode>
+fn wide_number(digits: &[u8], is_negative: bool, low: u64) -> Option<StaticNode>
     requires digits { EachIndex digits.now (λ k. (48 ≤ slice_index digits.now k) × (slice_index digits.now k ≤ 57)) }
     requires low { low ≡ value_of digits.now % 2 ^ 64 }
     requires first { get_or digits.now 0 0 ≢ 48 }
     ensures { option_map static_tree result ≡ number_of is_negative (value_of digits.now) }
 {
     if digits.len() <= 19 {
-        return carried(is_negative, u128::from(low));
+        return in_carrier(is_negative, u128::from(low));
     }
     if digits.len() == 20 && digits[0] == b'1' && low >= 10_000_000_000_000_000_000 {
-        return carried(is_negative, u128::from(low));
+        return in_carrier(is_negative, u128::from(low));
     }
-    match large(digits) {
+    match wide_value(digits) {
         None => None,
-        Some(n) => carried(is_negative, n),
+        Some(n) => in_carrier(is_negative, n),
     }
 }
 
 /// The number at the front and the place behind it, where it is as short as most are: a node is made
 /// of it without a call. None says nothing of the bytes.
 #[inline(always)]
-pub(crate) fn short(bytes: &[u8]) -> Option<(StaticNode, usize)>
+pub(crate) fn read_short_number(bytes: &[u8]) -> Option<(StaticNode, usize)>
     requires { 0 < length bytes.now }
     ensures within { IfSome result (λ p. (0 < p.1) × (p.1 ≤ length bytes.now)) }
     ensures some { IfSome result (λ p. parse.number_at bytes.now ≡ Some (static_tree p.0, drop p.1 bytes.now)) }
@@ -144,12 +144,12 @@ fn short_numeral(bytes: &[u8], at: usize, is_negative: bool) -> Option<(StaticNo
     if goes_on(bytes, end) {
         return None;
     }
-    Some((few(is_negative, low), end))
+    Some((small_number(is_negative, low), end))
 }
 
 /// The whole number at the front, and the place behind it.
 #[inline(always)]
-pub(crate) fn number(bytes: &[u8]) -> Result<(StaticNode, usize), ErrorKind>
+pub(crate) fn read_number(bytes: &[u8]) -> Result<(StaticNode, usize), ErrorKind>
     requires { 0 < length bytes.now }
     ensures within { IfOk result (λ p. (0 < p.1) × (p.1 ≤ length bytes.now)) }
     ensures ok { IfOk result (λ p. parse.number_at bytes.now ≡ Some (static_tree p.0, drop p.1 bytes.now)) }
@@ -181,9 +181,9 @@ fn numeral(bytes: &[u8], at: usize, is_negative: bool) -> Result<(StaticNode, us
         return Err(ErrorKind::Float);
     }
     if end - at <= 18 {
-        return Ok((few(is_negative, low), end));
+        return Ok((small_number(is_negative, low), end));
     }
-    match many(&bytes[at..end], is_negative, low) {
+    match wide_number(&bytes[at..end], is_negative, low) {
         None => Err(ErrorKind::NumberTooLarge),
         Some(node) => Ok((node, end)),
     }

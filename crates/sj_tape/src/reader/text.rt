@@ -12,7 +12,7 @@ use crate::node::Node;
 use crate::packed::Packed;
 use crate::reader::escape::escape;
 use crate::reader::nodes::{push_node, push_packed};
-use crate::reader::run::plain_end;
+use crate::reader::plain::plain_end;
 use sj_print::PlainText;
 use sj_text_core::ErrorKind;
 use std::str::from_utf8_unchecked;

@@ -11,7 +11,7 @@ use crate::node::Node;
 use crate::packed::Packed;
 use crate::reader::blank::{byte_at, skip};
 use crate::reader::nodes::{count, push_node, set_node};
-use crate::reader::number::{number, short};
+use crate::reader::number::{read_number, read_short_number};
 use crate::reader::structure::{Behind, separator, word_end};
 use crate::reader::text::text;
 use sj_text_core::{ErrorKind, StaticNode};
@@ -35,7 +35,7 @@ fn text_or_number<'i>(
         let (_, inside) = rest.split_at_mut(1);
         return text(inside, nodes);
     }
-    let Some((number, end)) = short(rest) else {
+    let Some((number, end)) = read_short_number(rest) else {
         return long_number(rest, nodes);
     };
     push_node(nodes, Node::Static(number))?;
@@ -59,7 +59,7 @@ fn any_number<'i>(
     ensures err { IfErr result (λ e. e ≢ ErrorKind.OutOfMemory → parse.value_by parse.nothing_at parse.nothing_at rest.old ≡ None) }
     ensures kind { IfErr result (λ e. e ≢ ErrorKind.InvalidUtf8) }
 {
-    let (number, end) = number(rest)?;
+    let (number, end) = read_number(rest)?;
     push_node(nodes, Node::Static(number))?;
     let (_, rest) = rest.split_at_mut(end);
     Ok(rest)
@@ -87,7 +87,7 @@ fn long_number<'i>(
 
 /// The word at the front, and the place behind it.
 #[inline(always)]
-fn word(bytes: &[u8]) -> Result<(StaticNode, usize), ErrorKind>
+fn read_word(bytes: &[u8]) -> Result<(StaticNode, usize), ErrorKind>
     requires some { 0 < length bytes.now }
     requires first { 57 < get_or bytes.now 0 0 }
     requires no_list { get_or bytes.now 0 0 ≢ 91 }
@@ -119,7 +119,7 @@ fn any_word<'i>(rest: &'i mut [u8], nodes: &mut Vec<Packed<'i>>) -> Result<&'i m
     ensures err { IfErr result (λ e. e ≢ ErrorKind.OutOfMemory → parse.value_by parse.nothing_at parse.nothing_at rest.old ≡ None) }
     ensures kind { IfErr result (λ e. e ≢ ErrorKind.InvalidUtf8) }
 {
-    let (word, end) = word(rest)?;
+    let (word, end) = read_word(rest)?;
     push_node(nodes, Node::Static(word))?;
     let (_, rest) = rest.split_at_mut(end);
     Ok(rest)
@@ -349,7 +349,7 @@ fn member<'i>(
 }
 
 /// Puts the nodes of the one value that the bytes spell.
-pub(crate) fn whole<'i>(
+pub(crate) fn read_tree<'i>(
     bytes: &'i mut [u8],
     depth: usize,
     nodes: &mut Vec<Packed<'i>>,

@@ -6,8 +6,8 @@ use Rattle.sj_tape.proofs.Digits.{numeral_reads}
 use Rattle.sj_tape.proofs.reader.number.numeral.Goals as goal
 use Rattle.sj_tape.proofs.reader.number.numeral.Goals.{else-bytes-at-eq48-via-then-bytes-at-eq48+else-end-at-gt1, else-bytes-at-eq48-via-else-bytes-at-eq48}
 
-pub few-requires : goal.few-requires
-few-requires c = λ _.
+pub small_number-requires : goal.small_number-requires
+small_number-requires c = λ _.
     let d = c.digits-end in
     let big : 10 ^ (d.result.0 - c.args.at) ≤ 10 ^ 18 = pow-le-pow_right {n = 10} (lit< tt) {i = d.result.0 - c.args.at} {j = 18} c.if-end-at-le18.true in
     omega (arith, d.ensures.value, d.ensures.bound, big)
@@ -23,4 +23,4 @@ returns-then-end-at-le18-clause-ok c =
       | else-bytes-at-eq48-via-else-bytes-at-eq48 w ↦ absurd (w.if-bytes-at-eq48.false z)
     ] in
     let some : d.result.0 - c.args.at ≢ 0 = omega (arith, c.if-end-at.false, d.ensures.low) in
-    numeral_reads c.args.is_negative b c.args.at d.result.0 _ d.ensures.low d.ensures.count some plain (sym c.goes_on.ensures ∙ c.if-goes_on.false) (ap (λ n. number_of c.args.is_negative n) is ∙ c.few.ensures)
+    numeral_reads c.args.is_negative b c.args.at d.result.0 _ d.ensures.low d.ensures.count some plain (sym c.goes_on.ensures ∙ c.if-goes_on.false) (ap (λ n. number_of c.args.is_negative n) is ∙ c.small_number.ensures)

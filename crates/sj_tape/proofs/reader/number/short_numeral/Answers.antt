@@ -6,8 +6,8 @@ use Rattle.sj_tape.proofs.Digits.{numeral_reads}
 use Rattle.sj_tape.proofs.reader.number.short_numeral.Goals as goal
 use Rattle.sj_tape.proofs.reader.number.short_numeral.Goals.{then-is_negative, else-is_negative, else-end-at-gt1-via-then-end-at-gt1+else-bytes-at-eq48, else-end-at-gt1-via-else-end-at-gt1}
 
-pub few-requires : goal.few-requires
-few-requires c = λ minus.
+pub small_number-requires : goal.small_number-requires
+small_number-requires c = λ minus.
     let d = c.digits-end in
     let small : d.result.0 - c.args.at ≤ 18 = elim c.if-is_negative.branch [
       | then-is_negative w ↦ omega (arith, w.most-is, c.if-end-at-2.false)
@@ -31,4 +31,4 @@ returns-clause-some c =
       | else-end-at-gt1-via-else-end-at-gt1 w ↦ w.if-end-at-gt1.false
     ] in
     let some : d.result.0 - c.args.at ≢ 0 = omega (arith, c.if-end-at.false, d.ensures.low) in
-    numeral_reads c.args.is_negative b c.args.at d.result.0 _ d.ensures.low d.ensures.count some plain (sym c.goes_on.ensures ∙ c.if-goes_on.false) (ap (λ n. number_of c.args.is_negative n) is ∙ c.few.ensures)
+    numeral_reads c.args.is_negative b c.args.at d.result.0 _ d.ensures.low d.ensures.count some plain (sym c.goes_on.ensures ∙ c.if-goes_on.false) (ap (λ n. number_of c.args.is_negative n) is ∙ c.small_number.ensures)

@@ -2,7 +2,7 @@ use Rattle.std.proofs.Common.{refl, sym, ap, ◌∙◌, arith}
 use lib.Count.{count_trailing_zeros}
 use Rattle.sj_print.specs.inner.Runs.{is_stop, is_plain}
 use Rattle.sj_print.proofs.Runs.{run_bound, run_through, run_stops}
-use Rattle.sj_tape.proofs.reader.run.plain_end.Goals as goal
+use Rattle.sj_tape.proofs.reader.plain.plain_end.Goals as goal
 
 pub returns-then-bytes-from-lt16-clause-bound : goal.returns-then-bytes-from-lt16-clause-bound
 returns-then-bytes-from-lt16-clause-bound c = omega (arith, c.plain_end_slowly.ensures, run_bound is_plain c.args.bytes.now c.args.from c.requires)

@@ -1,5 +1,5 @@
 use Rattle.sj_tape.proofs.Sixteens.{moved_ok, moved_lanes}
-use Rattle.sj_tape.proofs.reader.digits.moved.Goals as goal
+use Rattle.sj_tape.proofs.reader.digits.move_to_end.Goals as goal
 
 pub swizzle : goal.swizzle
 swizzle c = moved_ok c.args.lanes c.args.count c.fits-lanes.0 c.requires

@@ -2,7 +2,7 @@ use Rattle.std.proofs.Common.{arith}
 use Rattle.std.proofs.lemmas.Simd.{zip2_splat, zip2_of_maps}
 use Rattle.sj_tape.specs.inner.Run.{is_solid}
 use Rattle.sj_print.proofs.Lanes.{masked}
-use Rattle.sj_tape.proofs.reader.blank.solids.Goals as goal
+use Rattle.sj_tape.proofs.reader.blank.solid_lanes.Goals as goal
 
 pub returns : goal.returns
 returns c =

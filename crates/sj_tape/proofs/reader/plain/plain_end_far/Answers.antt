@@ -2,7 +2,7 @@ use Rattle.std.proofs.Common.{refl, sym, ap, ◌∙◌, arith}
 use lib.Count.{count_trailing_zeros}
 use Rattle.sj_print.specs.inner.Runs.{is_stop, is_plain}
 use Rattle.sj_print.proofs.Runs.{run_through, run_stops}
-use Rattle.sj_tape.proofs.reader.run.plain_end_far.Goals as goal
+use Rattle.sj_tape.proofs.reader.plain.plain_end_far.Goals as goal
 
 pub returns-then-found-ne0 : goal.returns-then-found-ne0
 returns-then-found-ne0 c =

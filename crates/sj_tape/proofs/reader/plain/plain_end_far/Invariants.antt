@@ -1,7 +1,7 @@
 use Rattle.std.proofs.Common.{◌≡◌, ◌+◌, ◌-◌, ◌≤◌, length, drop}
 use Rattle.std.specs.List.{prefix_len}
 use Rattle.sj_print.specs.inner.Runs.{is_plain}
-use Rattle.sj_tape.proofs.reader.run.plain_end_slowly.Given as goal
+use Rattle.sj_tape.proofs.reader.plain.plain_end_far.Given as goal
 
 abbrev pub invariant-loop-at : goal.invariant-loop-at
 invariant-loop-at l =

@@ -2,7 +2,7 @@ use Rattle.std.proofs.Common.{◌∙◌, true, false}
 use Rattle.sj_text_core.specs.Tree.{null, boolean}
 use Rattle.sj_text_core.specs.inner.Parse.{nothing_at}
 use Rattle.sj_tape.proofs.Scalars.{null_at, true_at, false_at, on_err}
-use Rattle.sj_tape.proofs.reader.value.word.Goals as goal
+use Rattle.sj_tape.proofs.reader.value.read_word.Goals as goal
 
 pub returns-in_err-word_end-in-110-clause-err : goal.returns-in_err-word_end-in-110-clause-err
 returns-in_err-word_end-in-110-clause-err c = on_err _ (null_at nothing_at nothing_at c.args.bytes.now 0 c.requires.some c.in-110.is ∙ c.in_err-word_end-in-110.ensures.err null)
