@@ -4,7 +4,7 @@ ghost use Rattle.std.specs.Prelude.{◌≡◌, ◌↔◌, ◌+◌, ◌^◌, ◌�
 ghost use Rattle.sj_text_core.specs.Print.{compact};
 ghost use Rattle.sj_canonical.specs.Canonical.{canonical};
 
-use crate::whole::{encode, write};
+use crate::writing::{encode, write};
 use sj_document::{Document, KeyText};
 use sj_lazy::{Lazy, Value};
 use sj_tape::Value as TapeValue;

@@ -18,11 +18,11 @@ mod canonical;
 pub mod laws;
 mod order;
 mod walk;
-mod whole;
+mod writing;
 
 pub use canonical::Canonical;
 pub use sj_document::Document;
 pub use sj_lazy::Value;
 pub use sj_tape::Value as TapeValue;
 pub use sj_text_core::{Repeats, WriteError};
-pub use whole::{encode, write};
+pub use writing::{encode, write};

@@ -33,7 +33,7 @@ mod output;
 mod parts;
 mod plain_text;
 mod print;
-mod whole;
+mod writing;
 
 pub use formatter::display;
 pub use generator::{
@@ -43,4 +43,4 @@ pub use layout::Layout;
 pub use output::{Count, Output};
 pub use parts::{Level, Parts};
 pub use plain_text::PlainText;
-pub use whole::{count, encode, encode_counted, write, write_counted};
+pub use writing::{count, encode, encode_counted, write, write_counted};

@@ -1,7 +1,7 @@
 use Rattle.std.proofs.Common.{◌+◌, length}
 use Rattle.sj_print.specs.Layouts.{laid, top}
 use Rattle.sj_print.proofs.Ends.{counted}
-use Rattle.sj_print.proofs.whole.count.Goals as goal
+use Rattle.sj_print.proofs.writing.count.Goals as goal
 
 pub returns-clause-ok : goal.returns-clause-ok
 returns-clause-ok g c =

@@ -3,7 +3,7 @@ use Rattle.std.proofs.lemmas.Grind.{common_steps}
 use Rattle.std.proofs.lemmas.Str.{IsUtf8-nil}
 use Rattle.sj_print.specs.Layouts.{laid, top}
 use Rattle.sj_print.proofs.Ends.{front, filled}
-use Rattle.sj_print.proofs.whole.fill.Goals as goal
+use Rattle.sj_print.proofs.writing.fill.Goals as goal
 
 pub returns-clause-bytes : goal.returns-clause-bytes
 returns-clause-bytes g c =
