@@ -80,13 +80,13 @@ impl<'t, 'i> Array<'t, 'i> {
         if index >= self.len {
             return None;
         }
-        let mut behind = self.nodes.from(self.place_of(index));
+        let mut behind = self.nodes.from(self.node_index(index));
         Some(Value::take(&mut behind, 0, self.repeats))
     }
 
-    /// The place of the item at that position among the nodes.
+    /// The index among the nodes of the item at that position.
     #[inline(always)]
-    fn place_of(&self, index: usize) -> usize
+    fn node_index(&self, index: usize) -> usize
         requires { index < items_len (items self.now) }
         ensures { ItemsFrom (nodes_in self.now.nodes) index result }
     {

@@ -13,11 +13,11 @@ returns-then-index-self-clause-value c =
 pub take-requires : goal.take-requires
 take-requires c =
     let a = c.args.self.now in
-    let there = item_there (nodes_in a.nodes) c.args.index c.place_of.result c.place_of.ensures (omega (arith, c.if-index-self.false, a.counted)) in
+    let there = item_there (nodes_in a.nodes) c.args.index c.node_index.result c.node_index.ensures (omega (arith, c.if-index-self.false, a.counted)) in
     subst BeginsTree (sym c.from-behind.ensures) there.begins
 
 pub returns-clause-value : goal.returns-clause-value
 returns-clause-value c =
     let a = c.args.self.now in
-    let there = item_there (nodes_in a.nodes) c.args.index c.place_of.result c.place_of.ensures (omega (arith, c.if-index-self.false, a.counted)) in
+    let there = item_there (nodes_in a.nodes) c.args.index c.node_index.result c.node_index.ensures (omega (arith, c.if-index-self.false, a.counted)) in
     sym (there.item (nodes_in c.take.result.nodes) (nodes_in c.take.new.nodes) c.take.result.whole (sym c.from-behind.ensures ∙ c.take.ensures.all))

@@ -1,7 +1,7 @@
 use Rattle.std.proofs.Common.{arith}
 use Rattle.sj_tape.specs.Stretches.{nodes_in}
 use Rattle.sj_tape.proofs.ItemPlaces.{single_place}
-use Rattle.sj_tape.proofs.array.Array.place_of.Goals as goal
+use Rattle.sj_tape.proofs.array.Array.node_index.Goals as goal
 
 pub returns-then-len-self : goal.returns-then-len-self
 returns-then-len-self c =
