@@ -55,24 +55,24 @@ impl Scanner {
         match self.state {
             State::Value { .. } | State::Key { .. } | State::Colon | State::Behind
                 if is_blank(byte) => { Ok(self.state) }
-            State::Value { is_first } => self.value(is_first, byte),
-            State::Key { is_first } => self.key(is_first, byte),
+            State::Value { is_first } => self.step_value(is_first, byte),
+            State::Key { is_first } => self.step_key(is_first, byte),
             State::Colon => match byte {
                 b':' => Ok(State::Value { is_first: false }),
                 _ => Err(ErrorKind::Syntax),
             },
-            State::Behind => self.behind(byte),
-            State::Word(letters) => word(letters, byte),
-            State::Text { is_key, quoted } => text(is_key, quoted, byte),
+            State::Behind => self.step_behind(byte),
+            State::Word(letters) => step_word(letters, byte),
+            State::Text { is_key, quoted } => step_text(is_key, quoted, byte),
             State::Minus => match byte {
                 b'0'..=b'9' => Ok(State::Number(Number::new(true, byte - b'0'))),
                 _ => Err(ErrorKind::Syntax),
             },
-            State::Number(number) => self.number(number, byte),
+            State::Number(number) => self.step_number(number, byte),
         }
     }
 
-    fn value(&mut self, is_first: bool, byte: u8) -> Result<State, ErrorKind> {
+    fn step_value(&mut self, is_first: bool, byte: u8) -> Result<State, ErrorKind> {
         match byte {
             b'[' => self.open(false),
             b'{' => self.open(true),
@@ -90,7 +90,7 @@ impl Scanner {
         }
     }
 
-    fn key(&mut self, is_first: bool, byte: u8) -> Result<State, ErrorKind> {
+    fn step_key(&mut self, is_first: bool, byte: u8) -> Result<State, ErrorKind> {
         match byte {
             b'"' => Ok(State::Text {
                 is_key: true,
@@ -101,16 +101,16 @@ impl Scanner {
         }
     }
 
-    fn number(&mut self, number: Number, byte: u8) -> Result<State, ErrorKind> {
+    fn step_number(&mut self, number: Number, byte: u8) -> Result<State, ErrorKind> {
         match byte {
             b'0'..=b'9' => Ok(State::Number(number.with(byte - b'0')?)),
             b'.' | b'e' | b'E' => Err(ErrorKind::Float),
             _ if is_blank(byte) => Ok(State::Behind),
-            _ => self.behind(byte),
+            _ => self.step_behind(byte),
         }
     }
 
-    fn behind(&mut self, byte: u8) -> Result<State, ErrorKind> {
+    fn step_behind(&mut self, byte: u8) -> Result<State, ErrorKind> {
         match byte {
             b',' if self.is_in_object() => Ok(State::Key { is_first: false }),
             b',' if self.depth > 0 => Ok(State::Value { is_first: false }),
@@ -150,7 +150,7 @@ fn is_blank(byte: u8) -> bool {
     matches!(byte, b' ' | b'\t' | b'\n' | b'\r')
 }
 
-fn word(letters: &'static [u8], byte: u8) -> Result<State, ErrorKind> {
+fn step_word(letters: &'static [u8], byte: u8) -> Result<State, ErrorKind> {
     match letters {
         [first] if *first == byte => Ok(State::Behind),
         [first, rest @ ..] if *first == byte => Ok(State::Word(rest)),
@@ -158,7 +158,7 @@ fn word(letters: &'static [u8], byte: u8) -> Result<State, ErrorKind> {
     }
 }
 
-fn text(is_key: bool, quoted: Quoted, byte: u8) -> Result<State, ErrorKind> {
+fn step_text(is_key: bool, quoted: Quoted, byte: u8) -> Result<State, ErrorKind> {
     Ok(match quoted.step(byte)? {
         Quoted::Closed if is_key => State::Colon,
         Quoted::Closed => State::Behind,

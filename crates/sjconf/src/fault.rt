@@ -43,7 +43,7 @@ pub enum Fault {
 }
 
 /// A word or a pointer as it is told, on one line: as a JSON string where it has a control character.
-pub fn told(alloc: Global, word: &str) -> Result<String, WriteError> {
+pub fn one_line(alloc: Global, word: &str) -> Result<String, WriteError> {
     let word = String::from_str(alloc, word)?;
     if word.bytes().any(|byte| byte < b' ') {
         return Value::from(word).encode(alloc);
@@ -53,7 +53,7 @@ pub fn told(alloc: Global, word: &str) -> Result<String, WriteError> {
 
 /// The name of a file as it is told.
 pub fn file_name(alloc: Global, path: &str) -> Result<String, WriteError> {
-    told(alloc, if path == "-" { "standard input" } else { path })
+    one_line(alloc, if path == "-" { "standard input" } else { path })
 }
 
 impl Fault {
@@ -88,7 +88,7 @@ impl Fault {
     pub fn setting(alloc: Global, word: &str, why: SettingFault) -> Result<Fault, WriteError> {
         match why {
             SettingFault::OutOfMemory => Ok(Fault::OutOfMemory),
-            _ => Ok(Fault::Setting(told(alloc, word)?, why)),
+            _ => Ok(Fault::Setting(one_line(alloc, word)?, why)),
         }
     }
 

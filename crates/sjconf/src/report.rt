@@ -2,7 +2,7 @@
 
 use crate::demand::{Demand, is_key_of};
 use crate::expected::{expected_text, found_text};
-use crate::fault::{Fault, file_name, told};
+use crate::fault::{Fault, file_name, one_line};
 use crate::input::Layer;
 use crate::origin::{Origin, origin_of, reached};
 use crate::setting::Setting;
@@ -26,7 +26,7 @@ pub fn pointed(alloc: Global, place: &Pointer) -> Result<String, WriteError> {
     if place.tokens().is_empty() {
         return Ok(String::from_str(alloc, "at the top")?);
     }
-    let pointer = told(alloc, &format!(in alloc; "{place}")?)?;
+    let pointer = one_line(alloc, &format!(in alloc; "{place}")?)?;
     Ok(format!(in alloc; "at {pointer}")?)
 }
 
@@ -47,7 +47,7 @@ fn source(alloc: Global, made: Made<'_, '_>, tokens: &[String]) -> Result<String
         },
         Origin::Setting(index) => match made.settings.get(index) {
             Some(setting) => {
-                let word = told(alloc, setting.word)?;
+                let word = one_line(alloc, setting.word)?;
                 Ok(format!(in alloc; "--set {word}")?)
             }
             None => Ok(String::from_str(alloc, "the settings")?),

@@ -5,7 +5,7 @@ ghost use Rattle.sj_document.specs.Document.{document_tree};
 ghost use Rattle.sj_path.specs.Made.{set_made};
 ghost use Rattle.sjconf.specs.Settings.{all_set};
 
-use crate::key::place_of;
+use crate::key::pointer_of;
 use sj_owned::{AccessError, ErrorKind, Value, to_value};
 use sj_path::owned::set;
 use sj_pointer::{Pointer, PointerError};
@@ -69,7 +69,7 @@ pub fn setting_of<'w>(alloc: Global, word: &'w str) -> Result<Setting<'w>, Setti
     };
     Ok(Setting {
         word,
-        place: place_of(alloc, key)?,
+        place: pointer_of(alloc, key)?,
         value: value_of(alloc, text)?,
     })
 }

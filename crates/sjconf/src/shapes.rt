@@ -7,7 +7,7 @@ use crate::demand::{Demand, is_key_of};
 use crate::fault::Fault;
 use crate::flaw::Flaw;
 use crate::input::{Layer, document};
-use crate::key::place_of;
+use crate::key::pointer_of;
 use crate::report::{located, pointed};
 use crate::said::{Said, said_of};
 use crate::shape::{Wrong, demand_of, is_closed};
@@ -39,7 +39,7 @@ pub fn demands_of(alloc: Global, layer: &Layer<'_>) -> Result<Vec<Demand>, Fault
 fn places_of(alloc: Global, layer: &Layer<'_>, members: &Object) -> Result<Vec<Pointer>, Fault> {
     let mut places = Vec::new(alloc);
     for key in members.keys() {
-        match place_of(alloc, key.as_str()) {
+        match pointer_of(alloc, key.as_str()) {
             Ok(place) => places.push(place)?,
             Err(PointerError::OutOfMemory) => return Err(Fault::OutOfMemory),
             Err(PointerError::NoSlash | PointerError::BadTilde) => {

@@ -1,9 +1,9 @@
 //! What the program does.
 
 use crate::demand::Demand;
-use crate::fault::{Fault, told};
+use crate::fault::{Fault, one_line};
 use crate::input::{Layer, read_layer};
-use crate::key::place_of;
+use crate::key::pointer_of;
 use crate::output::{print_of, raw_of};
 use crate::setting::{Setting, setting_of};
 use crate::shapes::demands_of;
@@ -34,11 +34,11 @@ pub fn work(rt: &(impl Files + Input + Print + AllocGlobal), task: &Task<'_>) ->
 /// Where the value stands that is asked for; the whole where none is.
 fn place_of_get(alloc: Global, word: Option<&str>) -> Result<Pointer, Fault> {
     let word = word.unwrap_or("");
-    match place_of(alloc, word) {
+    match pointer_of(alloc, word) {
         Ok(place) => Ok(place),
         Err(PointerError::OutOfMemory) => Err(Fault::OutOfMemory),
         Err(PointerError::NoSlash | PointerError::BadTilde) => {
-            Err(Fault::NoPlace(told(alloc, word)?))
+            Err(Fault::NoPlace(one_line(alloc, word)?))
         }
     }
 }
@@ -87,7 +87,7 @@ fn print(
 ) -> Result<(), Fault> {
     let alloc = rt.alloc();
     let Some(value) = find(whole, place) else {
-        return Err(Fault::Nothing(told(alloc, task.get.unwrap_or(""))?));
+        return Err(Fault::Nothing(one_line(alloc, task.get.unwrap_or(""))?));
     };
     let text = if task.is_raw {
         raw_of(alloc, value, task.is_pretty)?

@@ -113,7 +113,7 @@ fn output_of<'m>(item: &'m Value, before: &[Route]) -> Result<&'m str, Wrong<'m>
 fn takes_of<'m>(alloc: Global, item: &'m Value) -> Result<Takes, Wrong<'m>> {
     let Some(takes) = item.get("takes") else {
         return Ok(Takes::Met(Rule {
-            place: place_of(alloc, item)?,
+            place: pointer_of(alloc, item)?,
             test: test_of(item)?,
         }));
     };
@@ -132,8 +132,8 @@ fn takes_of<'m>(alloc: Global, item: &'m Value) -> Result<Takes, Wrong<'m>> {
     }
 }
 
-/// The place that the item's rule asks about: the whole message where it names none.
-fn place_of<'m>(alloc: Global, item: &'m Value) -> Result<Pointer, Wrong<'m>> {
+/// The pointer to what the item's rule asks about: the whole message where it names none.
+fn pointer_of<'m>(alloc: Global, item: &'m Value) -> Result<Pointer, Wrong<'m>> {
     match (item.get("pointer"), item.get("key")) {
         (None, None) => read_pointer(alloc, ""),
         (Some(text), None) => match text.as_str() {

@@ -8,7 +8,7 @@ use crate::piece::route_piece;
 use crate::reading::read_routes;
 use crate::report::{Counts, tell, tell_broken, tell_progress};
 use crate::routing::Route;
-use crate::words::{HELP, Task, asked};
+use crate::words::{HELP, Task, read_task};
 use sj_pieces::Pieces;
 use std::io::{self, BufReader, ErrorKind};
 use std::rt::{Env, Files};
@@ -30,7 +30,7 @@ pub fn run<R>(rt: &R, tells_progress: bool) -> Result<u8, Fault>
 where
     R: Env + Files + Input + Print + Eprint + AllocGlobal,
 {
-    let rules = match asked(rt)? {
+    let rules = match read_task(rt)? {
         Task::Help => {
             return match print!(rt; "{HELP}") {
                 Ok(()) => Ok(0),

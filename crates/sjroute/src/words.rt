@@ -35,8 +35,8 @@ pub enum Task {
     Route { rules: String },
 }
 
-/// The words behind the program's name.
-pub fn asked(rt: &(impl Env + AllocGlobal)) -> Result<Task, Fault> {
+/// What the words behind the program's name ask for.
+pub fn read_task(rt: &(impl Env + AllocGlobal)) -> Result<Task, Fault> {
     let words: Vec<String> = match env::args(rt) {
         Ok(args) => args.skip(1).collect(rt.alloc())?,
         Err(error) => {

@@ -13,7 +13,7 @@ mod words;
 
 use crate::fault::Fault;
 use crate::input::read_input;
-use crate::words::{chosen, words};
+use crate::words::{given_words, parse_words};
 use sj_commands::cut_at_mark;
 use sj_run::session_repeats;
 use std::alloc::{AllocError, Global};
@@ -22,7 +22,7 @@ use std::process::ExitCode;
 use std::rt::Env;
 
 fn run(rt: &(impl Env + Input + Print + AllocGlobal)) -> Result<(), Fault> {
-    let Some((form, way, repeats)) = chosen(words(rt)?.as_slice()) else {
+    let Some((form, way, repeats)) = parse_words(given_words(rt)?.as_slice()) else {
         return Err(Fault::Usage);
     };
     let mut input = read_input(rt.alloc(), rt.reader())?;

@@ -8,7 +8,7 @@ use std::io::ErrorKind;
 use std::rt::Env;
 
 /// The words behind the program's name. One that is not UTF-8 is no word of the usage.
-pub fn words(rt: &(impl Env + AllocGlobal)) -> Result<Vec<String>, Fault> {
+pub fn given_words(rt: &(impl Env + AllocGlobal)) -> Result<Vec<String>, Fault> {
     match env::args(rt) {
         Ok(args) => Ok(args.skip(1).collect(rt.alloc())?),
         Err(error) => match error.kind() {
@@ -21,7 +21,7 @@ pub fn words(rt: &(impl Env + AllocGlobal)) -> Result<Vec<String>, Fault> {
 
 /// The form, the way and the member of each key that counts, as the words choose them; none where
 /// they are no such words, or where the form is not served in this way.
-pub fn chosen(words: &[String]) -> Option<(Form, Way, Repeats)> {
+pub fn parse_words(words: &[String]) -> Option<(Form, Way, Repeats)> {
     let (first, rest) = words.split_first()?;
     let form = match first.as_str() {
         "owned" => Form::Owned,
