@@ -8,7 +8,7 @@ use Rattle.sj_text_core.specs.inner.Agree.{SameFound}
 use Rattle.sj_text_core.specs.Keep.{IsSingle, AreSingle}
 use Rattle.sj_text_core.specs.Equal.{tree_eq}
 use Rattle.sj_text_core.specs.Edits.{cut}
-use Rattle.sj_text_core.specs.Places.{place_of}
+use Rattle.sj_text_core.specs.Places.{position_of}
 use Rattle.sj_text_core.specs.declared.repeats.Repeats.TheVariants.{First}
 use Rattle.sj_text_core.proofs.Equality.{same-refl}
 use Rattle.sj_text_core.proofs.Equal.{tree_eq-decides, tree_eq-equivalence}
@@ -81,7 +81,7 @@ removed_item (Some i) is js h x y = mapped (nth_item i is) (nth_item i js) (list
 
 removed_in-alike : (k : List ℕ) (t u : Tree) → Twins t u → Alike (removed_in k t) (removed_in k u)
 removed_in-alike k t u h = by_same (λ t u. IsSingle t → IsSingle u → Alike (removed_in k t) (removed_in k u))
-    (λ x y. refl) (λ b x y. refl) (λ n m c d e x y. refl) (λ r x y. refl) (λ is js g x y. removed_item (place_of k) is js g x y)
+    (λ x y. refl) (λ b x y. refl) (λ n m c d e x y. refl) (λ r x y. refl) (λ is js g x y. removed_item (position_of k) is js g x y)
     (λ ms ns g x y. mapped (find_member k ms) (find_member k ns) (obj (cut k ms)) (obj (cut k ns)) (found-same ms ns g k) (same-cut k ms ns x y g, single-cut k ms x, single-cut k ns y)) t u h.0 h.1 h.2
 
 -- at a pointer

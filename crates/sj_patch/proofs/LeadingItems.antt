@@ -4,7 +4,7 @@ use Rattle.sj_text_core.specs.Tree.{Tree, list, item, items_len, items_from}
 use Rattle.sj_text_core.specs.Find.{nth, nth_item}
 use Rattle.sj_text_core.specs.Same.{Same}
 use Rattle.sj_text_core.specs.Keep.{IsSingle}
-use Rattle.sj_text_core.specs.Places.{place_of}
+use Rattle.sj_text_core.specs.Places.{position_of}
 use Rattle.sj_text_core.specs.Paths.{by_token, set_item, set_placed, change_found}
 use Rattle.sj_text_core.proofs.Equality.{same-refl}
 use Rattle.sj_pointer.specs.Pointed.{pointed, set_pointed}
@@ -38,7 +38,7 @@ room-behind : (done rest : List Tree) → length done ≤ items_len (items_from 
 room-behind [] rest = omega arith
 room-behind (t ∷ done) rest = let h = room-behind done rest in omega (arith, h)
 
-module _ (k : List ℕ) (done rest : List Tree) (named : place_of k ≡ Some (length done)) where
+module _ (k : List ℕ) (done rest : List Tree) (named : position_of k ≡ Some (length done)) where
   -- an item changed
   pub leads-item : (ops : List PlainOperation) (u w : Tree) → IsSingle (array (done ++ u ∷ rest)) → Leads ops u w → Leads (map (under (k ∷ [])) ops) (array (done ++ u ∷ rest)) (array (done ++ w ∷ rest))
   leads-item ops u w x h =
@@ -81,7 +81,7 @@ module _ (k : List ℕ) (done rest : List Tree) (named : place_of k ≡ Some (le
       })
 
 -- one item more, behind those that are done
-module _ (ops : List PlainOperation) (start : Tree) (k : List ℕ) (done rest : List Tree) (named : place_of k ≡ Some (length done)) where
+module _ (ops : List PlainOperation) (start : Tree) (k : List ℕ) (done rest : List Tree) (named : position_of k ≡ Some (length done)) where
   pub next-item : (sub : List PlainOperation) (u w : Tree) → Leads sub u w → Leads ops start (array (done ++ u ∷ rest)) → Leads (ops ++ map (under (k ∷ [])) sub) start (array (done ++ w ∷ rest))
   next-item sub u w s h = leads-join ops (map (under (k ∷ [])) sub) start (array (done ++ u ∷ rest)) (array (done ++ w ∷ rest)) h (leads-item k done rest named sub u w h.to_single s)
 

@@ -3,7 +3,7 @@ use Rattle.std.proofs.Common.{◌≡◌, ℕ, ◌≤◌, List, [], ◌∷◌, op
 use Rattle.sj_text_core.specs.Tree.{Tree, list, obj, Items, items_len, Members}
 use Rattle.sj_text_core.specs.Find.{find_member, nth, nth_item}
 use Rattle.sj_text_core.specs.Edits.{put, cut}
-use Rattle.sj_text_core.specs.Places.{place_of}
+use Rattle.sj_text_core.specs.Places.{position_of}
 use Rattle.sj_text_core.specs.Paths.{by_token, set_found}
 use Rattle.sj_text_core.specs.declared.repeats.Repeats.TheVariants.{First}
 use Rattle.sj_document.specs.Document.{document_tree}
@@ -27,10 +27,10 @@ removed_member k ms u f = ap (λ o. or_missing (option_map (λ _. obj (cut k ms)
 pub no_member : (k : List ℕ) (ms : Members) → find_member k ms ≡ None → removed_in k (obj ms) ≡ Err Missing
 no_member k ms f = ap (λ o. or_missing (option_map (λ _. obj (cut k ms)) o)) f
 
-pub removed_item : (k : List ℕ) (i : ℕ) (is : Items) (u : Tree) → place_of k ≡ Some i → nth_item i is ≡ Some u → removed_in k (list is) ≡ Ok (list (remove_at i is))
+pub removed_item : (k : List ℕ) (i : ℕ) (is : Items) (u : Tree) → position_of k ≡ Some i → nth_item i is ≡ Some u → removed_in k (list is) ≡ Ok (list (remove_at i is))
 removed_item k i is u e f = ap (λ o. or_missing (removed_at o is)) e ∙ ap (λ o. or_missing (option_map (λ _. list (remove_at i is)) o)) f
 
-pub no_item : (k : List ℕ) (i : ℕ) (is : Items) → place_of k ≡ Some i → nth_item i is ≡ None → removed_in k (list is) ≡ Err Missing
+pub no_item : (k : List ℕ) (i : ℕ) (is : Items) → position_of k ≡ Some i → nth_item i is ≡ None → removed_in k (list is) ≡ Err Missing
 no_item k i is e f = ap (λ o. or_missing (removed_at o is)) e ∙ ap (λ o. or_missing (option_map (λ _. list (remove_at i is)) o)) f
 
 pub item_out : (k : List ℕ) (i : ℕ) (is : Items) (u : Tree) → nth_item i is ≡ Some u → without_item i k (list is) ≡ Ok (list (remove_at i is))

@@ -5,7 +5,7 @@ use Rattle.std.proofs.lemmas.List.{length-take, length-drop, length-map, map-app
 use Rattle.sj_text_core.specs.Tree.{Tree, items_from}
 use Rattle.sj_text_core.specs.Same.{Same}
 use Rattle.sj_text_core.specs.Keep.{IsSingle}
-use Rattle.sj_text_core.specs.Places.{place_of}
+use Rattle.sj_text_core.specs.Places.{position_of}
 use Rattle.sj_text_core.proofs.Equality.{same-refl}
 use Rattle.sj_text_core.proofs.Shapes.{same_items_len}
 use Rattle.sj_tape.proofs.Parts.{items_len-from}
@@ -111,7 +111,7 @@ module _ {A : Type 0} (f : A → Tree) (olds news : List A) (first i : ℕ) (x y
 
 -- items go, and items come
 module _ (n : ℕ) (done : List Tree) (long : length done ≡ n) where
-  at-end : n < 2 ^ 64 → place_of (decimal n) ≡ Some (length done)
+  at-end : n < 2 ^ 64 → position_of (decimal n) ≡ Some (length done)
   at-end h = place-decimal n h ∙ ap Some (sym long)
 
   pub leads-removals : (ts rest : List Tree) → n + length ts < 2 ^ 64 → IsSingle (array (done ++ (ts ++ rest))) → Leads (removals_at n (length ts)) (array (done ++ (ts ++ rest))) (array (done ++ rest))

@@ -4,7 +4,7 @@ use Rattle.std.specs.Fmt.{decimal}
 use Rattle.std.proofs.lemmas.Fmt.{decimal_by_steps}
 use Rattle.std.proofs.lemmas.List.Sums.{fold-append}
 use Rattle.sj_text_core.specs.Grammar.{IsNumeral, value_of}
-use Rattle.sj_text_core.specs.Places.{place_of}
+use Rattle.sj_text_core.specs.Places.{position_of}
 use Rattle.sj_text_core.proofs.Printed.{digits_more, first_stays}
 use Rattle.sj_pointer.proofs.Numerals.{places_are}
 
@@ -34,5 +34,5 @@ more n ds h w =
     }
 
 -- the decimal of a position names it
-pub place-decimal : (n : ℕ) → n < 2 ^ 64 → place_of (decimal n) ≡ Some n
+pub place-decimal : (n : ℕ) → n < 2 ^ 64 → position_of (decimal n) ≡ Some n
 place-decimal n h = let w = decimal_by_steps Writes one more n h in (places_are (decimal n) n).1 (w.numeral, w.value, h)

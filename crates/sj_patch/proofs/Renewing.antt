@@ -6,7 +6,7 @@ use Rattle.sj_text_core.specs.Tree.{Tree, null, boolean, int, text, list, obj, I
 use Rattle.sj_text_core.specs.Find.{nth, nth_item}
 use Rattle.sj_text_core.specs.Same.{Same}
 use Rattle.sj_text_core.specs.Edits.{put, cut}
-use Rattle.sj_text_core.specs.Places.{place_of}
+use Rattle.sj_text_core.specs.Places.{position_of}
 use Rattle.sj_text_core.specs.Paths.{by_token, set_item, set_placed, set_found, change_found}
 use Rattle.sj_text_core.specs.declared.repeats.Repeats.TheVariants.{First}
 use Rattle.sj_text_core.proofs.Equality.{same-refl}
@@ -30,19 +30,19 @@ fits i u no_items e = cc
 fits zero u (item t is) e = omega arith
 fits (suc i) u (item t is) e = let h = fits i u is e in omega (arith, h)
 
-among_by : (b : Bool) (n i : ℕ) (k : List ℕ) → bytes_eq k (45 ∷ []) ≡ b → place_of k ≡ Some i → i ≤ n → (if b then Some n else up_to n (place_of k)) ≡ Some i
-among_by true n i k g e h = let f : place_of (45 ∷ []) ≡ Some i = ap place_of (sym ((bytes_eq-Decides k (45 ∷ [])).0 g)) ∙ e in let x : None ≡ Some i = f in cc
+among_by : (b : Bool) (n i : ℕ) (k : List ℕ) → bytes_eq k (45 ∷ []) ≡ b → position_of k ≡ Some i → i ≤ n → (if b then Some n else up_to n (position_of k)) ≡ Some i
+among_by true n i k g e h = let f : position_of (45 ∷ []) ≡ Some i = ap position_of (sym ((bytes_eq-Decides k (45 ∷ [])).0 g)) ∙ e in let x : None ≡ Some i = f in cc
 among_by false n i k g e h = ap (up_to n) e ∙ ap (λ b. if b then Some i else None) (le-leb i n h)
 
 -- a position up to the number of items is one that an item can go to
-pub among : (n i : ℕ) (k : List ℕ) → place_of k ≡ Some i → i ≤ n → place_among n k ≡ Some i
+pub among : (n i : ℕ) (k : List ℕ) → position_of k ≡ Some i → i ≤ n → place_among n k ≡ Some i
 among n i k e h = among_by (bytes_eq k (45 ∷ [])) n i k refl e h
 
 -- what stands at the token is removed, and v added there
 abbrev Renews : List ℕ → Tree → Tree → Type 0
 Renews k v t = (w : Tree) × (x : Tree) × (removed_in k t ≡ Ok w) × (added_in v k w ≡ Ok x) × Same (set_found (by_token k) v t) x
 
-renews_item : (k : List ℕ) (v u : Tree) (is : Items) (o : Option ℕ) → place_of k ≡ o → option_and_then (λ i. nth i (list is)) o ≡ Some u → Renews k v (list is)
+renews_item : (k : List ℕ) (v u : Tree) (is : Items) (o : Option ℕ) → position_of k ≡ o → option_and_then (λ i. nth i (list is)) o ≡ Some u → Renews k v (list is)
 renews_item k v u is None p e = cc
 renews_item k v u is (Some i) p e = (
   list (remove_at i is),
@@ -57,7 +57,7 @@ renews k v u null e = cc
 renews k v u (boolean b) e = cc
 renews k v u (int n c) e = cc
 renews k v u (text s) e = cc
-renews k v u (list is) e = renews_item k v u is (place_of k) refl e
+renews k v u (list is) e = renews_item k v u is (position_of k) refl e
 renews k v u (obj ms) e = (obj (cut k ms), obj (put k v (cut k ms)), ap (λ o. or_missing (option_map (λ _. obj (cut k ms)) o)) e, refl, same-put_cut k v ms)
 
 -- the same at a pointer
@@ -105,7 +105,7 @@ not_removed_in k null e = refl
 not_removed_in k (boolean b) e = refl
 not_removed_in k (int n c) e = refl
 not_removed_in k (text s) e = refl
-not_removed_in k (list is) e = not_removed_item (place_of k) is e
+not_removed_in k (list is) e = not_removed_item (position_of k) is e
 not_removed_in k (obj ms) e = ap (λ o. or_missing (option_map (λ _. obj (cut k ms)) o)) e
 
 not_further : (k l : List ℕ) (ks : List (List ℕ)) (t : Tree) (o : Option Tree) → option_and_then (pointed (l ∷ ks)) o ≡ None → ((y : Tree) → pointed (l ∷ ks) y ≡ None → within removed_in l ks y ≡ Err Missing)

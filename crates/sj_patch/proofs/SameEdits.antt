@@ -7,7 +7,7 @@ use Rattle.sj_text_core.specs.Same.{Same, SameItems}
 use Rattle.sj_text_core.specs.inner.Agree.{SameFound}
 use Rattle.sj_text_core.specs.Keep.{HasSingle}
 use Rattle.sj_text_core.specs.Edits.{put, cut}
-use Rattle.sj_text_core.specs.Places.{place_of}
+use Rattle.sj_text_core.specs.Places.{position_of}
 use Rattle.sj_text_core.specs.Paths.{by_token, set_item, set_placed, set_found, change_found}
 use Rattle.sj_text_core.specs.declared.repeats.Repeats.TheVariants.{First}
 use Rattle.sj_text_core.proofs.Equality.{found_from_at, at_from_found, same-refl}
@@ -120,14 +120,14 @@ found_placed None is js h = refl
 found_placed (Some i) is js h = same-nth_item i is js h
 
 pub same-token : (k : List ℕ) (t u : Tree) → Same t u → SameFound (token_into First k t) (token_into First k u)
-same-token k t u h = by_same (λ t u. SameFound (token_into First k t) (token_into First k u)) refl (λ b. refl) (λ n m c d e. refl) (λ s. refl) (λ is js s. found_placed (place_of k) is js s) (λ ms ns s. found-same ms ns s k) t u h
+same-token k t u h = by_same (λ t u. SameFound (token_into First k t) (token_into First k u)) refl (λ b. refl) (λ n m c d e. refl) (λ s. refl) (λ is js s. found_placed (position_of k) is js s) (λ ms ns s. found-same ms ns s k) t u h
 
 set_placed_by : (o : Option ℕ) (v w : Tree) (is js : Items) → Same v w → SameItems is js → SameItems (set_placed o v is) (set_placed o w js)
 set_placed_by None v w is js s h = h
 set_placed_by (Some i) v w is js s h = same-set_item i v w is js s h
 
 pub same-set_found : (k : List ℕ) (v w t u : Tree) → Same v w → Same t u → Same (set_found (by_token k) v t) (set_found (by_token k) w u)
-same-set_found k v w t u s h = by_same (λ t u. Same (set_found (by_token k) v t) (set_found (by_token k) w u)) refl (λ b. refl) (λ n m c d e. e) (λ x. refl) (λ is js g. set_placed_by (place_of k) v w is js s g) (λ ms ns g. same-put k v w ms ns s g) t u h
+same-set_found k v w t u s h = by_same (λ t u. Same (set_found (by_token k) v t) (set_found (by_token k) w u)) refl (λ b. refl) (λ n m c d e. e) (λ x. refl) (λ is js g. set_placed_by (position_of k) v w is js s g) (λ ms ns g. same-put k v w ms ns s g) t u h
 
 -- at a pointer
 further_by : (ks : List (List ℕ)) (o p : Option Tree) → SameFound o p → ((x y : Tree) → Same x y → SameFound (pointed ks x) (pointed ks y)) → SameFound (option_and_then (pointed ks) o) (option_and_then (pointed ks) p)

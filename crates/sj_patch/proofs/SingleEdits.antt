@@ -5,7 +5,7 @@ use Rattle.sj_text_core.specs.Tree.{Tree, null, boolean, int, text, list, obj, I
 use Rattle.sj_text_core.specs.Find.{nth, nth_item}
 use Rattle.sj_text_core.specs.Keep.{IsSingle, AreSingle, HasSingle}
 use Rattle.sj_text_core.specs.Edits.{cut}
-use Rattle.sj_text_core.specs.Places.{place_of}
+use Rattle.sj_text_core.specs.Places.{position_of}
 use Rattle.sj_text_core.specs.Paths.{by_token, set_item, set_placed, set_found, change_found}
 use Rattle.sj_text_core.specs.declared.repeats.Repeats.TheVariants.{First}
 use Rattle.sj_text_core.proofs.Single.{SingleFound, single-put, single-member}
@@ -55,7 +55,7 @@ single-token k null h = tt
 single-token k (boolean b) h = tt
 single-token k (int n c) h = tt
 single-token k (text s) h = tt
-single-token k (list is) h = placed_found (place_of k) is h
+single-token k (list is) h = placed_found (position_of k) is h
 single-token k (obj ms) h = single-member k ms h
 
 placed_set : (o : Option ℕ) (v : Tree) (is : Items) → IsSingle v → AreSingle is → AreSingle (set_placed o v is)
@@ -67,7 +67,7 @@ single-set_found k v null s h = tt
 single-set_found k v (boolean b) s h = tt
 single-set_found k v (int n c) s h = tt
 single-set_found k v (text x) s h = tt
-single-set_found k v (list is) s h = placed_set (place_of k) v is s h
+single-set_found k v (list is) s h = placed_set (position_of k) v is s h
 single-set_found k v (obj ms) s h = single-put k v ms s h
 
 -- at a pointer

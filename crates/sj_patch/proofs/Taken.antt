@@ -6,7 +6,7 @@ use Rattle.std.specs.Vec.{vec_capacity}
 use Rattle.sj_text_core.specs.Tree.{list, obj, items_len, members_len}
 use Rattle.sj_text_core.specs.Find.{find_member, nth, nth_item}
 use Rattle.sj_text_core.specs.Edits.{cut}
-use Rattle.sj_text_core.specs.Places.{place_of}
+use Rattle.sj_text_core.specs.Places.{position_of}
 use Rattle.sj_object.specs.Edits.{lookup, cut_entry}
 use Rattle.sj_object.specs.Entries.{Entry, entry_texts}
 use Rattle.sj_object.specs.Members.{entry_members}
@@ -27,7 +27,7 @@ use Rattle.sj_patch.proofs.Backs.{so, placed, gone, insert-remove, remove-len, f
 
 module _ {T : Type 0} (t : T → List ℕ) where
   -- an item, where the room takes all
-  pub took_item : (k : List ℕ) (i : ℕ) (vs ws : List (Document T)) (room : Vec (Document T) Global) (v : Document T) → place_of k ≡ Some i → i < length vs → v ≡ get_or vs i v → ws ≡ remove vs i → length vs ≤ vec_capacity room
+  pub took_item : (k : List ℕ) (i : ℕ) (vs ws : List (Document T)) (room : Vec (Document T) Global) (v : Document T) → position_of k ≡ Some i → i < length vs → v ≡ get_or vs i v → ws ≡ remove vs i → length vs ≤ vec_capacity room
       → Does t Take (k ∷ []) (list (items_seen t vs)) (list (items_seen t ws)) (record { undo = reversal.ItemBack room i; taken = v })
   took_item k i vs ws room v p l e w r =
       let is = items_seen t vs in

@@ -5,7 +5,7 @@ use Rattle.sj_text_core.specs.Ascii.{minus}
 use Rattle.sj_text_core.specs.Find.{find_member, nth_item}
 use Rattle.sj_text_core.specs.Edits.{put, cut}
 use Rattle.sj_text_core.specs.Equal.{tree_eq}
-use Rattle.sj_text_core.specs.Places.{place_of}
+use Rattle.sj_text_core.specs.Places.{position_of}
 use Rattle.sj_text_core.specs.Paths.{by_token, set_found}
 use Rattle.sj_text_core.specs.declared.repeats.Repeats.TheVariants.{First}
 use Rattle.sj_document.specs.Items.{insert_at, remove_at}
@@ -43,7 +43,7 @@ up_to n (Some i) = if nat_le i n then Some i else None
 
 -- where a token puts a new item among n: `-` behind them (RFC 6901, section 4), an index no greater than n at that place
 abbrev pub place_among : ℕ → List ℕ → Option ℕ
-place_among n k = if bytes_eq k (minus ∷ []) then Some n else up_to n (place_of k)
+place_among n k = if bytes_eq k (minus ∷ []) then Some n else up_to n (position_of k)
 
 abbrev pub added_at : Option ℕ → Tree → Items → Result Tree OperationFault
 added_at None v is = Err NoPlace
@@ -62,7 +62,7 @@ removed_at (Some i) is = option_map (λ _. list (remove_at i is)) (nth_item i is
 -- section 4.2, in the container that the value is taken from
 abbrev pub removed_in : List ℕ → Tree → Result Tree OperationFault
 removed_in k (obj ms) = or_missing (option_map (λ _. obj (cut k ms)) (find_member k ms))
-removed_in k (list is) = or_missing (removed_at (place_of k) is)
+removed_in k (list is) = or_missing (removed_at (position_of k) is)
 removed_in k _ = Err Missing
 
 -- section 4.1: at the root "the specified value becomes the entire content of the target document"

@@ -3,14 +3,14 @@ use Rattle.std.proofs.Common.{◌≡◌, ℕ, List, Option, Some, None, option_a
 use Rattle.sj_text_core.specs.Tree.{Tree, null, boolean, int, text, list, obj}
 use Rattle.sj_text_core.specs.Find.{find, nth}
 use Rattle.sj_text_core.specs.Reads.{as_items}
-use Rattle.sj_text_core.specs.Places.{place_of}
+use Rattle.sj_text_core.specs.Places.{position_of}
 use Rattle.sj_text_core.specs.Paths.{by_key, by_place, by_token, set_found, set_placed}
 use Rattle.sj_text_core.specs.declared.repeats.Repeats.TheVariants.{First}
 use Rattle.sj_pointer.specs.Pointed.{token_into}
 
 -- the position that a token names, on an array
 abbrev pub place_in : List ℕ → Tree → Option ℕ
-place_in k t = option_and_then (λ _. place_of k) (as_items t)
+place_in k t = option_and_then (λ _. position_of k) (as_items t)
 
 module _ (k : List ℕ) where
   pub found_by_key : (t : Tree) → None ≡ place_in k t → find k t ≡ token_into First k t

@@ -6,7 +6,7 @@ ghost use Rattle.std.specs.List.{slice_get};
 ghost use Rattle.sj_document.specs.Document.{document_tree};
 ghost use Rattle.sj_document.specs.Rows.{document_row, LendsIfFound};
 ghost use Rattle.sj_text_core.specs.Paths.{by_token, set_found};
-ghost use Rattle.sj_text_core.specs.Places.{place_of};
+ghost use Rattle.sj_text_core.specs.Places.{position_of};
 ghost use Rattle.sj_text_core.specs.Reads.{as_items};
 ghost use Rattle.sj_text_core.specs.declared.repeats.Repeats.TheVariants.{First};
 ghost use Rattle.sj_pointer.specs.Pointed.{token_into, pointed, set_pointed};
@@ -46,7 +46,7 @@ pub fn find<'v, T: KeyText>(value: &'v Document<T>, pointer: &Pointer) -> Option
 
 /// The position that the token names, on an array.
 fn place_in<T: KeyText>(value: &Document<T>, token: &str) -> Option<usize>
-    ensures { result ≡ option_and_then (λ _. place_of token.now) (as_items (document_tree T.text_of value.now)) }
+    ensures { result ≡ option_and_then (λ _. position_of token.now) (as_items (document_tree T.text_of value.now)) }
 {
     if value.is_array() {
         position(token)

@@ -5,7 +5,7 @@ use Rattle.std.specs.List.{AllByRecursion, list_all}
 use Rattle.std.proofs.lemmas.Bool.Decides.{eqb_tells, nat_tests}
 use Rattle.std.proofs.lemmas.Bool.{ltb-true, lt-ltb}
 use Rattle.sj_text_core.specs.Grammar.{IsDigit, IsNumeral, value_of}
-use Rattle.sj_text_core.specs.Places.{is_empty, is_index, place_of}
+use Rattle.sj_text_core.specs.Places.{is_empty, is_index, position_of}
 use Rattle.sj_pointer.proofs.Spellings.{left, right}
 
 low : (c : ℕ) → is_ascii_digit c ≡ true → 48 ≤ c
@@ -58,15 +58,15 @@ chosen : (b : Bool) (n i : ℕ) → (if b then Some n else None) ≡ Some i → 
 chosen true n i e = (refl, (cc))
 chosen false n i e = cc
 
-place_from : (s : List ℕ) (i : ℕ) → place_of s ≡ Some i → IsNumeral s × (value_of s ≡ i) × (i < 2 ^ 64)
+place_from : (s : List ℕ) (i : ℕ) → position_of s ≡ Some i → IsNumeral s × (value_of s ≡ i) × (i < 2 ^ 64)
 place_from s i e =
     let c = chosen (is_index s && nat_lt (value_of s) (2 ^ 64)) (value_of s) i e in
     let l = ltb-true (value_of s) (2 ^ 64) (right (is_index s) (nat_lt (value_of s) (2 ^ 64)) c.0) in
     (numeral_from s (left (is_index s) (nat_lt (value_of s) (2 ^ 64)) c.0), c.1, omega (arith, c.1, l))
 
-place_to : (s : List ℕ) (i : ℕ) → IsNumeral s → value_of s ≡ i → i < 2 ^ 64 → place_of s ≡ Some i
+place_to : (s : List ℕ) (i : ℕ) → IsNumeral s → value_of s ≡ i → i < 2 ^ 64 → position_of s ≡ Some i
 place_to s i n e h =
     (λ j. if numeral_to s n j && lt-ltb (value_of s) (2 ^ 64) (omega (arith, e, h)) j then Some (value_of s) else None) ∙ ap Some e
 
-pub places_are : (s : List ℕ) (i : ℕ) → (place_of s ≡ Some i) ↔ (IsNumeral s × (value_of s ≡ i) × (i < 2 ^ 64))
+pub places_are : (s : List ℕ) (i : ℕ) → (position_of s ≡ Some i) ↔ (IsNumeral s × (value_of s ≡ i) × (i < 2 ^ 64))
 places_are s i = (place_from s i, λ h. place_to s i h.0 h.1 h.2)

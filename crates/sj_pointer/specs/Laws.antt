@@ -5,7 +5,7 @@ use Rattle.sj_pointer.specs.Syntax.{is_begun, is_escaped}
 use Rattle.sj_pointer.specs.Tokens.{tokens_of}
 use Rattle.sj_pointer.specs.Spelled.{SpellsTokens}
 use Rattle.sj_pointer.specs.Shown.{pointer_text}
-use Rattle.sj_text_core.specs.Places.{place_of}
+use Rattle.sj_text_core.specs.Places.{position_of}
 
 -- a text spells tokens just where it is begun and escaped, and they are the text's tokens
 abbrev pub TokensAreSpelled : Type 0
@@ -13,7 +13,7 @@ TokensAreSpelled = (ks : List (List ℕ)) (s : List ℕ) → SpellsTokens ks s �
 
 -- a token names a position just where it is a numeral of JSON (RFC 8259, section 6) below 2^64
 abbrev pub PlacesAreNumerals : Type 0
-PlacesAreNumerals = (s : List ℕ) (i : ℕ) → (place_of s ≡ Some i) ↔ (IsNumeral s × (value_of s ≡ i) × (i < 2 ^ 64))
+PlacesAreNumerals = (s : List ℕ) (i : ℕ) → (position_of s ≡ Some i) ↔ (IsNumeral s × (value_of s ≡ i) × (i < 2 ^ 64))
 
 -- the text that writes tokens spells them, and is read as them
 abbrev pub TextsAreRead : Type 0

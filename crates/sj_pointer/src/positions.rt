@@ -4,7 +4,7 @@ ghost use Rattle.std.specs.Prelude.{◌≡◌, ◌^◌, ◌&&◌, nat_lt, if◌t
 ghost use Rattle.std.specs.Char.{is_ascii_digit};
 ghost use Rattle.std.specs.List.{list_all};
 ghost use Rattle.sj_text_core.specs.Grammar.{value_of};
-ghost use Rattle.sj_text_core.specs.Places.{place_of};
+ghost use Rattle.sj_text_core.specs.Places.{position_of};
 
 /// The number that digits write; None where one is no digit, or the number is past `usize::MAX`.
 fn number(digits: &[u8]) -> Option<usize>
@@ -26,7 +26,7 @@ fn number(digits: &[u8]) -> Option<usize>
 /// is no 0 (RFC 6901, section 4). None for any other token, `-` and the empty one too, and for a
 /// number past `usize::MAX`.
 pub fn position(token: &str) -> Option<usize>
-    ensures { result ≡ place_of token.now }
+    ensures { result ≡ position_of token.now }
 {
     match token.as_bytes() {
         [b'0'] => Some(0),

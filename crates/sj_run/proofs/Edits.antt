@@ -3,7 +3,7 @@ use Rattle.std.proofs.Common.{◌≡◌, ℕ, List, [], ◌∷◌, Option, Some,
 use Rattle.std.specs.declared.alloc.AllocError.{AllocError}
 use Rattle.sj_text_core.specs.Tree.{Tree, list, obj, Items, Members}
 use Rattle.sj_text_core.specs.Find.{find, nth}
-use Rattle.sj_text_core.specs.Places.{place_of}
+use Rattle.sj_text_core.specs.Places.{position_of}
 use Rattle.sj_text_core.specs.Paths.{Step, by_key, by_place, by_token, step_into, tree_at, set_placed, set_found, change_found, set_at}
 use Rattle.sj_text_core.proofs.Paths.{found_same}
 use Rattle.sj_text_core.proofs.Writes.{set_at-same}
@@ -39,24 +39,24 @@ pub edit-member : (k : List ℕ) (p : List Step) (w : Write) (ms : Members) → 
 edit-member k p w ms = found-member (tree_at (by_key k ∷ p) (obj ms)) k p w ms
 
 -- on an array it is the place that it names
-change-item : (o : Option Tree) (k : List ℕ) (i : ℕ) (f : Tree → Tree) (is : Items) → place_of k ≡ Some i → change_found o (by_token k) f (list is) ≡ change_found o (by_place i) f (list is)
+change-item : (o : Option Tree) (k : List ℕ) (i : ℕ) (f : Tree → Tree) (is : Items) → position_of k ≡ Some i → change_found o (by_token k) f (list is) ≡ change_found o (by_place i) f (list is)
 change-item None k i f is e = refl
 change-item (Some u) k i f is e = ap (λ o. list (set_placed o (f u) is)) e
 
-item-named : (k : List ℕ) (i : ℕ) (is : Items) → place_of k ≡ Some i → step_into (by_token k) (list is) ≡ nth i (list is)
+item-named : (k : List ℕ) (i : ℕ) (is : Items) → position_of k ≡ Some i → step_into (by_token k) (list is) ≡ nth i (list is)
 item-named k i is e = ap (option_and_then (λ i. nth i (list is))) e
 
-found-item : (o : Option Tree) (k : List ℕ) (i : ℕ) (p : List Step) (w : Write) (is : Items) → place_of k ≡ Some i → edit_found o (by_token k ∷ p) w (list is) ≡ edit_found o (by_place i ∷ p) w (list is)
+found-item : (o : Option Tree) (k : List ℕ) (i : ℕ) (p : List Step) (w : Write) (is : Items) → position_of k ≡ Some i → edit_found o (by_token k ∷ p) w (list is) ≡ edit_found o (by_place i ∷ p) w (list is)
 found-item None k i p w is e = refl
 found-item (Some u) k i p w is e =
     ap (λ t. (t, (changed w u).1)) (ap (λ o. change_found o (by_token k) (set_at p (changed w u).0) (list is)) (item-named k i is e) ∙ change-item (nth i (list is)) k i (set_at p (changed w u).0) is e)
 
-pub edit-item : (k : List ℕ) (i : ℕ) (p : List Step) (w : Write) (is : Items) → place_of k ≡ Some i → edit (by_token k ∷ p) w (list is) ≡ edit (by_place i ∷ p) w (list is)
+pub edit-item : (k : List ℕ) (i : ℕ) (p : List Step) (w : Write) (is : Items) → position_of k ≡ Some i → edit (by_token k ∷ p) w (list is) ≡ edit (by_place i ∷ p) w (list is)
 edit-item k i p w is e =
     found-item (tree_at (by_token k ∷ p) (list is)) k i p w is e ∙ ap (λ o. edit_found (option_and_then (tree_at p) o) (by_place i ∷ p) w (list is)) (item-named k i is e)
 
 -- where it names none, nothing changes
-pub edit-unnamed : (k : List ℕ) (p : List Step) (w : Write) (is : Items) → place_of k ≡ None → edit (by_token k ∷ p) w (list is) ≡ (list is, missing)
+pub edit-unnamed : (k : List ℕ) (p : List Step) (w : Write) (is : Items) → position_of k ≡ None → edit (by_token k ∷ p) w (list is) ≡ (list is, missing)
 edit-unnamed k p w is e = edit_missing (by_token k) p w (list is) (ap (option_and_then (λ i. nth i (list is))) e)
 
 module _ {T : Type 0} (t : T → List ℕ) where

@@ -5,7 +5,7 @@ use Rattle.sj_text_core.specs.Tree.{Tree, null, boolean, int, text, list, obj, I
 use Rattle.sj_text_core.specs.Find.{find_member, nth, nth_item}
 use Rattle.sj_text_core.specs.Keep.{keep}
 use Rattle.sj_text_core.specs.Edits.{put}
-use Rattle.sj_text_core.specs.Places.{place_of}
+use Rattle.sj_text_core.specs.Places.{position_of}
 use Rattle.sj_text_core.specs.Paths.{Step, by_key, by_place, by_token, token_into_by, step_into, step_into_by, tree_at, tree_at_by, set_item, set_placed, set_found}
 use Rattle.sj_text_core.specs.Repeats.{keep_by, keep_last, keep_last_items}
 use Rattle.sj_text_core.specs.declared.repeats.Repeats.{Repeats}
@@ -36,13 +36,13 @@ token-keep_by First k null = refl
 token-keep_by First k (boolean b) = refl
 token-keep_by First k (int n d) = refl
 token-keep_by First k (text s) = refl
-token-keep_by First k (list is) = placed-keep_by First (place_of k) (list is)
+token-keep_by First k (list is) = placed-keep_by First (position_of k) (list is)
 token-keep_by First k (obj ms) = find-keep_by First k (obj ms)
 token-keep_by Last k null = refl
 token-keep_by Last k (boolean b) = refl
 token-keep_by Last k (int n d) = refl
 token-keep_by Last k (text s) = refl
-token-keep_by Last k (list is) = placed-keep_by Last (place_of k) (list is)
+token-keep_by Last k (list is) = placed-keep_by Last (position_of k) (list is)
 token-keep_by Last k (obj ms) = find-keep_by Last k (obj ms)
 
 step_into-keep_by : (c : Repeats) (s : Step) (t : Tree) → step_into s (keep_by c t) ≡ option_map (keep_by c) (step_into_by c s t)
@@ -99,5 +99,5 @@ found_same (by_token k) u null e = refl
 found_same (by_token k) u (boolean b) e = refl
 found_same (by_token k) u (int n c) e = refl
 found_same (by_token k) u (text x) e = refl
-found_same (by_token k) u (list is) e = ap list (placed_same (place_of k) u is e)
+found_same (by_token k) u (list is) e = ap list (placed_same (position_of k) u is e)
 found_same (by_token k) u (obj ms) e = ap obj (put_same k u ms e)

@@ -6,7 +6,7 @@ use Rattle.sj_text_core.specs.Tree.{Tree, null, boolean, int, text, list, obj, I
 use Rattle.sj_text_core.specs.Find.{find_member, nth, nth_item}
 use Rattle.sj_text_core.specs.Keep.{HasSingle}
 use Rattle.sj_text_core.specs.Edits.{put, cut, push, front, last}
-use Rattle.sj_text_core.specs.Places.{place_of}
+use Rattle.sj_text_core.specs.Places.{position_of}
 use Rattle.sj_text_core.specs.Paths.{Step, by_key, by_place, by_token, step_into, tree_at, set_item, set_placed, set_found, change_found, set_at}
 use Rattle.sj_text_core.proofs.Last.{find-put}
 use Rattle.sj_text_core.proofs.Paths.{found_same}
@@ -96,7 +96,7 @@ step_there (by_place i) u w (boolean b) e = cc
 step_there (by_place i) u w (int n c) e = cc
 step_there (by_place i) u w (text x) e = cc
 step_there (by_place i) u w (obj ms) e = cc
-step_there (by_token k) u w (list is) e = placed_there (place_of k) u w is e
+step_there (by_token k) u w (list is) e = placed_there (position_of k) u w is e
 step_there (by_token k) u w (obj ms) e = find-put_same k u ms
 step_there (by_token k) u w null e = cc
 step_there (by_token k) u w (boolean b) e = cc
@@ -117,7 +117,7 @@ set_found-twice (by_place i) u v (boolean b) = refl
 set_found-twice (by_place i) u v (int n c) = refl
 set_found-twice (by_place i) u v (text x) = refl
 set_found-twice (by_place i) u v (obj ms) = refl
-set_found-twice (by_token k) u v (list is) = ap list (placed_twice (place_of k) u v is)
+set_found-twice (by_token k) u v (list is) = ap list (placed_twice (position_of k) u v is)
 set_found-twice (by_token k) u v (obj ms) = ap obj (put-twice k u v ms)
 set_found-twice (by_token k) u v null = refl
 set_found-twice (by_token k) u v (boolean b) = refl

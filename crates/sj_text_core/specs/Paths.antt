@@ -3,7 +3,7 @@ use Rattle.std.specs.Prelude.{ℕ, zero, suc, List, [], ◌∷◌, Option, Some,
 use Rattle.sj_text_core.specs.Tree.{Tree, list, obj, Items, no_items, item}
 use Rattle.sj_text_core.specs.Find.{nth}
 use Rattle.sj_text_core.specs.Edits.{put}
-use Rattle.sj_text_core.specs.Places.{place_of}
+use Rattle.sj_text_core.specs.Places.{position_of}
 use Rattle.sj_text_core.specs.Repeats.{find_by}
 use Rattle.sj_text_core.specs.declared.repeats.Repeats.{Repeats}
 use Rattle.sj_text_core.specs.declared.repeats.Repeats.TheVariants.{First}
@@ -16,7 +16,7 @@ pub data Step : Type 0 where
 
 -- what a token finds (RFC 6901, section 4): on an array the item at the position that it names, if it names one; on an object the value of the key
 abbrev pub token_into_by : Repeats → List ℕ → Tree → Option Tree
-token_into_by c k (list is) = option_and_then (λ i. nth i (list is)) (place_of k)
+token_into_by c k (list is) = option_and_then (λ i. nth i (list is)) (position_of k)
 token_into_by c k t = find_by c k t
 
 -- what one step finds, where the first or the last member of a text counts
@@ -52,7 +52,7 @@ set_placed (Some i) u is = set_item i u is
 abbrev pub set_found : Step → Tree → Tree → Tree
 set_found (by_key k) u (obj ms) = obj (put k u ms)
 set_found (by_place i) u (list is) = list (set_item i u is)
-set_found (by_token k) u (list is) = list (set_placed (place_of k) u is)
+set_found (by_token k) u (list is) = list (set_placed (position_of k) u is)
 set_found (by_token k) u (obj ms) = obj (put k u ms)
 set_found s u t = t
 

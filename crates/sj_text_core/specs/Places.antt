@@ -15,5 +15,5 @@ is_index [] = false
 is_index (b ∷ s) = if b == digit_zero then is_empty s else list_all is_ascii_digit (b ∷ s)
 
 -- the number that such digits write, where it is a position; no other token is one, `-` neither
-abbrev pub place_of : List ℕ → Option ℕ
-place_of s = if is_index s && nat_lt (value_of s) (2 ^ 64) then Some (value_of s) else None
+abbrev pub position_of : List ℕ → Option ℕ
+position_of s = if is_index s && nat_lt (value_of s) (2 ^ 64) then Some (value_of s) else None

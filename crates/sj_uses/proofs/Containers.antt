@@ -4,7 +4,7 @@ use Rattle.std.specs.Bool.{if◌then◌else◌}
 use Rattle.std.proofs.lemmas.Bool.Decides.{nat_tests}
 use Rattle.sj_text_core.specs.Tree.{Tree, null, boolean, int, text, list, obj, Items, no_items, item, items_len}
 use Rattle.sj_text_core.specs.Find.{find, nth, nth_item}
-use Rattle.sj_text_core.specs.Places.{place_of}
+use Rattle.sj_text_core.specs.Places.{position_of}
 use Rattle.sj_text_core.proofs.Writes.{cut-absent}
 use Rattle.sj_document.specs.Document.{without_member}
 use Rattle.sj_document.specs.Items.{remove_at, without_item_at}
@@ -15,7 +15,7 @@ found_within i no_items v e = cc
 found_within zero (item t is) v e = omega arith
 found_within (suc i) (item t is) v e = let l = found_within i is v e in omega (arith, l)
 
-pub item_taken : (k : List ℕ) (i : ℕ) (t v : Tree) → nth i t ≡ Some v → place_of k ≡ Some i → Some (without_item_at i t) ≡ without_token k t
+pub item_taken : (k : List ℕ) (i : ℕ) (t v : Tree) → nth i t ≡ Some v → position_of k ≡ Some i → Some (without_item_at i t) ≡ without_token k t
 item_taken k i null v e p = cc
 item_taken k i (boolean b) v e p = cc
 item_taken k i (int m c) v e p = cc

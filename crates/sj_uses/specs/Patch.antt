@@ -3,7 +3,7 @@ use Rattle.std.specs.Prelude.{ℕ, Bool, true, false, List, Option, Some, None, 
 use Rattle.sj_text_core.specs.Tree.{Tree, list, obj, Items, items_len, Members}
 use Rattle.sj_text_core.specs.Find.{find_member}
 use Rattle.sj_text_core.specs.Edits.{put, cut, push}
-use Rattle.sj_text_core.specs.Places.{place_of}
+use Rattle.sj_text_core.specs.Places.{position_of}
 use Rattle.sj_document.specs.Items.{insert_at, remove_at}
 use Rattle.sj_path.specs.Pointed.{pointed, set_pointed}
 
@@ -20,7 +20,7 @@ remove_placed (Some i) is = if nat_lt i (items_len is) then Some (remove_at i is
 
 -- a container with u at the token: at a position of a list, behind it at `-`, or at a key of an object
 abbrev pub with_token : List ℕ → Tree → Tree → Option Tree
-with_token k u (list is) = option_map list (insert_placed (bytes_eq k (codes "-")) (place_of k) u is)
+with_token k u (list is) = option_map list (insert_placed (bytes_eq k (codes "-")) (position_of k) u is)
 with_token k u (obj ms) = Some (obj (put k u ms))
 with_token k u t = None
 
@@ -30,7 +30,7 @@ cut_found k (Some u) ms = Some (obj (cut k ms))
 
 -- a container without what is at the token
 abbrev pub without_token : List ℕ → Tree → Option Tree
-without_token k (list is) = option_map list (remove_placed (place_of k) is)
+without_token k (list is) = option_map list (remove_placed (position_of k) is)
 without_token k (obj ms) = cut_found k (find_member k ms) ms
 without_token k t = None
 

@@ -4,7 +4,8 @@ use sj_pointer::{Pointer, PointerError, pointer};
 use std::alloc::{AllocError, Global};
 
 /// The pointer to what a word names: the word itself where it is empty or begins with a slash, else
-/// keys with a dot between each two. Refused is a pointer with a tilde that has neither a 0 nor a 1 behind it.
+/// keys with a dot between each two. Refused is a pointer with a tilde that has neither a 0 nor a 1
+/// behind it.
 pub fn pointer_of(alloc: Global, word: &str) -> Result<Pointer, PointerError> {
     if word.is_empty() || word.starts_with('/') {
         return pointer(alloc, word);

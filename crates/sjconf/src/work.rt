@@ -23,7 +23,7 @@ pub fn work(rt: &(impl Files + Input + Print + AllocGlobal), task: &Task<'_>) ->
         return Err(Fault::InputTwice);
     }
     let alloc = rt.alloc();
-    let place = place_of_get(alloc, task.get)?;
+    let place = pointer_of_get(alloc, task.get)?;
     let settings = settings_of(alloc, &task.settings)?;
     let layers = read_all(rt, &task.files)?;
     let demands = read_shape(rt, task.shape)?;
@@ -32,7 +32,7 @@ pub fn work(rt: &(impl Files + Input + Print + AllocGlobal), task: &Task<'_>) ->
 }
 
 /// Where the value stands that is asked for; the whole where none is.
-fn place_of_get(alloc: Global, word: Option<&str>) -> Result<Pointer, Fault> {
+fn pointer_of_get(alloc: Global, word: Option<&str>) -> Result<Pointer, Fault> {
     let word = word.unwrap_or("");
     match pointer_of(alloc, word) {
         Ok(place) => Ok(place),

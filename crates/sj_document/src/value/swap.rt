@@ -1,7 +1,7 @@
 //! Exchanges of what one step of a path finds.
 
 ghost use Rattle.std.specs.Prelude.{◌≡◌};
-ghost use Rattle.sj_text_core.specs.Places.{place_of};
+ghost use Rattle.sj_text_core.specs.Places.{position_of};
 ghost use Rattle.sj_text_core.specs.Paths.{by_key, by_place, by_token};
 ghost use Rattle.sj_document.specs.Document.{document_tree};
 ghost use Rattle.sj_document.specs.Descents.{Exchanged};
@@ -57,7 +57,7 @@ pub fn swap_token<T: KeyText>(
     place: Option<usize>,
     other: Document<T>,
 ) -> Result<Document<T>, Document<T>>
-    requires { place ≡ place_of token.now }
+    requires { place ≡ position_of token.now }
     ensures { Exchanged T.text_of (by_token token.now) other (document_tree T.text_of value.old) (document_tree T.text_of value.new) result }
 {
     if !matches!(value, Document::Array(_)) {
