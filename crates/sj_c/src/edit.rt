@@ -40,7 +40,7 @@ type Given = Result<Option<OwnedValue>, Refused<u32, OwnedValue>>;
 type Taken = Result<Option<OwnedValue>, u32>;
 
 /// The refusal with its status.
-fn coded(refused: Refused<AccessError, OwnedValue>) -> Refused<u32, OwnedValue>
+fn with_status(refused: Refused<AccessError, OwnedValue>) -> Refused<u32, OwnedValue>
     ensures why { result.why ≡ access_status refused.why }
     ensures fault { (result.why ≢ 0) × (result.why ≢ 3) × (result.why ≢ 7) × (result.why ≢ 8) }
     ensures value { result.value ≡ refused.value }
@@ -56,7 +56,7 @@ fn insert(document: &mut OwnedValue, path: &Pointer, key: String, new: OwnedValu
 {
     match owned::insert(document, path, key, new) {
         Ok(before) => Ok(before),
-        Err(refused) => Err(coded(refused)),
+        Err(refused) => Err(with_status(refused)),
     }
 }
 
@@ -65,7 +65,7 @@ fn push(document: &mut OwnedValue, path: &Pointer, new: OwnedValue) -> Given
 {
     match owned::push(document, path, new) {
         Ok(()) => Ok(None),
-        Err(refused) => Err(coded(refused)),
+        Err(refused) => Err(with_status(refused)),
     }
 }
 
@@ -86,7 +86,7 @@ fn set(alloc: Global, document: &mut OwnedValue, path: &Pointer, new: OwnedValue
 {
     match owned::set(document, alloc, path, new) {
         Ok(before) => Ok(before),
-        Err(refused) => Err(coded(refused)),
+        Err(refused) => Err(with_status(refused)),
     }
 }
 

@@ -21,7 +21,7 @@ use std::mem::replace;
 /// Answers the lines on the document in its block. Of a status that is not `OK`, which commands were
 /// done is not said.
 #[tactic(auto, using(crate::proofs::Begun::answers_alone, crate::proofs::Begun::passes_alone))]
-fn answered(alloc: Global, held: &mut Held, lines: &mut [u8], out: &mut Vec<u8>) -> u32
+fn answer_lines(alloc: Global, held: &mut Held, lines: &mut [u8], out: &mut Vec<u8>) -> u32
     requires { out.old.items ≡ [] }
     ensures ok { result ≡ OK → AnswersLines (First, document_tree string_bytes held.old.value) (line_texts (full_lines lines.old)) (First, document_tree string_bytes held.new.value) [] out.new.items }
     ensures too_long { result ≡ TOO_LONG → PassesAlone (First, document_tree string_bytes held.old.value) (line_texts (full_lines lines.old)) }
@@ -57,7 +57,7 @@ pub extern "C" fn sj_lines(alloc: Global, doc: &mut Doc, lines: &mut [u8], text:
     let Some(mut held) = doc.take(alloc) else {
         return EMPTY;
     };
-    let code = answered(alloc, &mut held, lines, &mut made.bytes);
+    let code = answer_lines(alloc, &mut held, lines, &mut made.bytes);
     doc.put(held);
     if code == OK {
         drop(text.take(alloc));

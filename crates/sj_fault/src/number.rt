@@ -20,7 +20,7 @@ impl Number {
 
     /// The number with one digit more. Behind a first 0 none may stand, and past the limits there is
     /// no number.
-    pub(crate) fn with(self, digit: u8) -> Result<Number, ErrorKind> {
+    pub(crate) fn with_digit(self, digit: u8) -> Result<Number, ErrorKind> {
         if self.value == 0 {
             return Err(ErrorKind::Syntax);
         }

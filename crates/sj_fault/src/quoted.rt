@@ -25,14 +25,14 @@ impl Quoted {
     /// Where the next byte stands behind this one.
     pub(crate) fn step(self, byte: u8) -> Result<Quoted, ErrorKind> {
         match self {
-            Quoted::Between => between(byte),
-            Quoted::Character { left, low, high } => character(left, low, high, byte),
-            Quoted::Escape { low } => escape(low, byte),
+            Quoted::Between => step_between(byte),
+            Quoted::Character { left, low, high } => step_character(left, low, high, byte),
+            Quoted::Escape { low } => step_escape(low, byte),
             Quoted::High => match byte {
                 b'\\' => Ok(Quoted::Escape { low: true }),
                 _ => Err(ErrorKind::LoneSurrogate),
             },
-            Quoted::Unit { count, value, low } => unit(count, value, low, byte),
+            Quoted::Unit { count, value, low } => step_unit(count, value, low, byte),
             Quoted::Closed => Err(ErrorKind::Syntax),
         }
     }
@@ -60,7 +60,7 @@ impl Quoted {
     }
 }
 
-fn between(byte: u8) -> Result<Quoted, ErrorKind> {
+fn step_between(byte: u8) -> Result<Quoted, ErrorKind> {
     match byte {
         b'"' => Ok(Quoted::Closed),
         b'\\' => Ok(Quoted::Escape { low: false }),
@@ -85,7 +85,7 @@ fn first_of_character(byte: u8) -> Result<Quoted, ErrorKind> {
     Ok(Quoted::Character { left, low, high })
 }
 
-fn character(left: u8, low: u8, high: u8, byte: u8) -> Result<Quoted, ErrorKind> {
+fn step_character(left: u8, low: u8, high: u8, byte: u8) -> Result<Quoted, ErrorKind> {
     if byte < low || byte > high {
         Err(ErrorKind::InvalidUtf8)
     } else if left <= 1 {
@@ -99,7 +99,7 @@ fn character(left: u8, low: u8, high: u8, byte: u8) -> Result<Quoted, ErrorKind>
     }
 }
 
-fn escape(low: bool, byte: u8) -> Result<Quoted, ErrorKind> {
+fn step_escape(low: bool, byte: u8) -> Result<Quoted, ErrorKind> {
     match byte {
         b'u' => Ok(Quoted::Unit {
             count: 0,
@@ -114,7 +114,7 @@ fn escape(low: bool, byte: u8) -> Result<Quoted, ErrorKind> {
     }
 }
 
-fn hexadecimal(byte: u8) -> Option<u32> {
+fn hexadecimal_digit(byte: u8) -> Option<u32> {
     match byte {
         b'0'..=b'9' => Some(u32::from(byte - b'0')),
         b'a'..=b'f' => Some(u32::from(byte - b'a') + 10),
@@ -124,8 +124,8 @@ fn hexadecimal(byte: u8) -> Option<u32> {
 }
 
 /// Behind one more digit of a unit. One that can't be completed any more to what is due is refused.
-fn unit(count: u8, value: u32, low: bool, byte: u8) -> Result<Quoted, ErrorKind> {
-    let Some(digit) = hexadecimal(byte) else {
+fn step_unit(count: u8, value: u32, low: bool, byte: u8) -> Result<Quoted, ErrorKind> {
+    let Some(digit) = hexadecimal_digit(byte) else {
         return Err(ErrorKind::Syntax);
     };
     let value = value.wrapping_mul(16).wrapping_add(digit);

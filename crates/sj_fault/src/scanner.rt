@@ -103,7 +103,7 @@ impl Scanner {
 
     fn step_number(&mut self, number: Number, byte: u8) -> Result<State, ErrorKind> {
         match byte {
-            b'0'..=b'9' => Ok(State::Number(number.with(byte - b'0')?)),
+            b'0'..=b'9' => Ok(State::Number(number.with_digit(byte - b'0')?)),
             b'.' | b'e' | b'E' => Err(ErrorKind::Float),
             _ if is_blank(byte) => Ok(State::Behind),
             _ => self.step_behind(byte),

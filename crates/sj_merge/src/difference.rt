@@ -30,7 +30,7 @@ enum Change<T: KeyText + Drop> {
 }
 
 /// A null for each member that the wanted ones lack.
-fn removed<T: CopyText + Drop>(
+fn removals<T: CopyText + Drop>(
     alloc: Global,
     members: &Object<T>,
     wanted: &Object<T>,
@@ -55,7 +55,7 @@ fn patch_object<T: CopyText + Drop>(
 ) -> Result<Option<Object<T>>, AllocError>
     ensures { IfOk result (λ r. option_map (λ m. entry_members (document_tree T.text_of) m.entries) r ≡ option_map (removals (entry_members (document_tree T.text_of) members.now.entries) (entry_members (document_tree T.text_of) wanted.now.entries)) (patch_members (entry_members (document_tree T.text_of) members.now.entries) (entry_members (document_tree T.text_of) wanted.now.entries))) }
 {
-    let mut patch = removed(alloc, members, wanted)?;
+    let mut patch = removals(alloc, members, wanted)?;
     for (key, value) in wanted.iter() {
         match change_value(alloc, members.get(key.text()), value)? {
             Change::Stays => {}
@@ -128,7 +128,7 @@ fn change_object<T: CopyText + Drop>(
 }
 
 /// What the patch says of a value that is no object, and which the target hasn't.
-fn replaced<T: CopyText + Drop>(value: &Document<T>) -> Result<Change<T>, AllocError>
+fn replacement<T: CopyText + Drop>(value: &Document<T>) -> Result<Change<T>, AllocError>
     requires { as_members (document_tree T.text_of value.now) ≡ None }
     ensures { IfOk result (λ c. (old : Option Tree) → passes old (λ u. tree_eq u (document_tree T.text_of value.now)) ≡ false → IsChange T.text_of old (document_tree T.text_of value.now) c) }
 {
@@ -151,9 +151,9 @@ fn change_whole<T: CopyText + Drop>(
             if same(old, value) {
                 return Ok(Change::Stays);
             }
-            replaced(value)
+            replacement(value)
         }
-        None => replaced(value),
+        None => replacement(value),
     }
 }
 

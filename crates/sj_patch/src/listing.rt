@@ -17,7 +17,7 @@ use sj_pointer::Pointer;
 use std::alloc::{AllocError, Global};
 
 /// The text of a name.
-fn named<T: OwnedText>(alloc: Global, name: &str) -> Result<T, AllocError>
+fn name_text<T: OwnedText>(alloc: Global, name: &str) -> Result<T, AllocError>
     ensures { IfOk result (λ t. T.text_of t ≡ name.now) }
 {
     Ok(T::owned(String::from_str(alloc, name)?))
@@ -39,7 +39,7 @@ fn set<T: OwnedText + Drop>(
 ) -> Result<(), AllocError>
     ensures { OnOk result (entry_members (document_tree T.text_of) members.new.entries ≡ put name.now (document_tree T.text_of value) (entry_members (document_tree T.text_of) members.old.entries)) }
 {
-    match members.insert(named(alloc, name)?, value) {
+    match members.insert(name_text(alloc, name)?, value) {
         Ok(_) => Ok(()),
         Err(_) => Err(AllocError),
     }
@@ -58,7 +58,7 @@ fn operation_at<T: OwnedText + Drop>(
         alloc,
         &mut members,
         "op",
-        Document::String(named(alloc, name)?),
+        Document::String(name_text(alloc, name)?),
     )?;
     set(alloc, &mut members, "path", place(alloc, path)?)?;
     Ok(members)

@@ -14,7 +14,7 @@ mod forms;
 use crate::document::{OwnedDoc, Way};
 use crate::runs::Why;
 use crate::sessions::answer::answer_all;
-use crate::sessions::forms::answered_as;
+use crate::sessions::forms::session_of_form;
 use sj_commands::cut_at_mark;
 use sj_document::OwnedValue;
 use sj_text_core::{ErrorKind, Repeats};
@@ -138,7 +138,7 @@ pub fn session_repeats(
     let cut = cut_at_mark(input);
     let (text, behind) = input.split_at_mut(cut.document);
     let lines = &mut behind[cut.commands - cut.document..];
-    answered_as(alloc, form, way, repeats, text, lines, out)
+    session_of_form(alloc, form, way, repeats, text, lines, out)
 }
 
 /// Answers command lines in turn on a document that is kept, and appends each printed reply with a

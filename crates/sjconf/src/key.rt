@@ -10,11 +10,11 @@ pub fn pointer_of(alloc: Global, word: &str) -> Result<Pointer, PointerError> {
     if word.is_empty() || word.starts_with('/') {
         return pointer(alloc, word);
     }
-    Ok(Pointer::from_tokens(dotted(alloc, word)?))
+    Ok(Pointer::from_tokens(keys_between_dots(alloc, word)?))
 }
 
 /// The keys between the dots.
-fn dotted(alloc: Global, word: &str) -> Result<Vec<String>, AllocError> {
+fn keys_between_dots(alloc: Global, word: &str) -> Result<Vec<String>, AllocError> {
     let mut keys = Vec::new(alloc);
     for key in word.split('.') {
         keys.push(String::from_str(alloc, key)?)?;

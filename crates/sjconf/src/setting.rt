@@ -82,19 +82,19 @@ fn value_of(alloc: Global, text: &str) -> Result<Value, SettingFault> {
         Ok(value) => Ok(value),
         Err(ErrorKind::OutOfMemory) => Err(SettingFault::OutOfMemory),
         Err(ErrorKind::Float | ErrorKind::NumberTooLarge)
-            if is_number(trimmed(text)) || opens(text) => Err(SettingFault::NoNumber),
+            if is_number(trim_blanks(text)) || opens(text) => Err(SettingFault::NoNumber),
         Err(_) => Ok(Value::from(String::from_str(alloc, text)?)),
     }
 }
 
 /// The text without the blanks of JSON at its ends.
-fn trimmed(text: &str) -> &str {
+fn trim_blanks(text: &str) -> &str {
     text.trim_matches([' ', '\t', '\n', '\r'])
 }
 
 /// Whether the text begins as an array or an object does.
 fn opens(text: &str) -> bool {
-    trimmed(text).starts_with(['[', '{'])
+    trim_blanks(text).starts_with(['[', '{'])
 }
 
 /// Whether the text is a number of JSON (RFC 8259, section 6), of any size, with a fraction or not.

@@ -81,7 +81,7 @@ fn command<'a>(alloc: Global) -> Result<Command<'a>, AllocError> {
 }
 
 /// A copy of the words that an option was given, in order.
-fn copied<'a>(alloc: Global, words: Option<&[&'a str]>) -> Result<Vec<&'a str>, AllocError> {
+fn copy_words<'a>(alloc: Global, words: Option<&[&'a str]>) -> Result<Vec<&'a str>, AllocError> {
     match words {
         Some(words) => words.to_vec(alloc),
         None => Ok(Vec::new(alloc)),
@@ -92,8 +92,8 @@ fn copied<'a>(alloc: Global, words: Option<&[&'a str]>) -> Result<Vec<&'a str>, 
 pub fn task_of<'a>(alloc: Global, words: &'a [String]) -> Result<Task<'a>, Error> {
     let matches = command(alloc)?.try_get_matches_from(words)?;
     Ok(Task {
-        files: copied(alloc, matches.get_strs("FILE"))?,
-        settings: copied(alloc, matches.get_strs("set"))?,
+        files: copy_words(alloc, matches.get_strs("FILE"))?,
+        settings: copy_words(alloc, matches.get_strs("set"))?,
         shape: matches.get_str("shape"),
         get: matches.get_str("get"),
         is_pretty: matches.get_flag("pretty"),

@@ -37,7 +37,7 @@ pub enum Fault {
 }
 
 /// The name of a file in what is told.
-fn named(alloc: Global, path: &str) -> Result<String, AllocError> {
+fn file_name(alloc: Global, path: &str) -> Result<String, AllocError> {
     String::from_str(alloc, if path == "-" { "standard input" } else { path })
 }
 
@@ -64,14 +64,14 @@ impl Fault {
             (1, 1, why),
             |place| (place.line, place.column, place.why),
         );
-        Ok(Fault::NoJson(named(alloc, path)?, line, column, why))
+        Ok(Fault::NoJson(file_name(alloc, path)?, line, column, why))
     }
 
     /// The fault of a file that is no patch.
     pub fn no_patch(alloc: Global, path: &str, why: PatchReadFault) -> Result<Fault, AllocError> {
         match why {
             PatchReadFault::OutOfMemory => Ok(Fault::OutOfMemory),
-            _ => Ok(Fault::NoPatch(named(alloc, path)?, why)),
+            _ => Ok(Fault::NoPatch(file_name(alloc, path)?, why)),
         }
     }
 
@@ -79,7 +79,7 @@ impl Fault {
     pub fn unread(alloc: Global, path: &str, why: io::Error) -> Result<Fault, AllocError> {
         match why.kind() {
             io::ErrorKind::OutOfMemory => Ok(Fault::OutOfMemory),
-            _ => Ok(Fault::Unread(named(alloc, path)?, why)),
+            _ => Ok(Fault::Unread(file_name(alloc, path)?, why)),
         }
     }
 

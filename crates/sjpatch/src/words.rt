@@ -123,7 +123,7 @@ fn command<'a>(alloc: Global) -> Result<Command<'a>, AllocError> {
 }
 
 /// The file of that name; each is required.
-fn named<'a>(matches: &ArgMatches<'a>, name: &str) -> &'a str {
+fn file_of<'a>(matches: &ArgMatches<'a>, name: &str) -> &'a str {
     matches.get_str(name).unwrap_or("-")
 }
 
@@ -142,27 +142,27 @@ pub fn task_of<'a>(alloc: Global, words: &'a [String]) -> Result<Task<'a>, Error
     let target = target_of(matches);
     Ok(match word {
         "apply" => Task::Apply {
-            patch: named(matches, "PATCH"),
-            file: named(matches, "FILE"),
+            patch: file_of(matches, "PATCH"),
+            file: file_of(matches, "FILE"),
             target,
         },
         "merge" => Task::Merge {
-            patch: named(matches, "PATCH"),
-            file: named(matches, "FILE"),
+            patch: file_of(matches, "PATCH"),
+            file: file_of(matches, "FILE"),
             target,
         },
         "diff" => Task::Diff {
-            from: named(matches, "A"),
-            to: named(matches, "B"),
+            from: file_of(matches, "A"),
+            to: file_of(matches, "B"),
             target,
         },
         "canon" => Task::Canon {
-            file: named(matches, "FILE"),
+            file: file_of(matches, "FILE"),
             in_place: target.in_place,
         },
         _ => Task::Same {
-            one: named(matches, "A"),
-            other: named(matches, "B"),
+            one: file_of(matches, "A"),
+            other: file_of(matches, "B"),
         },
     })
 }

@@ -16,7 +16,7 @@ pub(crate) struct Filling<'a> {
 
 impl Filling<'_> {
     /// With so many spaces.
-    fn padded(self, spaces: usize) -> Self
+    fn put_spaces(self, spaces: usize) -> Self
         ensures name { result.out.ghost_name ≡ self.entry.out.ghost_name }
         ensures len { length result.out.now.items ≡ length self.entry.out.now.items }
         ensures at { self.entry.at + spaces ≤ length self.entry.out.now.items → (result.at ≡ self.entry.at + spaces) × (take result.at result.out.now.items ≡ take self.entry.at self.entry.out.now.items ++ replicate spaces 32) }
@@ -68,6 +68,6 @@ impl Output for Filling<'_> {
     }
 
     fn put_line(self, spaces: usize) -> Self {
-        self.put_bytes(b"\n").padded(spaces)
+        self.put_bytes(b"\n").put_spaces(spaces)
     }
 }

@@ -18,7 +18,7 @@ use std::alloc::Global;
 use std::borrow::CowStr;
 
 /// The fault of a document that was not read.
-fn refused(kind: ErrorKind) -> SessionFault
+fn session_fault(kind: ErrorKind) -> SessionFault
     ensures memory { kind ≡ ErrorKind.OutOfMemory → result ≡ SessionFault.OutOfMemory }
     ensures named { kind ≢ ErrorKind.OutOfMemory → result ≡ SessionFault.Refused kind }
 {
@@ -43,7 +43,7 @@ fn read_document<'v, V: Builder<'v, Key>, Key: KeyOf<'v>>(
 {
     match deserialize_repeats::<V, Key>(alloc, text, repeats) {
         Ok(value) => Ok(value),
-        Err(kind) => Err(refused(kind)),
+        Err(kind) => Err(session_fault(kind)),
     }
 }
 
@@ -58,12 +58,12 @@ fn read_tape<'i>(alloc: Global, text: &'i mut [u8]) -> Result<Tape<'i>, SessionF
 {
     match to_tape(alloc, text) {
         Ok(tape) => Ok(tape),
-        Err(why) => Err(refused(why)),
+        Err(why) => Err(session_fault(why)),
     }
 }
 
 /// Reads an owned document, and answers the commands of the lines on it.
-fn owned(
+fn session_owned(
     alloc: Global,
     way: Way,
     repeats: Repeats,
@@ -84,7 +84,7 @@ fn owned(
 }
 
 /// Reads a borrowed document, and answers the commands of the lines on it.
-fn borrowed<'i>(
+fn session_borrowed<'i>(
     alloc: Global,
     way: Way,
     repeats: Repeats,
@@ -105,7 +105,7 @@ fn borrowed<'i>(
 }
 
 /// Reads a tape, and answers the commands of the lines on a lazy document of it.
-fn lazy<'i>(
+fn session_lazy<'i>(
     alloc: Global,
     repeats: Repeats,
     text: &'i mut [u8],
@@ -127,7 +127,7 @@ fn lazy<'i>(
 
 /// Reads a document of the form, and answers the commands of the lines on it. A lazy one is looked
 /// up in by text.
-pub(super) fn answered_as(
+pub(super) fn session_of_form(
     alloc: Global,
     form: Form,
     way: Way,
@@ -144,8 +144,8 @@ pub(super) fn answered_as(
     ensures too_long { IsErrOf result SessionFault.TooLong → PassesText repeats form text.old lines.old (length out.old.items) }
 {
     match form {
-        Form::Owned => owned(alloc, way, repeats, text, lines, out),
-        Form::Borrowed => borrowed(alloc, way, repeats, text, lines, out),
-        Form::Lazy => lazy(alloc, repeats, text, lines, out),
+        Form::Owned => session_owned(alloc, way, repeats, text, lines, out),
+        Form::Borrowed => session_borrowed(alloc, way, repeats, text, lines, out),
+        Form::Lazy => session_lazy(alloc, repeats, text, lines, out),
     }
 }

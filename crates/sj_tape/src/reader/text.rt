@@ -45,7 +45,7 @@ pub(crate) fn text<'i>(
     if rest[end] != b'\\' {
         return Err(ErrorKind::Syntax);
     }
-    let (head, tail) = escaped(rest, end)?;
+    let (head, tail) = read_escaped(rest, end)?;
     push_node(nodes, Node::String(head))?;
     Ok(tail)
 }
@@ -63,7 +63,7 @@ fn str_of(bytes: &[u8]) -> &str
 /// The text, where its first escape stands at `first`, and the bytes behind its quote. It is
 /// written over its spelling from left to right.
 #[inline(never)]
-fn escaped<'i>(rest: &'i mut [u8], first: usize) -> Result<(&'i str, &'i mut [u8]), ErrorKind>
+fn read_escaped<'i>(rest: &'i mut [u8], first: usize) -> Result<(&'i str, &'i mut [u8]), ErrorKind>
     requires utf8 { IsUtf8 rest.old }
     requires within { first ≤ length rest.old }
     requires plain { parse.read_text rest.old ≡ parse.with_front (slice_range rest.old 0 first) (parse.read_text (drop first rest.old)) }

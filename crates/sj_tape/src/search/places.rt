@@ -162,7 +162,7 @@ pub(super) fn first_in_runs<L: Ledger>(
 
 /// The place where the key is met, else the one before.
 #[inline(always)]
-fn later(is_met: bool, place: usize, before: Option<usize>) -> Option<usize>
+fn later_place(is_met: bool, place: usize, before: Option<usize>) -> Option<usize>
     ensures { result ≡ if is_met then Some place else before }
 {
     if is_met { Some(place) } else { before }
@@ -188,7 +188,7 @@ pub(super) fn place_of_last<L: Ledger>(
     let mut last = before;
     while at < nodes.len() {
         let is_met = is_key(name_at(nodes, at), key, steps);
-        last = later(is_met, at + 1, last);
+        last = later_place(is_met, at + 1, last);
         at += 1 + value_width(nodes, at);
     }
     last
@@ -222,7 +222,7 @@ fn last_in_run<L: Ledger>(
             return (last, at);
         }
         let is_met = is_key(name_at(nodes, at), key, steps);
-        last = later(is_met, at + 1, last);
+        last = later_place(is_met, at + 1, last);
         at += 1 + wide;
     }
     (last, at)

@@ -18,4 +18,4 @@ returns-else-same g c =
     let w = document_tree t c.args.value.now in
     let other : passes (option_map (document_tree t) (option_copied c.args.found)) (λ u. tree_eq u w) ≡ false =
     ap (λ o. passes (option_map (document_tree t) (option_copied o)) (λ u. tree_eq u w)) c.in-Some.is ∙ eq_false (document_tree t c.in-Some.old.now) w c.same.result c.same.ensures c.if-same.false in
-    IfOk-weaker c.replaced.result _ _ (λ x h. h (option_map (document_tree t) (option_copied c.args.found)) other) c.replaced.ensures
+    IfOk-weaker c.replacement.result _ _ (λ x h. h (option_map (document_tree t) (option_copied c.args.found)) other) c.replacement.ensures

@@ -42,8 +42,8 @@ returns-then-rest-end-ne92-clause-err c =
     let stop = stop_is b 0 e c.plain_end-end.ensures.value lt in
     λ _. so_far_none _ b 0 e (plain_so_far b 0 e c.plain_end-end.ensures.value) (place_control b e lt (control_is _ stop c.if-rest-end-eq34.false c.if-rest-end-ne92.true))
 
-pub escaped-requires-clause-plain : goal.escaped-requires-clause-plain
-escaped-requires-clause-plain c = plain_so_far c.args.rest.now 0 c.plain_end-end.result c.plain_end-end.ensures.value
+pub read_escaped-requires-clause-plain : goal.read_escaped-requires-clause-plain
+read_escaped-requires-clause-plain c = plain_so_far c.args.rest.now 0 c.plain_end-end.result c.plain_end-end.ensures.value
 
-pub escaped-requires-clause-stop : goal.escaped-requires-clause-stop
-escaped-requires-clause-stop c = λ lt. stop_is c.args.rest.now 0 c.plain_end-end.result c.plain_end-end.ensures.value lt
+pub read_escaped-requires-clause-stop : goal.read_escaped-requires-clause-stop
+read_escaped-requires-clause-stop c = λ lt. stop_is c.args.rest.now 0 c.plain_end-end.result c.plain_end-end.ensures.value lt

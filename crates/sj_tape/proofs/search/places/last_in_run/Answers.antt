@@ -42,13 +42,13 @@ loop-at-preserved g c =
     let k = c.args.key.now in
     let is : c.is_key-is_met.result ≡ bytes_eq k next.key = c.is_key-is_met.ensures.answer ∙ ap (bytes_eq k) (sym (one_text _ _ _ next.text c.name_at.ensures)) in
     let there : c.loop-at.at + 1 + width (get_or ns (c.loop-at.at + 1) nothing) ≡ c.loop-at.at + (1 + c.value_width-wide.result) = omega (arith, c.value_width.ensures, c.if-value_width-wide.false) in
-    let chosen : c.later-last.result ≡ (if c.is_key-is_met.result then Some (c.loop-at.at + 1) else c.loop-at.last) = c.later-last.ensures in
+    let chosen : c.later_place-last.result ≡ (if c.is_key-is_met.result then Some (c.loop-at.at + 1) else c.loop-at.last) = c.later_place-last.ensures in
     record {
       ahead = subst (MembersAhead ns) there next.next;
       on = omega (arith, c.loop-at.invariant.on);
-      begins = later_holds c.later-last.result c.is_key-is_met.result (c.loop-at.at + 1) c.loop-at.last (λ (p : ℕ). BeginsTree (drop p ns)) chosen next.begins c.loop-at.invariant.begins;
+      begins = later_holds c.later_place-last.result c.is_key-is_met.result (c.loop-at.at + 1) c.loop-at.last (λ (p : ℕ). BeginsTree (drop p ns)) chosen next.begins c.loop-at.invariant.begins;
       value =
-          ap (λ p. option_or (find_last_member k (members_at ns p)) (option_map (tree_from ns) c.later-last.result)) (sym there)
+          ap (λ p. option_or (find_last_member k (members_at ns p)) (option_map (tree_from ns) c.later_place-last.result)) (sym there)
           ∙ ap (λ o. option_or (find_last_member k (members_at ns (c.loop-at.at + 1 + width (get_or ns (c.loop-at.at + 1) nothing)))) (option_map (tree_from ns) o)) chosen
           ∙ last_pass k next.key _ _ _ c.is_key-is_met.result (tree_from ns) (c.loop-at.at + 1) c.loop-at.last next.members is refl ∙ c.loop-at.invariant.value;
       exact = omega (arith, ap (λ p. members_len (members_at ns p)) there, ap members_len next.members, c.loop-at.invariant.exact, c.is_key-is_met.ensures.step);

@@ -11,7 +11,7 @@ use Rattle.sj_document.proofs.Trees.{is_some-option_map}
 use Rattle.sj_merge.specs.MergeDiff.{removals}
 use Rattle.sj_merge.proofs.Changes.{single_object}
 use Rattle.sj_merge.proofs.Putting.{put_each, removed_begin, removed_stays, removed_goes}
-use Rattle.sj_merge.proofs.difference.removed.Goals as goal
+use Rattle.sj_merge.proofs.difference.removals.Goals as goal
 
 pub loop-key-init : goal.loop-key-init
 loop-key-init g c =

@@ -1,6 +1,6 @@
 use Rattle.std.proofs.Common.{refl, rules, length}
 use Rattle.sj_run.proofs.SessionLemmas.{why_too_long, kept_answers, kept_passes}
-use Rattle.sj_run.proofs.sessions.forms.borrowed.Goals as goal
+use Rattle.sj_run.proofs.sessions.forms.session_owned.Goals as goal
 
 pub returns-clause-ok : goal.returns-clause-ok
 returns-clause-ok c = kept_answers _ _ _ _ _ _ _ _ (λ t. refl) c.in_ok-value.ensures.read c.in_ok-answer_all.ensures.ok

@@ -2,7 +2,7 @@ use Rattle.std.proofs.Common.{rules, ◌∙◌, length, ap}
 use Rattle.sj_lazy.specs.Value.{value_part}
 use Rattle.sj_commands.specs.Lines.{full_lines, line_texts}
 use Rattle.sj_run.proofs.SessionLemmas.{why_too_long, answers_from, passes_from}
-use Rattle.sj_run.proofs.sessions.forms.lazy.Goals as goal
+use Rattle.sj_run.proofs.sessions.forms.session_lazy.Goals as goal
 
 pub returns-clause-ok : goal.returns-clause-ok
 returns-clause-ok c = record {

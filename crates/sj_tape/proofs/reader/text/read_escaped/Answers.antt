@@ -2,7 +2,7 @@ use Rattle.std.proofs.Common.{refl, ◌∙◌, ◌+◌, arith, sym, ap, Some}
 use Rattle.sj_tape.proofs.Overwrites.{text_utf8, ends_cut, at_quote, at_control, at_bad, at_end, room, step}
 use Rattle.sj_tape.proofs.Decode.{same_rest}
 use Rattle.sj_tape.proofs.Scalars.{on_err}
-use Rattle.sj_tape.proofs.reader.text.escaped.Goals as goal
+use Rattle.sj_tape.proofs.reader.text.read_escaped.Goals as goal
 
 pub loop-from-init : goal.loop-from-init
 loop-from-init c = record { order = omega arith; high = c.requires.within; size = refl; rest = refl; stop = c.requires.stop; text = c.requires.plain }

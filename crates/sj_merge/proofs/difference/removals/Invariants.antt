@@ -5,7 +5,7 @@ use Rattle.sj_object.specs.Members.{entry_members}
 use Rattle.sj_document.specs.Document.{document_tree}
 use Rattle.sj_merge.specs.MergeDiff.{removals}
 use Rattle.sj_merge.proofs.Putting.{put_each}
-use Rattle.sj_merge.proofs.difference.removed.Given as goal
+use Rattle.sj_merge.proofs.difference.removals.Given as goal
 
 abbrev pub invariant-loop-key : goal.invariant-loop-key
 invariant-loop-key g l =
