@@ -3,6 +3,7 @@
 
 mod crosses;
 mod doc;
+mod documents;
 mod edit;
 mod edits;
 mod faults;
@@ -25,5 +26,4 @@ mod session;
 mod status;
 mod text;
 mod unboxed;
-mod whole;
 mod words;

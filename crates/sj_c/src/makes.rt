@@ -6,8 +6,8 @@ ghost use Rattle.sj_c.specs.Meant.{meant};
 ghost use Rattle.sj_c.specs.Shown.{wide};
 
 use crate::doc::Doc;
+use crate::documents::hold;
 use crate::status::{BAD_ARGUMENT, OK, OUT_OF_MEMORY};
-use crate::whole::hold;
 use crate::words::{number_below, number_of};
 use sj_document::OwnedValue;
 use std::alloc::Global;

@@ -9,8 +9,8 @@ ghost use Rattle.sj_merge.specs.MergeDiff.{merge_patch};
 ghost use Rattle.sj_c.specs.Meant.{meant};
 
 use crate::doc::Doc;
+use crate::documents::hold;
 use crate::status::{EMPTY, NO_MERGE_PATCH, OK, OUT_OF_MEMORY, TOO_DEEP};
-use crate::whole::hold;
 use sj_document::OwnedValue;
 use sj_patch::{merge, merge_diff};
 use std::alloc::Global;

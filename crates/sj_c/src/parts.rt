@@ -9,11 +9,11 @@ ghost use Rattle.sj_c.specs.Meant.{meant, print_of, print_by};
 ghost use Rattle.sj_c.specs.Refusals.{Blames, IsReply};
 
 use crate::doc::Doc;
+use crate::documents::copy_into;
 use crate::found::pointer_of;
 use crate::prints::{hold_print, printed};
 use crate::status::{EMPTY, MISSING, OK, OUT_OF_MEMORY, TOO_LONG, code_of_write};
 use crate::text::Text;
-use crate::whole::copy_into;
 use sj_document::OwnedValue;
 use sj_path::Pointer;
 use sj_path::owned::find;

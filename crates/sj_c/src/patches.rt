@@ -9,10 +9,10 @@ ghost use Rattle.sj_c.specs.Meant.{meant};
 ghost use Rattle.sj_c.specs.Patches.{Patches, NotRead, NotPatched, Leads};
 
 use crate::doc::Doc;
+use crate::documents::hold;
 use crate::faults::{PATCH_NOT_AN_ARRAY, code_of_item, code_of_operation};
 use crate::same::{COMPARED, are_comparable};
 use crate::status::{EMPTY, OK, OUT_OF_MEMORY, TOO_DEEP};
-use crate::whole::hold;
 use sj_document::OwnedValue;
 use sj_patch::{Operation, PatchFault, PatchReadFault, diff, document_of, operations_of, patch};
 use std::alloc::Global;

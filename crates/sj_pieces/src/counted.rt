@@ -53,7 +53,7 @@ impl<R: BufRead + Drop> Pieces<R> {
         ensures counted { OnOk result (GoesOn self.old self.new piece.new.items) }
         ensures failed { OnErr result (IsAsBefore self.old piece.old.items self.new piece.new.items ⊎ GoesOn self.old self.new piece.new.items) }
     {
-        self.before = behind(self.before, self.count)?;
+        self.before = lines_in_front(self.before, self.count)?;
         let read = next_piece(&mut self.reader, piece);
         if read.is_err() {
             piece.truncate(memrchr(b'\n', piece).map_or(0, |end| end + 1));
@@ -79,7 +79,7 @@ impl<R: BufRead + Drop> Pieces<R> {
 }
 
 /// How many lines are in front of a piece behind those.
-fn behind(before: usize, count: usize) -> io::Result<usize>
+fn lines_in_front(before: usize, count: usize) -> io::Result<usize>
     ensures within { IfOk result (λ n. n < 2 ^ 63) }
     ensures sum { IfOk result (λ n. n ≡ before + count) }
 {

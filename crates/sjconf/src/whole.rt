@@ -29,7 +29,7 @@ fn documents(alloc: Global, layers: &[Layer<'_>]) -> Result<Vec<Value>, Fault>
 
 /// The files merged in turn, and what the settings make of that. Refused where it does not meet each
 /// demand.
-pub fn checked(
+pub fn checked_whole(
     alloc: Global,
     layers: &[Layer<'_>],
     settings: &[Setting<'_>],

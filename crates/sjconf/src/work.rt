@@ -7,7 +7,7 @@ use crate::key::pointer_of;
 use crate::output::{print_of, raw_of};
 use crate::setting::{Setting, setting_of};
 use crate::shapes::demands_of;
-use crate::whole::checked;
+use crate::whole::checked_whole;
 use crate::words::Task;
 use sj_owned::Value;
 use sj_path::owned::find;
@@ -27,7 +27,7 @@ pub fn work(rt: &(impl Files + Input + Print + AllocGlobal), task: &Task<'_>) ->
     let settings = settings_of(alloc, &task.settings)?;
     let layers = read_all(rt, &task.files)?;
     let demands = read_shape(rt, task.shape)?;
-    let whole = checked(alloc, &layers, &settings, &demands)?;
+    let whole = checked_whole(alloc, &layers, &settings, &demands)?;
     print(rt, task, &whole, &place)
 }
 

@@ -77,13 +77,16 @@ pub(super) fn let_go<T: KeyText + Drop>(document: Document<T>) {
     let mut whole = document;
     let mut next = whole.pop_part();
     while let Some(part) = next {
-        next = after(&mut whole, part);
+        next = drop_or_open(&mut whole, part);
     }
     whole.close();
 }
 
 /// Lets the part go, or opens it in the place of what was open, and gives what is to go next.
-fn after<T: KeyText + Drop>(whole: &mut Document<T>, part: Document<T>) -> Option<Document<T>>
+fn drop_or_open<T: KeyText + Drop>(
+    whole: &mut Document<T>,
+    part: Document<T>,
+) -> Option<Document<T>>
     ensures less { work (nodes whole.new) (nodes_of result) < work (nodes whole.old) (nodes part) }
     ensures none { IfNone result (nodes whole.new ≡ 1) }
 {

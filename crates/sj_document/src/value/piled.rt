@@ -81,7 +81,7 @@ pub(crate) fn make_piled<S: Source<T>, T: KeyText + Drop>(
     ensures { IfOk result (λ v. document_tree T.text_of v ≡ S.tree_of source) }
 {
     let mut pile = Vec::new(alloc);
-    let mut made = down::<S, T>(source, &mut pile, alloc)?;
+    let mut made = go_down::<S, T>(source, &mut pile, alloc)?;
     while let Some(waiting) = pile.pop() {
         made = further::<S, T>(waiting, made, &mut pile, alloc)?;
     }
@@ -89,7 +89,7 @@ pub(crate) fn make_piled<S: Source<T>, T: KeyText + Drop>(
 }
 
 /// Goes down along first parts to one that has none, and makes that.
-fn down<S: Source<T>, T: KeyText + Drop>(
+fn go_down<S: Source<T>, T: KeyText + Drop>(
     source: S,
     pile: &mut Vec<Waiting<S::Items, S::Members, T>>,
     alloc: Global,
@@ -138,7 +138,7 @@ fn further<S: Source<T>, T: KeyText + Drop>(
     ensures less { IfOk result (λ v. waiting_left T.text_of S.items_left S.members_left pile.new.items < waiting_weight T.text_of S.items_left S.members_left waiting + waiting_left T.text_of S.items_left S.members_left pile.old.items) }
 {
     match after_part::<S, T>(waiting, part, pile, alloc)? {
-        Next::Part(next) => down::<S, T>(next, pile, alloc),
+        Next::Part(next) => go_down::<S, T>(next, pile, alloc),
         Next::Made(made) => Ok(made),
     }
 }

@@ -167,7 +167,7 @@ impl Table {
     }
 
     /// How many can leave before the table is linked anew.
-    fn spare(&self) -> usize
+    fn spare_count(&self) -> usize
         requires { IsTable self.now }
         ensures holes { result + length self.now.holes.items ≤ 8 }
         ensures few { self.now.gone + length self.now.holes.items + result ≤ length self.now.heads.items / 4 }
@@ -185,7 +185,7 @@ impl Table {
         ensures room { length self.new.holes.items < 8 }
         ensures few { self.new.gone + length self.new.holes.items < length self.new.heads.items / 4 }
     {
-        if self.spare() > 0 {
+        if self.spare_count() > 0 {
             return;
         }
         self.settle();

@@ -45,7 +45,7 @@ impl<K: KeyText + Drop, V: Drop> Store<K, V> {
         match self {
             Store::Plain(pairs) => {
                 let alloc = *pairs.allocator();
-                *pairs = retained(mem::replace(pairs, Vec::new(alloc)), keep);
+                *pairs = retain_pairs(mem::replace(pairs, Vec::new(alloc)), keep);
             }
             Store::Hashed(hashed) => hashed.retain(hasher, keep),
         }
@@ -78,12 +78,12 @@ impl<K: Drop, V: Drop> Members<K, V> {
     {
         let alloc = self.allocator();
         let pairs = mem::replace(self, Members::Listed(Vec::new(alloc))).into_vec();
-        *self = Members::Listed(retained(pairs, keep));
+        *self = Members::Listed(retain_pairs(pairs, keep));
     }
 }
 
 /// The pairs for which `keep` answers true, in the memory of all.
-fn retained<K: Drop, V: Drop, F: FnMut(&K, &mut V) -> bool + Drop>(
+fn retain_pairs<K: Drop, V: Drop, F: FnMut(&K, &mut V) -> bool + Drop>(
     pairs: Vec<(K, V)>,
     keep: F,
 ) -> Vec<(K, V)>

@@ -63,7 +63,7 @@ impl<K, V> Store<K, V> {
     }
 
     /// The members beside their index. Where there is no memory they are a plain list.
-    fn indexed(alloc: Global, pairs: Vec<(K, V)>, table: Table) -> (Self, Result<(), AllocError>)
+    fn with_index(alloc: Global, pairs: Vec<(K, V)>, table: Table) -> (Self, Result<(), AllocError>)
         ensures pairs { pairs_of result.0 ≡ pairs.items }
         ensures place { vec_len pairs < vec_capacity pairs → HasSpare result.0 }
         ensures index { (hashes : List ℕ) → IsTableOf hashes table → OnOk result.1 (IsIndexOf hashes result.0) }
@@ -90,7 +90,7 @@ impl<K, V> Store<K, V> {
     {
         let alloc = self.allocator();
         let pairs = mem::replace(self, Store::Plain(Vec::new(alloc))).into_vec();
-        let (store, done) = Store::indexed(alloc, pairs, table);
+        let (store, done) = Store::with_index(alloc, pairs, table);
         mem::replace(self, store).into_vec().destroy_empty();
         done
     }

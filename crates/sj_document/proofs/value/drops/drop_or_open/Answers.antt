@@ -1,7 +1,7 @@
 use Rattle.std.proofs.Common.{ap, arith}
 use Rattle.sj_document.specs.inner.Nodes.{nodes, nodes_of}
 use Rattle.sj_document.proofs.Nodes.{falls, some_nodes}
-use Rattle.sj_document.proofs.value.drops.after.Goals as goal
+use Rattle.sj_document.proofs.value.drops.drop_or_open.Goals as goal
 
 pub returns-then-not-has_parts-clause-less : goal.returns-then-not-has_parts-clause-less
 returns-then-not-has_parts-clause-less g c = falls (nodes c.args.whole.now) (nodes c.args.part) (nodes c.pop_part.new.self) (nodes_of c.pop_part.result) (omega (arith, c.pop_part.ensures.fewer, some_nodes c.args.part))

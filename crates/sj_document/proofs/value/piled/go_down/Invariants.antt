@@ -1,7 +1,7 @@
 use Rattle.std.proofs.Common.{◌≡◌, ◌≤◌, ◌+◌, ◌*◌}
 use Rattle.sj_print.specs.inner.Piles.{weight}
 use Rattle.sj_document.specs.inner.Piled.{whole_of, waiting_left}
-use Rattle.sj_document.proofs.value.piled.down.Given as goal
+use Rattle.sj_document.proofs.value.piled.go_down.Given as goal
 
 abbrev pub invariant-loop-part : goal.invariant-loop-part
 invariant-loop-part g l =
