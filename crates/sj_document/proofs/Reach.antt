@@ -4,7 +4,7 @@ use Rattle.std.proofs.lemmas.List.{length_push}
 use Rattle.std.proofs.lemmas.List.Sums.{sum_by_push}
 use Rattle.sj_text_core.specs.Tree.{Tree}
 use Rattle.sj_document.specs.inner.Reach.{ahead_depth, ahead_weight, reach, ahead_left, Reached}
-use Rattle.sj_document.specs.declared.value.within.Ahead.{Ahead}
+use Rattle.sj_document.specs.declared.value.depth.Ahead.{Ahead}
 
 module _ {I M : Type 0} (items : I → List Tree) (members : M → List (List ℕ × Tree)) where
   pub reach_push : (p : List (Ahead I M)) (e : Ahead I M) → reach items members (p ++ e ∷ []) ≡ max (reach items members p) (length p + suc (ahead_depth items members e))

@@ -9,6 +9,7 @@ mod change;
 mod cmp;
 mod convert;
 mod copy;
+mod depth;
 mod drops;
 mod edit;
 mod from;
@@ -24,12 +25,12 @@ mod serialize;
 mod swap;
 mod taken;
 mod typed;
-mod within;
 
 pub use build::{borrowed_from_tape, owned_from_tape};
 pub use change::{Change, Replace, change_item, change_member};
 pub use cmp::same;
 pub use copy::CopyText;
+pub use depth::is_within_depth;
 use drops::let_go;
 pub use lend::{LendItem, LendMember};
 pub use path::{Leads, replace_at, update_at};
@@ -39,7 +40,6 @@ use std::alloc::{AllocError, Global};
 use std::borrow::CowStr;
 pub use swap::{swap_item, swap_member, swap_token};
 pub use taken::Taken;
-pub use within::is_within_depth;
 
 /// A document whose keys and texts are `T`.
 ///

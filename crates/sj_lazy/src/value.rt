@@ -12,6 +12,7 @@ mod access_mut;
 mod change;
 mod cmp;
 mod convert;
+mod depth;
 mod edit;
 mod from;
 mod items;
@@ -21,7 +22,6 @@ mod scalar;
 mod serialize;
 mod typed;
 mod upgrade;
-mod within;
 
 use sj_document::{BorrowedValue, Document};
 use sj_object::KeyText;

@@ -3,8 +3,8 @@ use Rattle.std.specs.Prelude.{◌↔◌, ◌+◌, ◌<◌, ◌≤◌, ℕ, suc, 
 use Rattle.std.specs.List.{sum_by}
 use Rattle.sj_text_core.specs.Tree.{Tree, items_from, members_from, items_depth, members_depth}
 use Rattle.sj_print.specs.inner.Piles.{items_weight, members_weight}
-use Rattle.sj_document.specs.declared.value.within.Ahead.{Ahead}
-use Rattle.sj_document.specs.declared.value.within.Ahead.TheVariants as ahead
+use Rattle.sj_document.specs.declared.value.depth.Ahead.{Ahead}
+use Rattle.sj_document.specs.declared.value.depth.Ahead.TheVariants as ahead
 
 module _ {I M : Type 0} (items : I → List Tree) (members : M → List (List ℕ × Tree)) where
   abbrev pub ahead_depth : Ahead I M → ℕ

@@ -1,7 +1,7 @@
 use Rattle.std.proofs.Common.{◌+◌, arith}
 use Rattle.sj_document.specs.inner.Reach.{ahead_weight}
 use Rattle.sj_document.proofs.Reach.{reached_up}
-use Rattle.sj_document.proofs.value.within.pile_up.Goals as goal
+use Rattle.sj_document.proofs.value.depth.pile_up.Goals as goal
 
 pub returns : goal.returns
 returns g c =

@@ -2,9 +2,9 @@ use Rattle.std.proofs.Common.{ap, ◌∙◌}
 use Rattle.sj_text_core.specs.Tree.{depth, items_from, items_depth, members_from, members_depth}
 use Rattle.sj_print.specs.inner.Piles.{weight, items_weight, members_weight}
 use Rattle.sj_document.specs.inner.Reach.{ahead_depth, ahead_weight}
-use Rattle.sj_document.specs.declared.value.within.Ahead.TheVariants as ahead
+use Rattle.sj_document.specs.declared.value.depth.Ahead.TheVariants as ahead
 use Rattle.sj_document.proofs.Reach.{reached_on}
-use Rattle.sj_document.proofs.value.within.further.Goals as goal
+use Rattle.sj_document.proofs.value.depth.further.Goals as goal
 
 pub returns-in_ok-push-in-Items : goal.returns-in_ok-push-in-Items
 returns-in_ok-push-in-Items g c =

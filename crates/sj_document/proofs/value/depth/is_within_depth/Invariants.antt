@@ -1,7 +1,7 @@
 use Rattle.std.proofs.Common.{◌↔◌, ◌≤◌, length}
 use Rattle.sj_text_core.specs.Tree.{depth}
 use Rattle.sj_document.specs.inner.Reach.{reach, ahead_left}
-use Rattle.sj_document.proofs.value.within.is_within_depth.Given as goal
+use Rattle.sj_document.proofs.value.depth.is_within_depth.Given as goal
 
 abbrev pub invariant-loop-ahead : goal.invariant-loop-ahead
 invariant-loop-ahead g l = record {

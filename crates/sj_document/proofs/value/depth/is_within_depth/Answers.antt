@@ -2,7 +2,7 @@ use Rattle.std.proofs.Common.{◌≡◌, true, false, rules, suc}
 use Rattle.sj_text_core.specs.Tree.{depth}
 use Rattle.sj_document.specs.inner.Reach.{ahead_depth, ahead_weight}
 use Rattle.sj_document.proofs.Reach.{reached_all, reached_within, reached_none}
-use Rattle.sj_document.proofs.value.within.is_within_depth.Goals as goal
+use Rattle.sj_document.proofs.value.depth.is_within_depth.Goals as goal
 
 pub returns-then-not-branch-2 : goal.returns-then-not-branch-2
 returns-then-not-branch-2 g c =
