@@ -8,7 +8,7 @@ ghost use Rattle.std.specs.Vec.Iter.{into_iter_items};
 ghost use Rattle.sj_text_core.specs.Print.{quoted, compact};
 ghost use Rattle.sj_canonical.specs.Canonical.{canonical_by};
 ghost use Rattle.sj_canonical.specs.inner.Picks.{picked, by_choice, AreTexts};
-ghost use Rattle.sj_canonical.specs.inner.Walks.{IsBegunBy, Moves, comma, items_rest, members_rest, pair_of, open_rest, canonical_rest};
+ghost use Rattle.sj_canonical.specs.inner.Walks.{IsBegunBy, Moves, before_part, items_rest, members_rest, pair_of, open_rest, canonical_rest};
 
 use crate::order::compare_units;
 use sj_print::{BaseGenerator, Level, Parts};
@@ -109,7 +109,7 @@ fn begin<P: Parts, G: BaseGenerator>(
 
 /// Appends a comma behind a part.
 fn put_comma<G: BaseGenerator>(is_begun: bool, generator: &mut G) -> Result<(), AllocError>
-    ensures ok { OnOk result (G.written generator.new ≡ G.written generator.old ++ comma is_begun) }
+    ensures ok { OnOk result (G.written generator.new ≡ G.written generator.old ++ before_part is_begun) }
     ensures begun { IsBegunBy (G.written generator.old) (G.written generator.new) }
     ensures sink { G.sink generator.new ≡ G.sink generator.old }
 {

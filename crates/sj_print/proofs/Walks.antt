@@ -3,7 +3,7 @@ use Rattle.std.proofs.Common.{◌≡◌, true, false, ℕ, List, [], ◌∷◌, 
 use Rattle.sj_text_core.specs.Tree.{Tree, list, obj, Items, no_items, item, Members, no_members, member}
 use Rattle.sj_text_core.specs.Print.{quoted}
 use Rattle.sj_print.specs.Layouts.{laid, deeper, gap}
-use Rattle.sj_print.specs.inner.Layouts.{laid_items, laid_members, items_end, members_end, colon}
+use Rattle.sj_print.specs.inner.Layouts.{laid_items, laid_members, items_end, members_end, key_end}
 use Rattle.sj_print.specs.Outputs.{Appends}
 use Rattle.sj_print.specs.inner.Outputs.{Towards}
 use Rattle.sj_print.proofs.Puts.{begin, step, end}
@@ -27,16 +27,16 @@ module _ {S O : Type 0} (holds : S → O → List ℕ → Type 0) (s : Option �
   items_last js whole a b c none before f =
       end holds a b c (gap s ++ 93 ∷ []) (items_end s js) whole before f (ap (items_end s) none ∙ ap (λ l. l ++ (gap s ++ 93 ∷ [])) (laid-no_items d))
 
-  pub members_first : (k : List ℕ) (t : Tree) (ms ns : Members) (a c e : O) → ns ≡ member k t ms → Appends holds a c ((123 ∷ gap d) ++ (quoted k ++ colon d)) → Appends holds c e (laid d t)
+  pub members_first : (k : List ℕ) (t : Tree) (ms ns : Members) (a c e : O) → ns ≡ member k t ms → Appends holds a c ((123 ∷ gap d) ++ (quoted k ++ key_end d)) → Appends holds c e (laid d t)
       → Towards holds a e (members_end s ms) (laid s (obj ns))
   members_first k t ms ns a c e same f h =
       step holds a c e (laid d t) _ _ _
-      (begin holds a c ((123 ∷ gap d) ++ (quoted k ++ colon d)) (laid d t ++ members_end s ms) _ f (sym (ap (λ x. laid s (obj x)) same ∙ members_laid-member false s k t ms))) h refl
+      (begin holds a c ((123 ∷ gap d) ++ (quoted k ++ key_end d)) (laid d t ++ members_end s ms) _ f (sym (ap (λ x. laid s (obj x)) same ∙ members_laid-member false s k t ms))) h refl
 
   pub members_next : (k : List ℕ) (t : Tree) (ms ns : Members) (whole : List ℕ) (a b e i : O) → ns ≡ member k t ms → Towards holds a b (members_end s ns) whole
-      → Appends holds b e ((44 ∷ gap d) ++ (quoted k ++ colon d)) → Appends holds e i (laid d t) → Towards holds a i (members_end s ms) whole
+      → Appends holds b e ((44 ∷ gap d) ++ (quoted k ++ key_end d)) → Appends holds e i (laid d t) → Towards holds a i (members_end s ms) whole
   members_next k t ms ns whole a b e i same before f h =
-      step holds a e i (laid d t) _ _ _ (step holds a b e ((44 ∷ gap d) ++ (quoted k ++ colon d)) (members_end s ns) (laid d t ++ members_end s ms) whole before f
+      step holds a e i (laid d t) _ _ _ (step holds a b e ((44 ∷ gap d) ++ (quoted k ++ key_end d)) (members_end s ns) (laid d t ++ members_end s ms) whole before f
       (ap (members_end s) same ∙ members_laid-member true s k t ms)) h refl
 
   pub members_last : (ns : Members) (whole : List ℕ) (a b c : O) → ns ≡ no_members → Towards holds a b (members_end s ns) whole → Appends holds b c (gap s ++ 125 ∷ []) → Appends holds a c whole

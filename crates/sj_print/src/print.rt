@@ -5,7 +5,7 @@ ghost use Rattle.std.specs.Prelude.{◌≡◌, ◌+◌, ◌≤◌, ◌<◌, [], 
 ghost use Rattle.sj_text_core.specs.Print.{escaped, quoted};
 ghost use Rattle.sj_text_core.specs.Tree.{list, obj, no_items, no_members, items_from, members_from};
 ghost use Rattle.sj_print.specs.Layouts.{laid, gap};
-ghost use Rattle.sj_print.specs.inner.Layouts.{colon};
+ghost use Rattle.sj_print.specs.inner.Layouts.{key_end};
 ghost use Rattle.sj_print.specs.Outputs.{AppendsText, Lays};
 ghost use Rattle.sj_print.specs.inner.Piles.{ahead_tree, items_mark, members_mark, items_laid, members_laid, open_laid, open_weight, weight, items_weight, members_weight, pile_weight, PilesUp};
 
@@ -64,7 +64,7 @@ fn put_text_of<P: Parts, O: Output>(before: &str, key: &P::Key, behind: &str, ou
 #[inline(always)]
 fn put_key<P: Parts, O: Output>(mark: &str, marked: &str, key: &P::Key, layout: Layout, out: O) -> O
     requires { marked.now ≡ mark.now ++ 34 ∷ [] }
-    ensures { Lays O.holds out result layout (λ s. (mark.now ++ gap s) ++ (quoted (P.key_of key.now) ++ colon s)) }
+    ensures { Lays O.holds out result layout (λ s. (mark.now ++ gap s) ++ (quoted (P.key_of key.now) ++ key_end s)) }
 {
     match layout {
         Layout::Compact => put_text_of::<P, O>(marked, key, "\":", out),
@@ -101,7 +101,7 @@ fn put_items_end<O: Output>(is_begun: bool, layout: Layout, out: O) -> O
 /// Appends what stands before a member's value, with an object's beginning or a comma in front.
 #[inline(always)]
 fn put_before_member<P: Parts, O: Output>(is_begun: bool, key: &P::Key, layout: Layout, out: O) -> O
-    ensures { Lays O.holds out result layout (λ s. (members_mark is_begun ∷ gap s) ++ (quoted (P.key_of key.now) ++ colon s)) }
+    ensures { Lays O.holds out result layout (λ s. (members_mark is_begun ∷ gap s) ++ (quoted (P.key_of key.now) ++ key_end s)) }
 {
     if is_begun {
         put_key::<P, O>(",", ",\"", key, layout, out)

@@ -22,20 +22,20 @@ pub record Moves (old new left now : List ℕ) : Type 0 where
   pub makes : done ++ now ≡ left
 
 -- what stands before a part
-abbrev pub comma : Bool → List ℕ
-comma false = []
-comma true = 44 ∷ []
+abbrev pub before_part : Bool → List ℕ
+before_part false = []
+before_part true = 44 ∷ []
 
 module _ (c : Repeats) where
   -- what is left of an array's canonical print
   abbrev pub items_rest : Bool → List Tree → List ℕ
   items_rest begun [] = 93 ∷ []
-  items_rest begun (t ∷ ts) = comma begun ++ (compact (canonical_by c t) ++ items_rest true ts)
+  items_rest begun (t ∷ ts) = before_part begun ++ (compact (canonical_by c t) ++ items_rest true ts)
 
   -- and so of an object's, whose members are those that count, in order
   abbrev pub members_rest : Bool → List (List ℕ × Tree) → List ℕ
   members_rest begun [] = 125 ∷ []
-  members_rest begun (p ∷ ps) = comma begun ++ (quoted p.0 ++ 58 ∷ (compact (canonical_by c p.1) ++ members_rest true ps))
+  members_rest begun (p ∷ ps) = before_part begun ++ (quoted p.0 ++ 58 ∷ (compact (canonical_by c p.1) ++ members_rest true ps))
 
 module _ {K V : Type 0} (key : K → List ℕ) (tree : V → Tree) where
   abbrev pub pair_of : K × V → List ℕ × Tree

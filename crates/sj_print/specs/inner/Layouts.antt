@@ -13,9 +13,9 @@ abbrev pub laid_members : Option ℕ → Members → List ℕ
 laid_members None ms = compact_members ms
 laid_members (Some level) ms = pretty_members level ms
 
-abbrev pub colon : Option ℕ → List ℕ
-colon None = 58 ∷ []
-colon (Some level) = 58 ∷ 32 ∷ []
+abbrev pub key_end : Option ℕ → List ℕ
+key_end None = 58 ∷ []
+key_end (Some level) = 58 ∷ 32 ∷ []
 
 -- what follows an item of an array, and so for members
 abbrev pub items_end : Option ℕ → Items → List ℕ

@@ -2,7 +2,7 @@ use Rattle.std.proofs.Common.{◌++◌, ◌∷◌, [], ap, ◌∙◌, true, map,
 use Rattle.std.proofs.lemmas.Result.{on_ok_weaker}
 use Rattle.sj_text_core.specs.Print.{quoted, compact}
 use Rattle.sj_canonical.specs.Canonical.{canonical_by}
-use Rattle.sj_canonical.specs.inner.Walks.{comma, members_rest, pair_of}
+use Rattle.sj_canonical.specs.inner.Walks.{before_part, members_rest, pair_of}
 use Rattle.sj_canonical.specs.declared.walk.Ahead.TheVariants as ahead
 use Rattle.sj_canonical.proofs.Rests.{part_next, moves_behind, keyed}
 use Rattle.sj_canonical.proofs.walk.further_member.Goals as goal
@@ -11,7 +11,7 @@ pub returns-clause-ok : goal.returns-clause-ok
 returns-clause-ok g c =
     let P = g.P.Parts in
     let pairs = map (pair_of P.key_of P.tree_of) in
-    let begun = comma c.args.is_begun in
+    let begun = before_part c.args.is_begun in
     let name = quoted (P.key_of c.in-Some.key) ++ 58 ∷ [] in
     on_ok_weaker c.begin.result
     (λ m. moves_behind _ _ _ (begun ++ name) _ _ _

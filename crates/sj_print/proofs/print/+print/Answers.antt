@@ -2,7 +2,7 @@ use Rattle.std.proofs.Common.{◌≡◌, true, false, [], ◌∷◌, ◌++◌, r
 use Rattle.sj_text_core.specs.Print.{quoted}
 use Rattle.sj_text_core.specs.Tree.{list, obj, items_from, members_from}
 use Rattle.sj_print.specs.Layouts.{laid, deeper, gap}
-use Rattle.sj_print.specs.inner.Layouts.{colon}
+use Rattle.sj_print.specs.inner.Layouts.{key_end}
 use Rattle.sj_print.specs.Outputs.{AppendsText, HoldsText}
 use Rattle.sj_print.specs.inner.Piles.{items_mark, members_mark, items_weight, members_weight, items_laid, members_laid, ahead_tree, pile_weight, PilesUp}
 use Rattle.sj_print.specs.declared.print.Ahead.TheVariants as ahead
@@ -120,7 +120,7 @@ further_member-returns-clause-piled g t c =
     let put = stored c.push.result c.args.pile.now.items c.push.new.self.items ((record { ahead = ahead.Members c.next_member.new.members; layout = c.args.layout; is_begun = true }) ∷ []) (c.push.ensures.succeeds c.requires) c.push.ensures.items in
     piled_part items members holds c.args.pile.now.items c.print_part.new.pile.items (record { ahead = ahead.Members c.next_member.new.members; layout = c.args.layout; is_begun = true })
     c.args.out c.put_before_member-out.result c.print_part.result c.deeper-inner.result
-    (λ s. (members_mark c.args.is_begun ∷ gap s) ++ (quoted (g.P.Parts.key_of c.in-Some.key) ++ colon s)) (λ s. laid s (g.P.Parts.tree_of c.in-Some.value)) (λ s. members_laid c.args.is_begun s (members_from (g.P.Parts.members_left c.args.members)))
+    (λ s. (members_mark c.args.is_begun ∷ gap s) ++ (quoted (g.P.Parts.key_of c.in-Some.key) ++ key_end s)) (λ s. laid s (g.P.Parts.tree_of c.in-Some.value)) (λ s. members_laid c.args.is_begun s (members_from (g.P.Parts.members_left c.args.members)))
     c.deeper-inner.ensures c.put_before_member-out.ensures
     (subst (λ p. PilesUp items members holds p c.put_before_member-out.result c.print_part.new.pile.items c.print_part.result c.deeper-inner.result (λ s. laid s (g.P.Parts.tree_of c.in-Some.value))) put c.print_part.ensures.piled)
     (λ s. ap (λ pile_weight. members_laid c.args.is_begun s (members_from pile_weight)) c.in-Some.ensures ∙ members_laid-member c.args.is_begun s (g.P.Parts.key_of c.in-Some.key) (g.P.Parts.tree_of c.in-Some.value) (members_from (g.P.Parts.members_left c.next_member.new.members)))
