@@ -1,6 +1,6 @@
 -- What a map answers, on the object that it is the members of.
-use Rattle.std.proofs.Common.{◌≡◌, ℕ, List, Option, Some, None, IsSome, IfSome, option_map, Bor, MutBor, refl, sym, ap, ◌∙◌, subst}
-use Rattle.std.specs.Option.{option_copied, option_copied_mut}
+use Rattle.std.proofs.Common.{◌≡◌, ℕ, List, Option, Some, None, IsSome, IfSome, option_map, Bor, refl, sym, ap, ◌∙◌, subst}
+use Rattle.std.specs.Option.{option_copied}
 use Rattle.sj_text_core.specs.Tree.{Tree, null, boolean, int, text, list, obj, Members}
 use Rattle.sj_text_core.specs.Find.{find, find_member}
 use Rattle.sj_text_core.specs.Reads.{as_members}
@@ -9,7 +9,7 @@ use Rattle.sj_object.specs.Members.{entry_members}
 use Rattle.sj_object.proofs.Shown.{lookup-entry_members}
 use Rattle.sj_document.specs.Document.{document_tree}
 use Rattle.sj_document.specs.declared.value.Document.{Document}
-use Rattle.sj_document.proofs.Trees.{Map, tree_of_ref, tree_of_mut, some_before}
+use Rattle.sj_document.proofs.Trees.{Map, tree_of_ref, some_before}
 
 pub find_in : (k : List ℕ) (u : Tree) (ms : Members) → Some ms ≡ as_members u → find k u ≡ find_member k ms
 find_in k null ms e = cc
@@ -33,9 +33,6 @@ module _ {T : Type 0} (t : T → List ℕ) (m : Map T) (k : List ℕ) (u : Tree)
 
   pub found_ref : (r : Option (Bor (Document T))) → option_copied r ≡ lookup k m.entries → option_map (λ v. document_tree t v.now) r ≡ find k u
   found_ref r f = tree_of_ref t r ∙ found_in (option_copied r) f
-
-  pub found_mut : (r : Option (MutBor (Document T))) → option_copied_mut r ≡ lookup k m.entries → option_map (λ v. document_tree t v.now) r ≡ find k u
-  found_mut r f = tree_of_mut t r ∙ found_in (option_copied_mut r) f
 
   shown : option_map (document_tree t) (lookup k m.entries) ≡ find k u
   shown = found_in (lookup k m.entries) refl

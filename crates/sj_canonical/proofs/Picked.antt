@@ -225,9 +225,6 @@ picked-canonical c ps h = ap canonical (kept-obj c (members_from ps)) ∙ ap obj
 
 -- what is collected is texts
 
-pub texts-none : AreTexts []
-texts-none k n = absurd (n refl)
-
 pub texts-push : (ps : Pairs) (p : List ℕ × Tree) → AreTexts ps → IsUtf8 p.0 → AreTexts (ps ++ p ∷ [])
 texts-push ps p h u k n = by_found (find_member k (members_from ps)) (bytes_eq k p.0) refl refl
   where

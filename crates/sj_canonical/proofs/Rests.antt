@@ -13,7 +13,7 @@ use Rattle.sj_text_core.specs.declared.repeats.Repeats.TheVariants.{First, Last}
 use Rattle.sj_canonical.proofs.Picked.{valued, picked-canonical}
 use Rattle.sj_canonical.specs.Canonical.{canonical, canonical_items, canonical_by}
 use Rattle.sj_canonical.specs.inner.Picks.{picked, AreTexts}
-use Rattle.sj_canonical.specs.inner.Walks.{IsBegunBy, Moves, items_rest, members_rest, open_rest, canonical_rest}
+use Rattle.sj_canonical.specs.inner.Walks.{Moves, items_rest, members_rest, open_rest, canonical_rest}
 use Rattle.sj_canonical.specs.declared.walk.Open.{Open}
 
 -- no print is empty
@@ -141,9 +141,6 @@ moves-whole old new left now m = ap (λ l. l ++ now) m.put ∙ append_assoc old 
 
 pub moves-fewer : (old new left now : List ℕ) → Moves old new left now → length now < length left
 moves-fewer old new left now m = omega (arith, m.some, length-append m.done now, ap (λ l. length l) m.makes)
-
-pub begun-on : (a b c : List ℕ) → IsBegunBy a b → IsBegunBy b c → IsBegunBy a c
-begun-on a b c p q = record { more = p.more ++ q.more; goes_on = q.goes_on ∙ ap (λ l. l ++ q.more) p.goes_on ∙ append_assoc a p.more q.more }
 
 module _ {I K V : Type 0} (c : Repeats) (items : I → List Tree) (key : K → List ℕ) (tree : V → Tree) where
   -- what is left where the container goes back onto the pile, and a part of it comes next

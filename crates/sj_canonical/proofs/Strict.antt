@@ -36,13 +36,6 @@ apart k l e = by_test (bytes_eq k l) refl
     by_test true f = absurd (true≢false (sym e ∙ ap (is_before k) (sym ((bytes_eq-Decides k l).0 f)) ∙ not_before_itself k))
     by_test false f = f
 
-apart_back : (k l : List ℕ) → is_before l k ≡ true → bytes_eq k l ≡ false
-apart_back k l e = by_test (bytes_eq k l) refl
-  where
-    by_test : (b : Bool) → bytes_eq k l ≡ b → bytes_eq k l ≡ false
-    by_test true f = absurd (true≢false (sym e ∙ ap (is_before l) ((bytes_eq-Decides k l).0 f) ∙ not_before_itself l))
-    by_test false f = f
-
 -- the first of a text is what was put in front of the others
 pub find-sort_in : (k l : List ℕ) (t : Tree) (ms : Members) → find_member k (sort_in l t ms) ≡ (if bytes_eq k l then Some t else find_member k ms)
 find-sort_in k l t no_members = refl

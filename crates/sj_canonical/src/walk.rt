@@ -6,9 +6,10 @@
 ghost use Rattle.std.specs.Prelude.{◌≡◌, ◌++◌, IfOk, OnOk, map, [], ◌∷◌};
 ghost use Rattle.std.specs.Vec.Iter.{into_iter_items};
 ghost use Rattle.sj_text_core.specs.Print.{quoted, compact};
+ghost use Rattle.sj_text_core.specs.inner.Begun.{IsBegunBy};
 ghost use Rattle.sj_canonical.specs.Canonical.{canonical_by};
 ghost use Rattle.sj_canonical.specs.inner.Picks.{picked, by_choice, AreTexts};
-ghost use Rattle.sj_canonical.specs.inner.Walks.{IsBegunBy, Moves, before_part, items_rest, members_rest, pair_of, open_rest, canonical_rest};
+ghost use Rattle.sj_canonical.specs.inner.Walks.{Moves, before_part, items_rest, members_rest, pair_of, open_rest, canonical_rest};
 
 use crate::order::compare_units;
 use sj_print::{BaseGenerator, Level, Parts};

@@ -2,8 +2,8 @@
 
 ghost use Rattle.std.specs.Prelude.{◌≡◌, ◌↔◌, ◌+◌, ◌^◌, ◌≤◌, ◌++◌, length, IfOk, OnOk, OnErr, IsErrOf, string_bytes};
 ghost use Rattle.sj_text_core.specs.Print.{compact};
+ghost use Rattle.sj_text_core.specs.inner.Begun.{IsBegunBy};
 ghost use Rattle.sj_canonical.specs.Canonical.{canonical_by};
-ghost use Rattle.sj_canonical.specs.inner.Walks.{IsBegunBy};
 
 use crate::walk::walk;
 use sj_print::{DumpGenerator, Parts, WriterGenerator, count};

@@ -23,9 +23,6 @@ pub record Passed (b : List ℕ) (at : ℕ) : Type 0 where
   pub document : before_mark (full_lines b) ≡ take at b ++ before_mark (full_lines (drop at b))
   pub commands : after_mark (full_lines b) ≡ after_mark (full_lines (drop at b))
 
-pub passed-none : (b : List ℕ) → Passed b 0
-passed-none b = record { within = omega arith; document = refl; commands = refl }
-
 take-join : (b : List ℕ) (at n : ℕ) → take at b ++ take n (drop at b) ≡ take (at + n) b
 take-join b at n = ap (λ l. take at b ++ l) (sym (drop-take at n b)) ∙ (let k : take at b ≡ take at (take (at + n) b) = sym (take-take at (at + n) b (omega arith)) in ap (λ l. l ++ drop at (take (at + n) b)) k) ∙ take-append-drop at (take (at + n) b)
 
@@ -48,20 +45,8 @@ passed-more b at n p l e =
       commands = p.commands ∙ ap (λ ls. after_mark ls) l.first ∙ (λ i. if e i then rest else after_mark rest) ∙ ap (λ r. after_mark (full_lines r)) (on b at n);
     }
 
-pub document-at : (b : List ℕ) (at n : ℕ) → Passed b at → LineAt b at n → is_mark (take n (drop at b)) ≡ true → take at b ≡ before_mark (full_lines b)
-document-at b at n p l e =
-    sym (p.document ∙ ap (λ ls. take at b ++ before_mark ls) l.first ∙ (λ i. take at b ++ (if e i then [] else take n (drop at b) ++ before_mark (full_lines (drop n (drop at b))))) ∙ append-nil (take at b))
-
-pub commands-at : (b : List ℕ) (at n : ℕ) → Passed b at → LineAt b at n → is_mark (take n (drop at b)) ≡ true → full_lines (drop (at + n) b) ≡ after_mark (full_lines b)
-commands-at b at n p l e =
-    let rest = full_lines (drop n (drop at b)) in
-    ap full_lines (sym (on b at n)) ∙ sym (p.commands ∙ ap (λ ls. after_mark ls) l.first ∙ (λ i. if e i then rest else after_mark rest))
-
 pub document-end : (b : List ℕ) (at : ℕ) → Passed b at → length b ≤ at → take at b ≡ before_mark (full_lines b)
 document-end b at p h = sym (p.document ∙ ap (λ r. take at b ++ before_mark (full_lines r)) (drop_all at b h) ∙ append-nil (take at b))
-
-pub commands-end : (b : List ℕ) (at : ℕ) → Passed b at → length b ≤ at → full_lines (drop at b) ≡ after_mark (full_lines b)
-commands-end b at p h = ap full_lines (drop_all at b h) ∙ sym (p.commands ∙ ap (λ r. after_mark (full_lines r)) (drop_all at b h))
 
 -- as the code cuts it
 pub line_at : (b : List ℕ) (at n : ℕ) → let r = take (length b - at) (drop at b) in

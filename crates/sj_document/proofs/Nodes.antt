@@ -94,10 +94,6 @@ module _ {T : Type 0} where
   items_pos [] e = absurd (omega arith)
   items_pos (d ∷ ds) e = omega arith
 
-  pub members_pos : (es : List (Entry T (Document T))) → 1 < entry_nodes es + 1 → 0 < length es
-  members_pos [] e = absurd (omega arith)
-  members_pos (x ∷ es) e = omega arith
-
   pub items_zero : (ds : List (Document T)) → length ds ≡ 0 → of_items ds + 1 ≡ 1
   items_zero [] e = refl
   items_zero (d ∷ ds) e = absurd (omega arith)

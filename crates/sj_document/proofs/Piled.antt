@@ -1,15 +1,15 @@
 -- What is still to be made, step by step.
-use Rattle.std.proofs.Common.{◌≡◌, ◌+◌, ◌*◌, ◌<◌, ◌≤◌, ℕ, List, [], ◌∷◌, ◌++◌, map, Result, Ok, Err, IfOk, Vec, Global, refl, sym, ap, ◌∙◌, append_assoc, append-nil, arith}
+use Rattle.std.proofs.Common.{◌≡◌, ◌+◌, ◌*◌, ◌≤◌, ℕ, List, [], ◌∷◌, ◌++◌, map, Result, Ok, Err, IfOk, Vec, Global, refl, sym, ap, ◌∙◌, append_assoc, arith}
 use Rattle.std.proofs.lemmas.List.{map-append}
 use Rattle.std.proofs.lemmas.List.Sums.{sum_by_push}
-use Rattle.sj_text_core.specs.Tree.{Tree, null, boolean, int, text, list, obj, items_from, Members, no_members, members_from}
+use Rattle.sj_text_core.specs.Tree.{Tree, list, obj, items_from, Members, members_from}
 use Rattle.sj_text_core.specs.Edits as members
 use Rattle.sj_object.specs.Members.{entry_members}
 use Rattle.sj_object.specs.Entries.{Entry, entries_of}
 use Rattle.sj_object.specs.Edits as object
 use Rattle.sj_object.proofs.Shown.{entry_members-put}
 use Rattle.sj_object.proofs.Walks.{put_all}
-use Rattle.sj_print.specs.inner.Piles.{weight, items_weight, members_weight}
+use Rattle.sj_print.specs.inner.Piles.{items_weight, members_weight}
 use Rattle.sj_document.specs.Document.{document_tree}
 use Rattle.sj_document.specs.inner.Piled.{put_rest, with_part, items_tree, members_tree, whole_of, waiting_weight, waiting_left, items_left_weight, members_left_weight, StepsOn}
 use Rattle.sj_document.specs.declared.value.Document.{Document}
@@ -18,14 +18,6 @@ use Rattle.sj_document.specs.declared.value.piled.Waiting.TheVariants as waiting
 use Rattle.sj_document.specs.declared.value.piled.Next.{Next}
 use Rattle.sj_document.specs.declared.value.piled.Next.TheVariants as next
 use Rattle.sj_document.proofs.Trees.{Map}
-
-pub weight_some : (u : Tree) → 1 ≤ weight u
-weight_some null = omega arith
-weight_some (boolean b) = omega arith
-weight_some (int n c) = omega arith
-weight_some (text s) = omega arith
-weight_some (list is) = omega arith
-weight_some (obj ms) = omega arith
 
 module _ {T : Type 0} (t : T → List ℕ) where
   -- entries put in turn are their pairs put in turn
@@ -65,24 +57,12 @@ module _ {T I M : Type 0} (t : T → List ℕ) (items : I → List Tree) (member
     goes_ok (Ok n) old new u v w x e l g = goes_to old new u v w x n e l g
     goes_ok (Err e) old new u v w x f l g = tt
 
-    -- what has no parts
-    pub goes_leaf : (old : List (Waiting I M T)) (u : Tree) (d : Document T) → document_tree t d ≡ u → Goes old u (2 * weight u) (next.Made d) old
-    goes_leaf old u d e = (ap (whole_of t items members_left old) e, omega (arith, weight_some u))
-
     -- the next item, for which the array waits
     pub goes_item : (old new : List (Waiting I M T)) (made : Vec (Document T) Global) (ahead rest : I) (s : S) → items ahead ≡ tree_of s ∷ items rest → new ≡ old ++ waiting.Items made rest ∷ []
         → Goes old (items_tree t items members_left made.items ahead) (3 + 2 * items_left_weight t items members_left ahead) (next.Part s) new
     goes_item old new made ahead rest s e pushed = (
       ap (λ l. whole_of t items members_left l (tree_of s)) pushed ∙ whole_push old (waiting.Items made rest) (tree_of s) ∙ ap (λ l. whole_of t items members_left old (list (items_from (map (document_tree t) made.items ++ l)))) (sym e),
       omega (arith, ap (waiting_left t items members_left) pushed ∙ left_push old (waiting.Items made rest), ap (λ l. items_weight (items_from l)) e),
-    )
-
-    -- the whole array
-    pub goes_array : (old : List (Waiting I M T)) (made : Vec (Document T) Global) (ahead : I) (d : Document T) → items ahead ≡ [] → document_tree t d ≡ list (items_from (map (document_tree t) made.items))
-        → Goes old (items_tree t items members_left made.items ahead) (3 + 2 * items_left_weight t items members_left ahead) (next.Made d) old
-    goes_array old made ahead d e same = (
-      ap (whole_of t items members_left old) (same ∙ ap (λ l. list (items_from l)) (sym (append-nil (map (document_tree t) made.items))) ∙ ap (λ l. list (items_from (map (document_tree t) made.items ++ l))) (sym e)),
-      omega arith,
     )
 
     -- the next member, for which the object waits

@@ -1,5 +1,5 @@
 -- How deep a pile reaches, entry by entry.
-use Rattle.std.proofs.Common.{◌≡◌, ◌↔◌, ◌+◌, ◌<◌, ◌≤◌, ℕ, suc, max, Bool, true, false, List, [], ◌∷◌, ◌++◌, length, Result, Ok, Err, IfOk, refl, sym, ap, ◌∙◌, subst, true≢false, arith}
+use Rattle.std.proofs.Common.{◌≡◌, ◌↔◌, ◌+◌, ◌<◌, ◌≤◌, ℕ, suc, max, Bool, true, false, List, [], ◌∷◌, ◌++◌, length, Result, Ok, Err, IfOk, sym, ap, ◌∙◌, subst, true≢false, arith}
 use Rattle.std.proofs.lemmas.List.{length_push}
 use Rattle.std.proofs.lemmas.List.Sums.{sum_by_push}
 use Rattle.sj_text_core.specs.Tree.{Tree}
@@ -11,16 +11,8 @@ module _ {I M : Type 0} (items : I → List Tree) (members : M → List (List �
   reach_push [] e = omega arith
   reach_push (x ∷ p) e = omega (arith, reach_push p e)
 
-  pub reach_some : (p : List (Ahead I M)) → length p ≤ reach items members p
-  reach_some [] = omega arith
-  reach_some (x ∷ p) = omega (arith, reach_some p)
-
   pub left_push : (p : List (Ahead I M)) (e : Ahead I M) → ahead_left items members (p ++ e ∷ []) ≡ ahead_left items members p + suc (ahead_weight items members e)
   left_push p e = sum_by_push (λ e. suc (ahead_weight items members e)) p e
-
-  -- a scalar
-  pub reached_scalar : (levels : ℕ) (p : List (Ahead I M)) (d w : ℕ) → length p ≤ levels → d ≡ 0 → 1 ≤ w → Reached items members levels p d w true p
-  reached_scalar levels p d w l e h = let s = reach_some p in ((λ a. omega (arith, a), λ a. omega (arith, a, s)), l, omega (arith, h))
 
   -- a container that was put onto the pile
   pub reached_up : (levels : ℕ) (p q : List (Ahead I M)) (e : Ahead I M) (w : ℕ) → length p < levels → q ≡ p ++ e ∷ [] → ahead_weight items members e + 1 < w → Reached items members levels p (suc (ahead_depth items members e)) w true q
@@ -29,10 +21,6 @@ module _ {I M : Type 0} (items : I → List Tree) (members : M → List (List �
       let b : ahead_left items members q ≡ ahead_left items members p + suc (ahead_weight items members e) = ap (ahead_left items members) same ∙ left_push p e in
       let n : length q ≡ length p + 1 = ap length same ∙ length_push p e in
       ((λ h. omega (arith, a, h), λ h. omega (arith, a, h)), omega (arith, n, l), omega (arith, b, h))
-
-  -- one that has no part left
-  pub reached_end : (levels : ℕ) (p : List (Ahead I M)) (d w : ℕ) → length p < levels → d ≡ 0 → Reached items members levels p (suc d) (suc w) true p
-  reached_end levels p d w l e = let s = reach_some p in ((λ a. omega (arith, a), λ a. omega (arith, a, s, l, e)), omega (arith, l), omega arith)
 
   -- a part of the container that went back onto the pile
   pub reached_part : (levels : ℕ) (p q : List (Ahead I M)) (e : Ahead I M) (d w n m : ℕ) (is : Bool) (new : List (Ahead I M)) → q ≡ p ++ e ∷ [] → n ≡ max d (ahead_depth items members e) → m ≡ w + ahead_weight items members e

@@ -61,10 +61,6 @@ begin_by ms ns (Some ps) a b e =
 pub told_begin : (ms ns : Members) → HasSingle ms → HasSingle ns → option_map (put_each (removals ms ns no_members)) (patch_members ms ns) ≡ option_map (removals ms ns) (patch_members ms ns)
 told_begin ms ns a b = begin_by ms ns (patch_members ms ns) (apart-single ms a) (apart-single ns b) refl
 
-removed_by : (y : Bool) (k : List ℕ) (done r : Members) → put_each done (if y then r else member k null r) ≡ put_each (if y then done else put k null done) r
-removed_by true k done r = refl
-removed_by false k done r = refl
-
 -- one that stays, and one that goes
 pub removed_stays : (k : List ℕ) (t : Tree) (done rest ns : Members) → is_some (find_member k ns) ≡ true → put_each done (removals (member k t rest) ns no_members) ≡ put_each done (removals rest ns no_members)
 removed_stays k t done rest ns e = ap (λ y. put_each done (if y then removals rest ns no_members else member k null (removals rest ns no_members))) e

@@ -1,10 +1,10 @@
 -- The chains of members by their hashes: what one more member, or one less, does to them.
-use Rattle.std.proofs.Common.{◌≡◌, ◌≢◌, ℕ, zero, suc, ◌+◌, ◌-◌, ◌<◌, ◌≤◌, ◌%◌, nat_le, Bool, true, false, List, ◌++◌, map, length, take, drop, get_or, set, refl, sym, ap, ◌∙◌, arith, add-one, get_or-set_same, get_or-set_other, below_more, subst, true≢false}
 use Rattle.std.specs.Bool.{if◌then◌else◌}
+use Rattle.std.proofs.Common.{◌≡◌, ◌≢◌, ℕ, zero, suc, ◌+◌, ◌-◌, ◌<◌, ◌≤◌, ◌%◌, nat_le, Bool, true, false, List, ◌++◌, length, take, drop, get_or, set, refl, sym, ap, ◌∙◌, arith, add-one, get_or-set_same, get_or-set_other, below_more, subst, true≢false}
 use Rattle.std.specs.List.{remove}
 use Rattle.std.proofs.lemmas.Bool.Decides.{nat_tests}
-use Rattle.std.proofs.lemmas.List.{take-append-drop, drop-take, get_or-drop, length-drop, length-take-le, length-set, length-replicate, get_or-replicate, length-map}
-use Rattle.std.proofs.Math.ListN.{replicate, get_or-map}
+use Rattle.std.proofs.lemmas.List.{take-append-drop, drop-take, get_or-drop, length-drop, length-take-le, length-set, length-replicate, get_or-replicate}
+use Rattle.std.proofs.Math.ListN.{replicate}
 use Rattle.std.proofs.Math.Seq.{take-append_seam, drop-append_seam}
 use Rattle.std.proofs.lemmas.List.Edits.{get_or-remove_below, get_or-remove_above, remove-append_right}
 use Rattle.sj_object.specs.Chains.{is_in_bucket, last_below}
@@ -204,11 +204,6 @@ module _ (n : ℕ) (hs : List ℕ) (i : ℕ) (w : i < length hs) where
 
 -- the chains once the first members are left out, so many: a place of those ends a chain
 module _ (n : ℕ) (hs : List ℕ) (g : ℕ) where
-  less_zero : 0 - g ≡ 0
-  less_zero = omega arith
-
-  pub get_or-less : (xs : List ℕ) (i : ℕ) → get_or (map (λ p. p - g) xs) i 0 ≡ get_or xs i 0 - g
-  get_or-less xs i = ap (λ d. get_or (map (λ p. p - g) xs) i d) (sym less_zero) ∙ get_or-map (λ p. p - g) xs i 0
 
   pub last_dropped : (b k : ℕ) → last_below n b (drop g hs) k ≡ last_below n b hs (g + k) - g
   unfolding last_below
@@ -223,19 +218,6 @@ module _ (n : ℕ) (hs : List ℕ) (g : ℕ) where
         last_in n b (drop g hs) k e ∙ same ∙ ap (λ m. m - g) (sym (ap (last_below n b hs) next ∙ last_in n b hs (g + k) (ap (is_in_bucket n b) (sym (get_or-drop g hs k 0)) ∙ e)))
     by_test false e h =
         last_out n b (drop g hs) k e ∙ h ∙ ap (λ m. m - g) (sym (ap (last_below n b hs) next ∙ last_out n b hs (g + k) (ap (is_in_bucket n b) (sym (get_or-drop g hs k 0)) ∙ e)))
-
-  pub IsLinked-dropped : (links heads : List ℕ) → g ≤ length hs → IsLinked n hs links heads (length hs)
-      → IsLinked n (drop g hs) (map (λ p. p - g) (drop g links)) (map (λ p. p - g) heads) (length (drop g hs))
-  IsLinked-dropped links heads l h =
-      let whole : length hs ≡ g + length (drop g hs) = omega (arith, length-drop g hs) in
-      record {
-        count = length-map heads (λ p. p - g) ∙ h.count;
-        size = length-map (drop g links) (λ p. p - g) ∙ length-drop g links ∙ ap (λ m. m - g) h.size ∙ sym (length-drop g hs);
-        starts = λ b m. get_or-less heads b ∙ ap (λ p. p - g) (h.starts b m ∙ ap (last_below n b hs) whole) ∙ sym (last_dropped b (length (drop g hs)));
-        nexts = λ i m.
-            get_or-less (drop g links) i ∙ ap (λ p. p - g) (get_or-drop g links i 0 ∙ h.nexts (g + i) (omega (arith, m, whole)))
-            ∙ sym (last_dropped (get_or hs (g + i) 0 % n) i) ∙ ap (λ x. last_below n (x % n) (drop g hs) i) (sym (get_or-drop g hs i 0));
-      }
 
 -- what is left behind the first, once one of the others is taken out
 pub drop-remove : {X : Type 0} (xs : List X) (g i : ℕ) → g ≤ length xs → drop g (remove xs (g + i)) ≡ remove (drop g xs) i
@@ -254,7 +236,3 @@ drop-pop xs g l =
 -- what a vector has after its slice was lent and written
 pub refilled : (a : ℕ) (ws xs : List ℕ) → a ≡ length ws → take a (ws ++ drop (length ws) xs) ≡ ws
 refilled a ws xs e = ap (λ n. take n (ws ++ drop (length ws) xs)) e ∙ take-append_seam ws (drop (length ws) xs)
-
-pub IsLinked-lent : (n : ℕ) (hs gs ws us xs ys : List ℕ) (a b : ℕ) → a ≡ length ws → b ≡ length us → hs ≡ gs → IsLinked n hs ws us (length hs)
-    → IsLinked n gs (take a (ws ++ drop (length ws) xs)) (take b (us ++ drop (length us) ys)) (length gs)
-IsLinked-lent n hs gs ws us xs ys a b e f d h = subst (λ (p : List ℕ × (List ℕ × List ℕ)). IsLinked n p.0 p.1.0 p.1.1 (length p.0)) (λ i. (d i, (sym (refilled a ws xs e) i, sym (refilled b us ys f) i))) h

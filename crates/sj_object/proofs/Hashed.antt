@@ -1,6 +1,6 @@
 -- The hashes of a map's members, and the members that a lookup compares.
-use Rattle.std.proofs.Common.{◌≡◌, ℕ, zero, suc, ◌+◌, ◌*◌, ◌<◌, ◌%◌, ◌==◌, nat_eq, Bool, true, false, ◌&&◌, List, [], ◌∷◌, ◌++◌, map, length, get_or, slice_set, take, drop, bytes_eq, Option, Some, None, IsSome, nat_le, ◌≤◌, subst, refl, sym, ap, ◌∙◌, arith, true≢false, count_by}
 use Rattle.std.specs.Bool.{if◌then◌else◌}
+use Rattle.std.proofs.Common.{◌≡◌, ℕ, zero, suc, ◌+◌, ◌*◌, ◌<◌, ◌%◌, ◌==◌, Bool, true, false, List, [], ◌∷◌, ◌++◌, map, length, get_or, slice_set, take, drop, bytes_eq, Option, Some, None, IsSome, nat_le, ◌≤◌, subst, refl, sym, ap, ◌∙◌, arith, true≢false, count_by}
 use Rattle.std.proofs.lemmas.List.{length-map, length_push, map-append}
 use Rattle.std.proofs.lemmas.Nat.{pow_pos}
 use Rattle.std.proofs.lemmas.List.Sums.{sum_by-cons}
@@ -36,15 +36,6 @@ sum_by-map F f (x ∷ xs) = sum_by-cons F (f x) (map f xs) ∙ ap (λ m. F (f x)
 
 pub texts-length : {K V : Type 0} (t : K → List ℕ) (ps : List (K × V)) → length (entry_texts (entries_of t ps)) ≡ length ps
 texts-length {K} {V} t ps = length-map (entries_of t ps) (λ (f : Entry K V). f.0.1) ∙ length-map ps (λ (p : K × V). ((p.0, t p.0), p.1))
-
--- where a key is compared by its hash first
-pub compared_true : (b c : Bool) → b && c ≡ true → c ≡ true
-compared_true true c e = e
-compared_true false c e = cc
-
-pub compared_false : (h x : ℕ) (c : Bool) → nat_eq h x && c ≡ false → (c ≡ true → h ≡ x) → c ≡ false
-compared_false h x false e f = refl
-compared_false h x true e f = let q : h ≡ x = f refl in grind (arith, nat_tests)
 
 abbrev pub hashes : {K V : Type 0} → (K → List ℕ) → (List ℕ → ℕ) → List (K × V) → List ℕ
 hashes {K} {V} t H ps = map (λ (p : K × V). H (t p.0)) ps

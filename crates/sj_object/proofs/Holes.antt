@@ -52,10 +52,6 @@ module _ (q : ℕ) where
   raised_by-last [] p = refl
   raised_by-last (r ∷ qs) p = ap (raised r) (raised_by-last qs p)
 
-  pub lowered_by-last : (qs : List ℕ) (p : ℕ) → lowered_by (qs ++ q ∷ []) p ≡ lowered q (lowered_by qs p)
-  lowered_by-last [] p = refl
-  lowered_by-last (r ∷ qs) p = lowered_by-last qs (lowered r p)
-
   pub without-last : {X : Type 0} (qs : List ℕ) (xs : List X) → without (qs ++ q ∷ []) xs ≡ remove (without qs xs) q
   without-last [] xs = refl
   without-last (r ∷ qs) xs = without-last qs (remove xs r)

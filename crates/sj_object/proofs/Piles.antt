@@ -1,7 +1,6 @@
 -- Piles, and the trees that nodes are.
-use Rattle.std.proofs.Common.{◌≡◌, ℕ, zero, suc, ◌+◌, ◌≤◌, ◌<◌, List, [], ◌∷◌, ◌++◌, map, drop, length, get_or, refl, ap, sym, ◌∙◌, append_assoc, append-nil, arith, All, subst, Some}
+use Rattle.std.proofs.Common.{◌≡◌, ℕ, zero, suc, ◌+◌, ◌≤◌, ◌<◌, List, [], ◌∷◌, ◌++◌, map, drop, length, get_or, refl, ap, sym, ◌∙◌, append_assoc, append-nil, arith, subst}
 use Rattle.std.proofs.lemmas.List.{length-drop, drop-drop, drop_at, drop_all}
-use Rattle.std.proofs.lemmas.List.Elements.{All-pop}
 use Rattle.sj_text_core.specs.Tree.{Tree, null, boolean, int, text, list, obj, Items, no_items, item, Members, no_members, member, items_len, members_len, items_from, members_from, listed}
 use Rattle.sj_text_core.specs.Nodes.{Mark, nothing, string, array, flat, flat_items, flat_members, trees_of, tree_of, first_tree, IsPreorder, width}
 use Rattle.sj_text_core.specs.Repeats.{keep_by}
@@ -24,19 +23,9 @@ pile_push tree below (w ∷ vs) v = pile_push tree (tree w ∷ below) vs v
 pub popped : {V : Type 0} (tree : V → Tree) (vs ws : List V) (v : V) → vs ≡ ws ++ v ∷ [] → pile tree vs ≡ tree v ∷ pile tree ws
 popped tree vs ws v e = ap (pile tree) e ∙ pile_push tree [] ws v
 
-pile_count : {V : Type 0} (tree : V → Tree) (below : List Tree) (vs : List V) → length (pile_onto tree below vs) ≡ length vs + length below
-pile_count tree below [] = omega arith
-pile_count tree below (v ∷ vs) = omega (arith, pile_count tree (tree v ∷ below) vs)
-
-pub pile_len : {V : Type 0} (tree : V → Tree) (vs : List V) → length (pile tree vs) ≡ length vs
-pile_len tree vs = omega (arith, pile_count tree [] vs)
-
 -- the tree on top, and what lies below
 pub top_made : {V : Type 0} (tree : V → Tree) (vs ws : List V) (v : V) → vs ≡ ws ++ v ∷ [] → (tree v ≡ first_tree (pile tree vs)) × (pile tree ws ≡ drop 1 (pile tree vs))
 top_made tree vs ws v e = let p = popped tree vs ws v e in (sym (ap first_tree p), sym (ap (drop 1) p))
-
-pub built_popped : {V : Type 0} (built : V → Type 0) (vs ws : List V) (v : V) → vs ≡ ws ++ v ∷ [] → All built vs → All built ws × built v
-built_popped built vs ws v e h = All-pop built vs ws (Some v) e h
 
 -- ---- one tree at a position
 

@@ -85,12 +85,6 @@ module _ (ops : List PlainOperation) (start : Tree) (k : List ℕ) (done rest : 
   pub next-item : (sub : List PlainOperation) (u w : Tree) → Leads sub u w → Leads ops start (array (done ++ u ∷ rest)) → Leads (ops ++ map (under (k ∷ [])) sub) start (array (done ++ w ∷ rest))
   next-item sub u w s h = leads-join ops (map (under (k ∷ [])) sub) start (array (done ++ u ∷ rest)) (array (done ++ w ∷ rest)) h (leads-item k done rest named sub u w h.to_single s)
 
-  pub next-removed : (u : Tree) → Leads ops start (array (done ++ u ∷ rest)) → Leads (ops ++ remove (k ∷ []) ∷ []) start (array (done ++ rest))
-  next-removed u h = leads-join ops (remove (k ∷ []) ∷ []) start (array (done ++ u ∷ rest)) (array (done ++ rest)) h (leads-removed k done rest named u h.to_single)
-
-  pub next-inserted : (v : Tree) → IsSingle v → Leads ops start (array (done ++ rest)) → Leads (ops ++ add (k ∷ []) v ∷ []) start (array (done ++ v ∷ rest))
-  next-inserted v y h = leads-join ops (add (k ∷ []) v ∷ []) start (array (done ++ rest)) (array (done ++ v ∷ rest)) h (leads-inserted k done rest named v h.to_single y)
-
 -- arrays that are the same in two parts
 pub same-array : (xs ys vs ws : List Tree) → Same (array xs) (array ys) → Same (array vs) (array ws) → Same (array (xs ++ vs)) (array (ys ++ ws))
 same-array [] [] vs ws h i = i

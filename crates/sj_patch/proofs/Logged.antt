@@ -1,5 +1,5 @@
 -- A log of undos.
-use Rattle.std.proofs.Common.{◌≡◌, ℕ, List, [], ◌∷◌, ◌++◌, length, arith, Ok, Some, refl, sym, ap, ◌∙◌}
+use Rattle.std.proofs.Common.{◌≡◌, ℕ, List, [], ◌∷◌, ◌++◌, Ok, Some, refl, sym, ap, ◌∙◌}
 use Rattle.sj_text_core.specs.Tree.{Tree}
 use Rattle.sj_pointer.specs.Pointed.{pointed}
 use Rattle.sj_patch.specs.Patch.{added, onwards, or_missing, removed, replaced}
@@ -51,8 +51,3 @@ module _ {T : Type 0} (t : T → List ℕ) where
   pub swap-replaced : (v : Document T) (ks : List (List ℕ)) (u : Tree) → change_at t (Swap v) ks u ≡ replaced ks (document_tree t v) u
   swap-replaced v [] u = refl
   swap-replaced v (k ∷ ks) u = swapped-replaced k ks (document_tree t v) u
-
-  -- none is left to undo
-  pub undone-none : (xs : List (Undo T)) (u : Tree) → length xs ≡ 0 → undone t xs u ≡ u
-  undone-none [] u e = refl
-  undone-none (x ∷ xs) u e = absurd (omega (arith, e))

@@ -1,7 +1,7 @@
 -- What is noted of two arrays.
 use Rattle.std.proofs.Common.{◌≡◌, ℕ, zero, suc, ◌+◌, ◌-◌, ◌<◌, ◌≤◌, ◌^◌, List, [], ◌∷◌, ◌++◌, map, length, take, drop, get_or, append_assoc, append-nil, min, Some, refl, sym, ap, ◌∙◌, subst, arith, length-append}
 use Rattle.std.specs.Fmt.{decimal}
-use Rattle.std.proofs.lemmas.List.{length-take, length-drop, length-map, map-append, take-append-drop, drop-append-le, take-map, drop-map, drop_more, take_more, map_more, take_all, drop_all, take-take}
+use Rattle.std.proofs.lemmas.List.{length-take, length-drop, length-map, map-append, take-append-drop, drop-append-le, take-map, drop-map, drop_more, take_more, map_more, drop_all, take-take}
 use Rattle.sj_text_core.specs.Tree.{Tree, items_from}
 use Rattle.sj_text_core.specs.Same.{Same}
 use Rattle.sj_text_core.specs.Keep.{IsSingle}
@@ -81,9 +81,6 @@ module _ (first : ℕ) (xs ys : List Tree) where
 
   pub between-first : between first first xs ys ≡ xs
   between-first = ap (λ r. take first xs ++ r ++ drop first xs) (drop_all first (take first ys) (omega (arith, length-take first ys))) ∙ ap (λ r. r ++ drop first xs) (append-nil (take first xs)) ∙ take-append-drop first xs
-
-pub between-whole : (xs ys : List Tree) → length xs ≡ length ys → between 0 (length xs) xs ys ≡ ys
-between-whole xs ys e = ap (λ r. take (length xs) ys ++ r) (drop_all (length xs) xs (omega arith)) ∙ append-nil (take (length xs) ys) ∙ take_all (length xs) ys (omega (arith, e))
 
 -- one pair more is compared
 module _ {A : Type 0} (f : A → Tree) (olds news : List A) (first i : ℕ) (x y : A) (inside : i < length olds) (also : i < length news) (ex : x ≡ get_or olds i x) (ey : y ≡ get_or news i y) (behind : first ≤ i) (fits : i < 2 ^ 64) where

@@ -147,9 +147,6 @@ module _ (place : List (List ℕ)) (before : List PlainOperation) (ps qs : Pairs
       noted = h.noted ∙ ap (λ x. before ++ adding x) (sym (unmatched-join ps h.done ((k, u) ∷ []) ∙ ap (λ o. unmatched ps h.done ++ new_first o (k, u) []) f ∙ append-nil (unmatched ps h.done)));
     }
 
-  pub adds-all : (after : List PlainOperation) (rest : Pairs) → Adds place before after ps qs rest → rest ≡ [] → after ≡ before ++ map (under place) (new_members (unmatched ps qs))
-  adds-all after rest h e = h.noted ∙ ap (λ x. before ++ map (under place) (new_members (unmatched ps x))) (sym (h.parted ∙ ap (λ r. h.done ++ r) e ∙ append-nil h.done))
-
 -- the members that come lead to the others
 module _ (start : Tree) (ps qs : Pairs) (single : IsSingle (object qs)) where
   leads_by : (o : Option Tree) (ops : List PlainOperation) (done rest : Pairs) (k : List ℕ) (u : Tree) → found k ps ≡ o → found k done ≡ None → IsSingle u

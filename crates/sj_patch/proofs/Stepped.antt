@@ -23,10 +23,6 @@ stepped-none step (x ∷ xs) u h = ap (step x) (stepped-none step xs u h) ∙ h 
 pub filled-there : (f : Tree → Tree) (ks : List (List ℕ)) (c u : Tree) → pointed ks u ≡ Some c → filled_below f ks u ≡ set_pointed ks (f c) u
 filled-there f ks c u e = ap (λ o. unwrap_or (option_map (λ c. set_pointed ks (f c) u) o) u) e
 
--- where they find nothing
-pub filled-missing : (f : Tree → Tree) (ks : List (List ℕ)) (u : Tree) → pointed ks u ≡ None → filled_below f ks u ≡ u
-filled-missing f ks u e = ap (λ o. unwrap_or (option_map (λ c. set_pointed ks (f c) u) o) u) e
-
 -- what fills as before after what was found has changed
 pub filled-after : (f g : Tree → Tree) (ks : List (List ℕ)) (before after u v : Tree) → pointed ks before ≡ Some u → after ≡ set_pointed ks v before → g v ≡ f u → filled_below g ks after ≡ filled_below f ks before
 filled-after f g ks before after u v p e h =

@@ -4,7 +4,7 @@ use Rattle.std.specs.Option.{IsSome, is_some}
 use Rattle.std.proofs.Math.Seq.{drop-cons, take-suc}
 use Rattle.std.proofs.lemmas.List.{map-append}
 use Rattle.std.proofs.lemmas.Option.{same_Some}
-use Rattle.sj_text_core.specs.Tree.{Tree, null, boolean, int, text, list, obj, Members, no_members, member}
+use Rattle.sj_text_core.specs.Tree.{Tree, null, boolean, int, text, list, obj, Members, no_members}
 use Rattle.sj_text_core.specs.Edits.{put}
 use Rattle.sj_text_core.specs.Reads.{as_members}
 use Rattle.sj_text_core.specs.Paths.{by_token, set_found}
@@ -138,9 +138,6 @@ pointed-snoc (q ∷ p) k t = snoc_by (token_into First q t) p k (λ v. pointed-s
 module _ (ts : List (String Global)) (d : ℕ) (s : String Global) (l : d < length ts) (e : s ≡ get_or ts d s) where
   from_here : drop d ts ≡ s ∷ drop (suc d) ts
   from_here = drop-cons ts d s l ∙ ap (λ x. x ∷ drop (suc d) ts) (sym e)
-
-  pub nested_once_more : (u w : Tree) → w ≡ nested (map string_bytes (drop (suc d) ts)) u → obj (member (string_bytes s) w no_members) ≡ nested (map string_bytes (drop d ts)) u
-  nested_once_more u w h = ap (λ v. obj (member (string_bytes s) v no_members)) h ∙ ap (λ r. nested (map string_bytes r) u) (sym from_here)
 
   pub found_once_more : (t a b : Tree) → pointed (map string_bytes (take d ts)) t ≡ Some a → token_into First (string_bytes s) a ≡ Some b → pointed (map string_bytes (take (suc d) ts)) t ≡ Some b
   found_once_more t a b h i =

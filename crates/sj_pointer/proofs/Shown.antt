@@ -52,12 +52,6 @@ module _ {S : Type 0} (f : S → List ℕ) where
       ap (map f) pushed ∙ map-append f us (w ∷ []) ∙ (λ j. before j ++ same j ∷ []) ∙ (λ j. map f (take i vs) ++ f (e j) ∷ [])
       ∙ sym (map-append f (take i vs) (get_or vs i x ∷ [])) ∙ ap (map f) (sym (take_more vs i x h))
 
-  -- the same behind other tokens
-  pub joined_next : (before_all : List (List ℕ)) (vs us ws : List S) (i : ℕ) (x w : S) → i < length vs → x ≡ get_or vs i x → map f us ≡ before_all ++ map f (take i vs) → f w ≡ f x → ws ≡ us ++ w ∷ [] → map f ws ≡ before_all ++ map f (take (i + 1) vs)
-  joined_next before_all vs us ws i x w h e before same pushed =
-      ap (map f) pushed ∙ map-append f us (w ∷ []) ∙ (λ j. before j ++ same j ∷ []) ∙ append_assoc before_all (map f (take i vs)) (f x ∷ []) ∙ (λ j. before_all ++ (map f (take i vs) ++ f (e j) ∷ []))
-      ∙ ap (λ l. before_all ++ l) (sym (map-append f (take i vs) (get_or vs i x ∷ [])) ∙ ap (map f) (sym (take_more vs i x h)))
-
 -- what `==` of two lists of tokens says
 pub same_tokens : (xs ys : List (String Global)) → (r : Bool) → r ≡ pointwise (λ a b. bytes_eq (string_bytes a) (string_bytes b)) xs ys → r ≡ pointwise bytes_eq (map string_bytes xs) (map string_bytes ys)
 same_tokens xs ys r e = e ∙ sym (pointwise-map string_bytes bytes_eq xs ys)

@@ -55,10 +55,6 @@ pub edit-item : (k : List ℕ) (i : ℕ) (p : List Step) (w : Write) (is : Items
 edit-item k i p w is e =
     found-item (tree_at (by_token k ∷ p) (list is)) k i p w is e ∙ ap (λ o. edit_found (option_and_then (tree_at p) o) (by_place i ∷ p) w (list is)) (item-named k i is e)
 
--- where it names none, nothing changes
-pub edit-unnamed : (k : List ℕ) (p : List Step) (w : Write) (is : Items) → position_of k ≡ None → edit (by_token k ∷ p) w (list is) ≡ (list is, missing)
-edit-unnamed k p w is e = edit_missing (by_token k) p w (list is) (ap (option_and_then (λ i. nth i (list is))) e)
-
 module _ {T : Type 0} (t : T → List ℕ) where
   -- what was answered at a value, seen from the one that it stands in
   pub answered_below : (s : Step) (p : List Step) (w : Write) (before after u v : Tree) (r : Result (Changed T) AllocError) → step_into s before ≡ Some u → after ≡ set_found s v before

@@ -1,5 +1,5 @@
 -- Writes at a document, whose objects have no key twice.
-use Rattle.std.proofs.Common.{◌≡◌, ℕ, List, Option, Some, None, IfOk, OnOk, OnErr, Result, Ok, Err, inl, inr, sym, ap, ◌∙◌, subst}
+use Rattle.std.proofs.Common.{◌≡◌, ℕ, List, Option, Some, None, IfOk, OnOk, OnErr, Result, Ok, Err, inl, sym, ap, ◌∙◌}
 use Rattle.std.specs.declared.alloc.AllocError.{AllocError}
 use Rattle.sj_text_core.specs.Tree.{Tree, null, boolean, int, text, list, obj}
 use Rattle.sj_text_core.specs.Edits.{last}
@@ -11,7 +11,7 @@ use Rattle.sj_document.specs.declared.value.Document.{Document}
 use Rattle.sj_document.proofs.Kept.{tree_kept}
 use Rattle.sj_run.specs.Answers.{edit, edit_found, changed, old_or_nothing, IsLong}
 use Rattle.sj_run.specs.inner.Changed.{changed_meant, Edits}
-use Rattle.sj_commands.specs.Commands.{PlainCommand, Write, write, insert, remove, push, pop, put}
+use Rattle.sj_commands.specs.Commands.{Write, write, insert, remove, push, pop, put}
 use Rattle.sj_text_core.specs.declared.repeats.Repeats.{Repeats}
 use Rattle.sj_text_core.specs.declared.repeats.Repeats.TheVariants.{First}
 use Rattle.sj_run.specs.Replies.{PlainReply}
@@ -73,7 +73,3 @@ short_found (Some u) p w t h = short_changed w u h
 
 pub short_edit : (p : List Step) (w : Write) (t : Tree) → IsLong (edit p w t).1 → ⊥
 short_edit p w t h = short_found _ p w t h
-
--- what a write that was made leaves, where its reply was refused
-pub leaves_after : (d u : Repeats × Tree) (c : PlainCommand) (p : List Step) (w : Write) → write p w ≡ c → u ≡ (answer_by d (write p w)).0 → Leaves d c u
-leaves_after d u c p w e h = subst (λ (x : PlainCommand). Leaves d x u) e (inr (inr h))

@@ -1,7 +1,6 @@
 -- Steps of a session.
-use Rattle.std.proofs.Common.{◌≡◌, ℕ, ◌+◌, ◌-◌, ◌^◌, ◌<◌, ◌≤◌, true, false, not, List, [], ◌∷◌, ◌++◌, length, take, drop, refl, sym, ap, ◌∙◌, subst, append_assoc, append-nil, length-append, arith, if◌then◌else◌, Result, Ok, Err, true≢false}
-use Rattle.std.specs.Prelude.{OnOk, OnErr, ◌≢◌}
-use Rattle.std.specs.Result.{is_err}
+use Rattle.std.proofs.Common.{◌≡◌, ℕ, ◌+◌, ◌-◌, ◌^◌, ◌<◌, ◌≤◌, not, List, [], ◌∷◌, ◌++◌, length, take, drop, refl, sym, ap, ◌∙◌, subst, append_assoc, length-append, arith, if◌then◌else◌, Result, Err}
+use Rattle.std.specs.Prelude.{◌≢◌}
 use Rattle.std.specs.List.{slice_range}
 use Rattle.std.proofs.lemmas.List.Concat.{flat_map-cons}
 use Rattle.std.proofs.lemmas.Slice.{drop-put_mid}
@@ -17,7 +16,7 @@ use Rattle.sj_text_core.specs.declared.repeats.Repeats.{Repeats}
 use Rattle.sj_text_core.specs.declared.repeats.Repeats.TheVariants.{First}
 use Rattle.sj_run.specs.Repeats.{answer_by, replies_by, part_after, start_by}
 use Rattle.sj_run.specs.Answered.{AnswersLines, PassesLines}
-use Rattle.sj_run.specs.inner.Answered.{ReadsTree, AnswersLine, AnswersText, IsBegunBy, PassesLine, PassesText}
+use Rattle.sj_run.specs.inner.Answered.{ReadsTree, AnswersLine, AnswersText, PassesLine, PassesText}
 use Rattle.sj_run.specs.Replies.{PlainReply}
 use Rattle.sj_run.specs.Shown.{reply_text, shown, shown_all}
 use Rattle.sj_run.specs.Session.{IsAnsweredBy, PassesAllBy, fault_of}
@@ -29,13 +28,8 @@ use Rattle.sj_run.specs.declared.runs.Why.{Why}
 use Rattle.sj_run.specs.declared.runs.Why.TheVariants as why
 use Rattle.sj_text_core.specs.declared.error.ErrorKind.{ErrorKind}
 use Rattle.sj_text_core.specs.declared.error.ErrorKind.TheVariants.{InvalidUtf8, Syntax, LoneSurrogate, Float, NumberTooLarge, TooDeep, OutOfMemory}
-use Rattle.std.proofs.Math.Seq.{take-append_seam}
 use Rattle.sj_commands.specs.Lines.{document, lines, after_mark, full_lines, line_text, line_texts}
 use Rattle.sj_commands.proofs.LineLemmas.{LineAt}
-
--- lines answered in turn
-pub answers-none : (t : Repeats × Tree) (old : List ℕ) → AnswersLines t [] t old old
-answers-none t old = record { commands = []; are = tt; after = refl; shows = sym (append-nil old) }
 
 pub answers-more : (t u v : Repeats × Tree) (line : List ℕ) (lines : List (List ℕ)) (old mid new : List ℕ)
     → AnswersLine t line u old mid → AnswersLines u lines v mid new → AnswersLines t (line ∷ lines) v old new
@@ -99,16 +93,6 @@ text-some b at len n some h =
     rest_of b at len n h ∙ texts-first (take len (drop at b)) (full_lines (drop (at + len) b)) t is
     ∙ full t (line_texts (full_lines (drop (at + len) b))) (omega (arith, length-take-le n (drop at b) (omega (arith, h.within, h.line.within))))
 
--- bytes that stay as they are
-pub begun_same : (old new : List ℕ) → new ≡ old → IsBegunBy old new
-begun_same old new e = record { rest = []; goes_on = e ∙ sym (append-nil old) }
-
-pub begun_more : (old mid new : List ℕ) → IsBegunBy old mid → IsBegunBy mid new → IsBegunBy old new
-begun_more old mid new a b = record { rest = a.rest ++ b.rest; goes_on = b.goes_on ∙ ap (λ x. x ++ b.rest) a.goes_on ∙ append_assoc old a.rest b.rest }
-
-pub grown : (old more new : List ℕ) → new ≡ old ++ more → IsBegunBy old new
-grown old more new e = record { rest = more; goes_on = e }
-
 -- as the code finds a line's text
 pub text_at : (b : List ℕ) (at len n : ℕ) → LineAt b at len → n ≤ length (slice_range b at (at + len)) → take n (slice_range b at (at + len)) ≡ line_text (slice_range b at (at + len)) → TextAt b at len n
 text_at b at len n l h t =
@@ -159,10 +143,6 @@ written_length a at n line h e =
     let post = drop k (drop at a) in
     let same : length line ≡ k = e ∙ part_length a at n h in
     omega (arith, same, length-append (take at a) (line ++ post), length-append line post, length-take-le at a (omega (arith, h)), length-drop k (drop at a), length-drop at a)
-
--- what is left of bytes that went on, cut to their old length
-pub begun_cut : (old new : List ℕ) → IsBegunBy old new → take (length old) new ≡ old
-begun_cut old new h = ap (λ x. take (length old) x) h.goes_on ∙ take-append_seam old h.rest
 
 pub refused_kind : {X : Type 0} (kind k : ErrorKind) (r : SessionFault) → (kind ≡ OutOfMemory → r ≡ NoMemory) → (kind ≢ OutOfMemory → r ≡ Refused kind)
     → ◌≡◌ {A = Result X SessionFault} (Err r) (Err (Refused k)) → (k ≢ OutOfMemory) × (kind ≢ OutOfMemory)
@@ -217,14 +197,6 @@ session_answered r f input part behind old new e lines_are a = (
     replies = refl;
   },
 )
-
-pub on_ok_then : {A E P : Type 0} (r : Result A E) → is_err r ≡ false → OnOk r P → P
-on_ok_then (Ok x) e h = h
-on_ok_then (Err x) e h = absurd (true≢false e)
-
-pub on_err_then : {A E P : Type 0} (r : Result A E) → is_err r ≡ true → OnErr r P → P
-on_err_then (Ok x) e h = absurd (true≢false (sym e))
-on_err_then (Err x) e h = h
 
 -- the command lines, as the code cuts them
 pub lines_behind : (input behind : List ℕ) (at next : ℕ) → at ≤ next → next ≤ length input → behind ≡ drop at input → full_lines (drop next input) ≡ after_mark (full_lines input)

@@ -2,8 +2,9 @@
 
 ghost use Rattle.std.specs.Prelude.{◌≡◌, ◌↔◌, map, option_map, length, IfOk, IfSome, OnOk, OnErr, IsErrOf};
 ghost use Rattle.sj_text_core.specs.Paths.{step_into_by, token_into_by, tree_at_by};
+ghost use Rattle.sj_text_core.specs.inner.Begun.{IsBegunBy};
 ghost use Rattle.sj_run.specs.Answers.{fits_in, IsLong};
-ghost use Rattle.sj_run.specs.inner.Answered.{AnswersCommand, IsBegunBy, PassesOne};
+ghost use Rattle.sj_run.specs.inner.Answered.{AnswersCommand, PassesOne};
 ghost use Rattle.sj_commands.specs.Commands as command;
 ghost use Rattle.sj_run.specs.inner.Found.{found_meant};
 ghost use Rattle.sj_commands.specs.Meant.{read_meant, step_meant, width_meant};

@@ -4,12 +4,13 @@ ghost use Rattle.std.specs.Prelude.{◌≡◌, ◌↔◌, map, length, IfOk, OnO
 ghost use Rattle.sj_text_core.specs.Tree.{Tree};
 ghost use Rattle.sj_text_core.specs.declared.repeats.Repeats.{Repeats};
 ghost use Rattle.sj_text_core.specs.declared.repeats.Repeats.TheVariants.{First};
+ghost use Rattle.sj_text_core.specs.inner.Begun.{IsBegunBy};
 ghost use Rattle.sj_document.specs.Document.{document_tree};
 ghost use Rattle.sj_lazy.specs.Value.{value_part};
 ghost use Rattle.sj_commands.specs.Commands as command;
 ghost use Rattle.sj_commands.specs.Meant.{command_meant, read_meant, step_meant, write_meant};
 ghost use Rattle.sj_run.specs.Answers.{IsLong};
-ghost use Rattle.sj_run.specs.inner.Answered.{AnswersCommand, IsBegunBy, PassesOne};
+ghost use Rattle.sj_run.specs.inner.Answered.{AnswersCommand, PassesOne};
 ghost use Rattle.sj_run.specs.inner.Changed.{changed_meant};
 ghost use Rattle.sj_run.specs.Meant.{reply_meant};
 ghost use Rattle.sj_run.specs.Repeats.{answer_by};

@@ -11,7 +11,7 @@ use Rattle.sj_tape.specs.declared.node.Node.TheVariants.{Static, String, Array, 
 use Rattle.sj_tape.specs.Marks.{static_mark, mark, marks}
 use Rattle.sj_tape.specs.inner.Fronts.{BeginsTree, AllBegin, BeginsItems, BeginsMembers}
 use Rattle.sj_tape.proofs.Counts.{items_count, members_count}
-use Rattle.sj_tape.proofs.Splits.{flat-append, first_width, width-flat}
+use Rattle.sj_tape.proofs.Splits.{first_width, width-flat}
 
 -- ---- at one node
 
@@ -103,14 +103,6 @@ pub AllBegin-preorder : (ns : List Mark) → IsPreorder ns → AllBegin ns
 AllBegin-preorder ns p = subst (λ l. AllBegin l) (append-nil (flat (tree_of ns)) ∙ sym p) (AllBegin-flat (tree_of ns) [] tt)
 
 -- ---- the whole
-
--- a preorder is its first tree, and nothing behind it
-pub preorder_alone : (ns first rest : List Mark) → IsPreorder first → ns ≡ first ++ rest → IsPreorder ns → rest ≡ []
-preorder_alone ns first rest f e p =
-    (flat-append (tree_of first) (tree_of ns) rest [] (ap (λ l. l ++ rest) (sym f) ∙ (sym e ∙ (p ∙ sym (append-nil (flat (tree_of ns))))))).1
-
-pub preorder_first : (ns first rest : List Mark) → IsPreorder first → ns ≡ first ++ rest → rest ≡ [] → IsPreorder ns
-preorder_first ns first rest f e h = subst (λ l. IsPreorder l) (sym (e ∙ (ap (λ l. first ++ l) h ∙ append-nil first))) f
 
 -- ---- the tests
 

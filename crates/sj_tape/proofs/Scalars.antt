@@ -1,9 +1,7 @@
 -- One step of reading a value.
-use Rattle.std.proofs.Common.{◌≡◌, ◌≢◌, ℕ, true, false, codes, ◌+◌, ◌<◌, List, [], ◌∷◌, length, drop, get_or, option_map, refl, sym, ap, ◌∙◌, arith}
+use Rattle.std.proofs.Common.{◌≡◌, ◌≢◌, ℕ, true, false, codes, ◌+◌, ◌<◌, List, [], ◌∷◌, length, drop, get_or, option_map, refl, sym, ap, ◌∙◌}
 use Rattle.std.proofs.lemmas.List.{drop_more}
-use Rattle.std.proofs.lemmas.Grind.{common_steps}
-use Rattle.std.proofs.lemmas.Bool.Decides.{nat_tests}
-use Rattle.std.proofs.Common.{Result, Ok, Err, OnErr, None}
+use Rattle.std.proofs.Common.{Result, Ok, Err, OnErr}
 use Rattle.sj_text_core.specs.Tree.{Tree, null, boolean, text}
 use Rattle.sj_text_core.specs.Nodes.{flat}
 use Rattle.sj_tape.specs.Marks.{static_mark}
@@ -56,12 +54,3 @@ flat-static (I64 n) = refl
 flat-static (U64 n) = refl
 flat-static (I128 n) = refl
 flat-static (U128 n) = refl
-
--- a value that begins with no byte of another one
-pub nothing_else : (f g : List ℕ → Reading Tree) (b : List ℕ) (i : ℕ) → i < length b → 57 < get_or b i 0 → get_or b i 0 ≢ 91 → get_or b i 0 ≢ 123 → get_or b i 0 ≢ 110 → get_or b i 0 ≢ 116 → get_or b i 0 ≢ 102
-    → value_by f g (drop i b) ≡ None
-nothing_else f g b i h low h2 h3 h4 h5 h6 =
-    other_at f g b i h (omega (arith, low)) h2 h3 h4 h5 h6 ∙ (ap (λ l. number_at l) (drop_more b i 0 h) ∙ no_digit (get_or b i 0) (drop (i + 1) b) low)
-  where
-    no_digit : (c : ℕ) (b : List ℕ) → 57 < c → number_at (c ∷ b) ≡ None
-    no_digit c b h = grind (arith, common_steps, nat_tests)

@@ -8,20 +8,12 @@ use Rattle.sj_text_core.specs.Nodes.{Mark, flat, array, object}
 use Rattle.sj_text_core.proofs.parse.Values.{in_list, in_obj, value_is}
 use Rattle.sj_text_core.specs.inner.Parse.{Reading, parts_at, all_parts_at, after_blank, list_at, obj_at, read_value, value_by, nothing_at, read_tree, read_whole}
 use Rattle.sj_text_core.specs.Tree.{items_from, members_from}
-use Rattle.std.proofs.Common.{Result, Ok, Err, IfErr}
-use Rattle.sj_text_core.specs.declared.error.ErrorKind.{ErrorKind}
 use Rattle.sj_tape.proofs.Parts.{item_flats, member_flats, items_len-from, members_len-from}
 use Rattle.sj_tape.proofs.Places.{at_byte}
 
 -- no value past the end
 pub value_at_end : (d : ℕ) (b : List ℕ) (i : ℕ) → length b ≤ i → read_value d (drop i b) ≡ None
 value_at_end d b i h = ap (λ l. read_value d l) (drop_all i b h) ∙ value_is d []
-
-by_list : (f g : List ℕ → Reading Tree) (b : List ℕ) → value_by f g (91 ∷ b) ≡ f b
-by_list f g b = refl
-
-by_obj : (f g : List ℕ → Reading Tree) (b : List ℕ) → value_by f g (123 ∷ b) ≡ g b
-by_obj f g b = refl
 
 by_other : (f g : List ℕ → Reading Tree) (c : ℕ) (b : List ℕ) → c ≢ 91 → c ≢ 123 → value_by f g (c ∷ b) ≡ value_by nothing_at nothing_at (c ∷ b)
 by_other f g c b h k = grind (arith, common_steps, nat_tests)
@@ -82,17 +74,6 @@ flat_list_is ts len count e f = ap (λ n. array n (length (item_flats ts)) ∷ i
 -- the nodes of an object
 pub flat_obj_is : (ms : List (List ℕ × Tree)) (len count : ℕ) → len ≡ length ms → count ≡ length (member_flats ms) → flat (obj (members_from ms)) ≡ object len count ∷ member_flats ms
 flat_obj_is ms len count e f = ap (λ n. object n (length (member_flats ms)) ∷ member_flats ms) (members_len-from ms ∙ sym e) ∙ ap (λ n. object len n ∷ member_flats ms) (sym f)
-
--- what fails by another way to read
-pub errs_by : {T X : Type 0} (read read' : Reading X) (r : Result T ErrorKind) (e : ErrorKind) → read ≡ read' → IfErr r (λ k. k ≢ e → read' ≡ None) → IfErr r (λ k. k ≢ e → read ≡ None)
-errs_by read read' (Ok x) e h g = tt
-errs_by read read' (Err k) e h g = λ n. h ∙ g n
-
--- bytes that are left behind the value
-pub trailing : (d : ℕ) (b : List ℕ) (s after k : ℕ) (t : Tree) → drop s b ≡ after_blank b → read_value d (drop s b) ≡ Some (t, drop after b) → drop k b ≡ after_blank (drop after b) → k < length b → read_tree d b ≡ None
-trailing d b s after k t e f g h =
-    let v : read_value d (after_blank b) ≡ Some (t, drop after b) = ap (λ l. read_value d l) (sym e) ∙ f in
-    ap (λ o. option_and_then (λ p. read_whole p.0 (after_blank p.1)) o) v ∙ (ap (λ l. read_whole t l) (sym g) ∙ ap (λ l. read_whole t l) (drop_more b k 0 h))
 
 -- nothing is left behind the value
 pub whole : (d : ℕ) (b : List ℕ) (s after k : ℕ) (t : Tree) → drop s b ≡ after_blank b → read_value d (drop s b) ≡ Some (t, drop after b) → drop k b ≡ after_blank (drop after b) → length b ≤ k → read_tree d b ≡ Some t

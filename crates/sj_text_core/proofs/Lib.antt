@@ -20,3 +20,4 @@ pub mod Texts
 pub mod Paths
 pub mod Words
 pub mod Writes
+pub mod Begun

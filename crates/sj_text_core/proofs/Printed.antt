@@ -11,7 +11,7 @@ use Rattle.std.proofs.lemmas.Str.{encode_ascii, inside_one}
 use lib.Utf8.{scalar, scalars, encode, encodes, low_scalar}
 use lib.Dec.{leb→le}
 use Rattle.sj_text_core.specs.Tree.{Carrier, i64, u64, i128, u128, Carries, Tree, null, boolean, int, text, list, obj, Items, no_items, item, Members, no_members, member, IsProper, AreProper, HasProper}
-use Rattle.sj_text_core.specs.Grammar.{IsBlank, IsDigit, IsNumeral, IsNumber, value_of, number_of, short_escape, IsItem, AreItems, IsString, Spaced, Spelling, SpellsItems, MoreItems, SpellsMembers, MoreMembers, Spells}
+use Rattle.sj_text_core.specs.Grammar.{IsBlank, IsDigit, IsNumber, value_of, number_of, short_escape, IsItem, AreItems, IsString, Spaced, Spelling, SpellsItems, MoreItems, SpellsMembers, MoreMembers, Spells}
 use Rattle.sj_text_core.specs.Print.{hex_digit, escaped, quoted, compact, compact_items, compact_members, new_line, pretty, pretty_items, pretty_members, printed_carrier, recarry, recarry_items, recarry_members}
 use Rattle.sj_text_core.proofs.Escapes.{escaped_plain, escaped-append, escaped_high}
 
@@ -47,9 +47,6 @@ decimal_is = decimal_by_steps_wide Decimal one more where
     value = let front : fold (λ m c. m * 10 + (c - 48)) 0 ds ≡ n / 10 = d.value in fold-append (λ (m c : ℕ). m * 10 + (c - 48)) 0 ds ((48 + n % 10) ∷ []) ∙ omega (arith, front);
     plain = λ e. let only : ds ≡ 48 ∷ [] = d.plain (sym (first_stays ds (48 + n % 10) d.some) ∙ e) in let zeroes : n / 10 ≡ 0 = sym d.value ∙ ap value_of only in absurd (omega (arith, zeroes, h));
   }
-
-numeral : (n : ℕ) → n < 10 ^ 64 → IsNumeral (decimal n)
-numeral n h = let d = decimal_is n h in record { some = d.some; digits = d.digits; plain = d.plain }
 
 pos_by : (n : ℕ) (x y : Bool) → y ≡ true → (if x then Some (int (pos n) u64) else if y then Some (int (pos n) u128) else None) ≡ Some (int (pos n) (if x then u64 else u128))
 pos_by n true y e = refl

@@ -1,7 +1,7 @@
 -- What is spelled is proper, and what spells is UTF-8.
 use Rattle.std.proofs.Common.{◌≡◌, ℕ, zero, suc, ◌≤ℤ◌, ◌<ℤ◌, ◌<◌, ◌≤◌, ◌^◌, pos, neg_ℤ, Bool, true, false, List, [], ◌∷◌, ◌++◌, IsUtf8, Some, None, refl, sym, subst, arith, ⊎_elim, nat_lt, nat_le, ◌&&◌, if◌then◌else◌, codes}
 use Rattle.std.specs.List.{AllByRecursion}
-use Rattle.std.proofs.lemmas.Bool.{ltb-true, leb-true, and_parts}
+use Rattle.std.proofs.lemmas.Bool.{ltb-true, leb-true}
 use Rattle.std.proofs.lemmas.Option.{none-some, same_Some}
 use Rattle.std.proofs.lemmas.Str.{IsUtf8-append, IsUtf8-nil, IsUtf8-encode, encode_ascii}
 use lib.Utf8.{low_scalar}
@@ -20,10 +20,6 @@ all_ascii (c ∷ p) h = ascii c p h.0 (all_ascii p h.1)
 abbrev pub is_ascii : List ℕ → Bool
 is_ascii [] = true
 is_ascii (c ∷ p) = nat_lt c 128 && is_ascii p
-
-pub ascii_text : (p : List ℕ) → is_ascii p ≡ true → IsUtf8 p
-ascii_text [] h = IsUtf8-nil
-ascii_text (c ∷ p) h = let k = and_parts (nat_lt c 128) (is_ascii p) h in ascii c p (ltb-true c 128 k.0) (ascii_text p k.1)
 
 space_ascii : (c : ℕ) → IsSpace c → c < 128
 space_ascii c h = ⊎_elim (λ e. omega (arith, e)) (λ h. ⊎_elim (λ e. omega (arith, e)) (λ h. ⊎_elim (λ e. omega (arith, e)) (λ e. omega (arith, e)) h) h) h

@@ -9,13 +9,6 @@ use Rattle.std.proofs.lemmas.Bool.Decides.{nat_tests}
 pub bytes_same : (a b : List ℕ) → a ≡ b → bytes_eq a b ≡ true
 bytes_same a b e = (bytes_eq-Decides a b).1 e
 
--- what is seen to differ is not the same
-pub bytes_differ : (f : List ℕ → ℕ) (a b : List ℕ) → f a ≢ f b → bytes_eq a b ≡ false
-bytes_differ f a b n = by_test (bytes_eq a b) refl where
-  by_test : (c : Bool) → bytes_eq a b ≡ c → c ≡ false
-  by_test false e = refl
-  by_test true e = absurd (n (ap f ((bytes_eq-Decides a b).0 e)))
-
 module _ (m p : ℕ) (a b : List ℕ) (e : take m (drop p a) ≡ take m (drop p b)) where
   same_part : (i : ℕ) → i < m → get_or a (p + i) 0 ≡ get_or b (p + i) 0
   same_part i l = sym (get_or-take m (drop p a) i 0 l ∙ get_or-drop p a i 0) ∙ ap (λ xs. get_or xs i 0) e ∙ get_or-take m (drop p b) i 0 l ∙ get_or-drop p b i 0

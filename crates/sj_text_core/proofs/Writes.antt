@@ -128,9 +128,6 @@ module _ (s : Step) (p : List Step) (t : Tree) where
   set_further : (w u : Tree) → step_into s t ≡ Some w → set_at (s ∷ p) u t ≡ set_found s (set_at p u w) t
   set_further w u e = ap (λ o. change_found o s (set_at p u) t) e
 
-  at_further : (w : Tree) → step_into s t ≡ Some w → tree_at (s ∷ p) t ≡ tree_at p w
-  at_further w e = ap (option_and_then (tree_at p)) e
-
   at_set_by : (o : Option Tree) → step_into s t ≡ o → (u w : Tree) → option_and_then (tree_at p) o ≡ Some w → ((x : Tree) → tree_at p x ≡ Some w → tree_at p (set_at p u x) ≡ Some u) → tree_at (s ∷ p) (set_at (s ∷ p) u t) ≡ Some u
   at_set_by None f u w e ih = cc
   at_set_by (Some x) f u w e ih =

@@ -4,3 +4,4 @@ pub mod Agree
 pub mod Find
 pub mod Nodes
 pub mod ScalarValues
+pub mod Begun

@@ -1,7 +1,6 @@
 -- Keys that are named below a place, one place after another.
-use Rattle.std.proofs.Common.{◌≡◌, ℕ, Bool, true, false, List, [], ◌∷◌, ◌++◌, Option, refl, sym, ap, ◌∙◌, subst}
+use Rattle.std.proofs.Common.{◌≡◌, ℕ, Bool, true, false, List, [], ◌∷◌, ◌++◌, refl, ap, ◌∙◌}
 use Rattle.std.specs.Prelude.{◌||◌, bytes_eq}
-use Rattle.std.proofs.lemmas.Slice.Eq.{bytes_eq-Decides}
 use Rattle.sjconf.specs.Demands.{is_named, is_one_of, is_that, next_of}
 
 pub or-false : (a : Bool) → (a || false) ≡ a
@@ -12,19 +11,10 @@ or-moves : (a b c : Bool) → (a || (b || c)) ≡ ((a || b) || c)
 or-moves true b c = refl
 or-moves false b c = refl
 
-or-known : (a b : Bool) → (b ≡ true → a ≡ true) → a ≡ (a || b)
-or-known true b h = refl
-or-known false true h = h refl
-or-known false false h = refl
-
 -- one more key
 pub one_of-append : (k : List ℕ) (ls : List (List ℕ)) (l : List ℕ) → is_one_of k (ls ++ l ∷ []) ≡ (is_one_of k ls || bytes_eq l k)
 one_of-append k [] l = or-false (bytes_eq l k)
 one_of-append k (x ∷ ls) l = ap (λ (b : Bool). bytes_eq x k || b) (one_of-append k ls l) ∙ or-moves (bytes_eq x k) (is_one_of k ls) (bytes_eq l k)
-
--- one that is among them
-pub one_of-again : (k : List ℕ) (ls : List (List ℕ)) (l : List ℕ) → is_one_of l ls ≡ true → is_one_of k ls ≡ (is_one_of k ls || bytes_eq l k)
-one_of-again k ls l h = or-known (is_one_of k ls) (bytes_eq l k) (λ e. subst (λ (x : List ℕ). is_one_of x ls ≡ true) ((bytes_eq-Decides l k).0 e) h)
 
 -- one more place
 pub named-append : (k : List ℕ) (p : List (List ℕ)) (qs : List (List (List ℕ))) (q : List (List ℕ)) → is_named k p (qs ++ q ∷ []) ≡ (is_named k p qs || is_that k (next_of p q))

@@ -1,5 +1,5 @@
 -- Lines routed one after another.
-use Rattle.std.proofs.Common.{◌≡◌, ◌≢◌, ℕ, Bool, true, List, [], ◌∷◌, Option, Some, None, Result, Ok, Err, IsUtf8, refl, sym, ap, ◌∙◌, subst, inl, inr}
+use Rattle.std.proofs.Common.{◌≡◌, ◌≢◌, ℕ, Bool, true, List, ◌∷◌, Option, Some, None, Result, Ok, Err, IsUtf8, refl, sym, ap, ◌∙◌, subst, inl, inr}
 use Rattle.std.specs.Prelude.{◌⊎◌, ◌↔◌, IsTrue}
 use Rattle.std.proofs.lemmas.Option.{same_Some}
 use Rattle.sj_text_core.specs.Tree.{Tree, IsWithin}
@@ -19,15 +19,9 @@ use Rattle.sjroute.specs.declared.routing.Route.{Route}
 abbrev pub GoesOn : List (ℕ × List ℕ) → List Route → List (ℕ × List ℕ) → List Route → Type 0
 GoesOn all first ahead now = (last : List Route) → Routed ahead now last → Routed all first last
 
-pub goes-first : (all : List (ℕ × List ℕ)) (rs : List Route) → GoesOn all rs all rs
-goes-first all rs = λ last h. h
-
 pub goes-on : (all : List (ℕ × List ℕ)) (first : List Route) (p : ℕ × List ℕ) (old new : List (ℕ × List ℕ)) (rs ms : List Route) → GoesOn all first old rs
     → old ≡ p ∷ new → IsMessage p.1 rs ms ⊎ IsBroken p.1 rs ms → GoesOn all first new ms
 goes-on all first p old new rs ms g e one = λ last h. g last (subst (λ (ps : List (ℕ × List ℕ)). Routed ps rs last) (sym e) (ms, one, h))
-
-pub goes-last : (all : List (ℕ × List ℕ)) (first now : List Route) (ahead : List (ℕ × List ℕ)) → GoesOn all first ahead now → ahead ≡ [] → Routed all first now
-goes-last all first now ahead g e = g now (subst (λ (ps : List (ℕ × List ℕ)). Routed ps now now) (sym e) refl)
 
 some_text-is : (x y : List ℕ) → Some x ≡ Some y → x ≡ y
 some_text-is x y e = ap (λ (o : Option (List ℕ)). elim o [ Some v ↦ v | None ↦ x ]) e

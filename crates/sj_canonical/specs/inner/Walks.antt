@@ -9,11 +9,6 @@ use Rattle.sj_canonical.specs.declared.walk.Ahead.{Ahead}
 use Rattle.sj_canonical.specs.declared.walk.Ahead.TheVariants as ahead
 use Rattle.sj_canonical.specs.declared.walk.Open.{Open}
 
--- bytes that begin with those, and go on in some way
-pub record IsBegunBy (old new : List ℕ) : Type 0 where
-  pub more : List ℕ
-  pub goes_on : new ≡ old ++ more
-
 -- bytes were appended, one at least; with what is left now they make what was left
 pub record Moves (old new left now : List ℕ) : Type 0 where
   pub done : List ℕ

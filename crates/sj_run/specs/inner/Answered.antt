@@ -19,11 +19,6 @@ pub record ReadsTree (c : Repeats) (b : List ℕ) (u : Tree) : Type 0 where
   pub within : IsWithin tree
   pub kept : u ≡ keep_by c tree
 
--- bytes that begin with those, and go on in some way
-pub record IsBegunBy (old new : List ℕ) : Type 0 where
-  pub rest : List ℕ
-  pub goes_on : new ≡ old ++ rest
-
 -- a command was answered: the choice and the tree d became u, and the output grew by the text of the reply
 pub record AnswersCommand (d : Repeats × Tree) (c : PlainCommand) (u : Repeats × Tree) (old new : List ℕ) : Type 0 where
   pub after : u ≡ (answer_by d c).0

@@ -1,7 +1,7 @@
 //! What a write answers, as a reply and written out.
 
 ghost use Rattle.std.specs.Prelude.{◌≡◌, ◌+◌, ◌^◌, ◌≤◌, ◌++◌, length, IfOk, OnOk, OnErr, IsErrOf};
-ghost use Rattle.sj_run.specs.inner.Answered.{IsBegunBy};
+ghost use Rattle.sj_text_core.specs.inner.Begun.{IsBegunBy};
 ghost use Rattle.sj_run.specs.inner.Changed.{changed_meant};
 ghost use Rattle.sj_run.specs.Meant.{reply_meant};
 ghost use Rattle.sj_run.specs.Shown.{reply_text};

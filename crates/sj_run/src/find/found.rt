@@ -5,7 +5,7 @@ ghost use Rattle.std.specs.Fmt.{signed_decimal};
 ghost use Rattle.sj_text_core.specs.Print.{quoted};
 ghost use Rattle.sj_text_core.specs.Reads.{as_members};
 ghost use Rattle.sj_text_core.specs.Tree.{keys_of, members_from};
-ghost use Rattle.sj_run.specs.inner.Answered.{IsBegunBy};
+ghost use Rattle.sj_text_core.specs.inner.Begun.{IsBegunBy};
 ghost use Rattle.sj_run.specs.Answers.{IsLong, keys_reply};
 ghost use Rattle.sj_run.specs.inner.Found.{found_meant};
 ghost use Rattle.sj_run.specs.Meant.{reply_meant};

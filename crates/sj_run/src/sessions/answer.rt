@@ -2,8 +2,9 @@
 //! text of its own first.
 
 ghost use Rattle.std.specs.Prelude.{◌≡◌, length, OnOk, OnErr, IsErrOf};
+ghost use Rattle.sj_text_core.specs.inner.Begun.{IsBegunBy};
 ghost use Rattle.sj_run.specs.Answered.{AnswersLines, PassesLines};
-ghost use Rattle.sj_run.specs.inner.Answered.{AnswersCommand, AnswersLine, IsBegunBy, PassesOne, PassesLine};
+ghost use Rattle.sj_run.specs.inner.Answered.{AnswersCommand, AnswersLine, PassesOne, PassesLine};
 ghost use Rattle.sj_commands.specs.Lines.{full_lines, line_texts};
 ghost use Rattle.sj_commands.specs.Meant.{request_meant};
 

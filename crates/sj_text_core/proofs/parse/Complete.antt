@@ -5,7 +5,7 @@ use Rattle.std.proofs.lemmas.Bool.Decides.{nat_tests}
 use Rattle.std.proofs.lemmas.List.{drop_at, take_at}
 use Rattle.sj_text_core.specs.Tree.{Tree, null, boolean, int, text, list, obj, Items, no_items, item, Members, no_members, member, depth, items_depth, members_depth, items_len, members_len, listed, paired}
 use Rattle.sj_text_core.specs.Grammar.{IsSpace, IsBlank, IsDigit, IsString, IsNumeral, IsNumber, Spaced, Spelling, MoreItems, MoreMembers, value_of, number_of}
-use Rattle.sj_text_core.specs.inner.Parse.{Reading, is_space, after_blank, read_text, is_digit, digits_len, goes_on, numeral_at, number_at, separator_at, separator_or, with_first, parts_at, all_parts_at, list_at, obj_at, read_member, after_key, read_value}
+use Rattle.sj_text_core.specs.inner.Parse.{Reading, is_space, after_blank, read_text, is_digit, digits_len, goes_on, numeral_at, separator_at, separator_or, with_first, parts_at, all_parts_at, list_at, obj_at, read_member, after_key, read_value}
 use Rattle.sj_text_core.specs.Tree.{items_from, members_from}
 use Rattle.sj_text_core.proofs.parse.Strings.{string_read}
 use Rattle.sj_text_core.proofs.parse.Numbers.{numeral_is}
@@ -92,20 +92,6 @@ numeral_read m p r t h e f =
     let front : take (length p) (p ++ r) ≡ p = take_at p r (length p) refl in
     ap (λ k. numeral_at m k (p ++ r)) n ∙ (numeral_is m (length p) (p ++ r) t (λ z. omega (arith, h.some, z)) (plain_front p r h)
     (ap (λ l. goes_on l) back ∙ e.plain) (ap (λ l. number_of m (value_of l)) front ∙ f) ∙ ap (λ l. Some (t, l)) back)
-
--- a number is read as far as it goes
-pub number_again : (p r : List ℕ) (t : Tree) → IsNumber p t → Ends r → number_at (p ++ r) ≡ Some (t, r)
-number_again p r t h e = ⊎_elim
-    (λ k. number_plain p r k.0 ∙ numeral_read false p r t k.0 e k.1)
-    (λ k. ap (λ l. number_at (l ++ r)) k.1 ∙ numeral_read true k.0 r t k.2 e k.3)
-    h
-  where
-    no_minus : (c : ℕ) → IsDigit c → (c == 45) ≡ false
-    no_minus c h = grind (arith, nat_tests)
-
-    number_plain : (p r : List ℕ) → IsNumeral p → number_at (p ++ r) ≡ numeral_at false (digits_len (p ++ r)) (p ++ r)
-    number_plain [] r h = absurd (omega (arith, h.some))
-    number_plain (c ∷ p) r h = ap (λ t. cond t (numeral_at true (digits_len (p ++ r)) (p ++ r)) (numeral_at false (digits_len (c ∷ (p ++ r))) (c ∷ (p ++ r)))) (no_minus c h.digits.0)
 
 -- texts
 text_value : (d : ℕ) (i s r : List ℕ) → read_text (i ++ (34 ∷ r)) ≡ Some (s, r) → read_value d (34 ∷ (i ++ (34 ∷ r))) ≡ Some (text s, r)

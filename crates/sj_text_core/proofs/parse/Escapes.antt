@@ -205,9 +205,6 @@ encode_len c = subst (λ (n : ℕ). n ≤ 4) (sym (length-encode c)) (grind arit
 pub one_escape : (x c : ℕ) (b : List ℕ) → short_escape x ≡ Some c → Escape (x ∷ b) c 1
 one_escape x c b e = record { some = omega arith; fits = omega arith; item = inr (inl (record { second = x; is = refl; names = e })); ascii = short_ascii x c e; room = omega (arith, ap (λ (l : List ℕ). length l) (encode_ascii c (short_scalar x c e))) }
 
-pub none_short : short_escape 0 ≡ None
-none_short = refl
-
 pub short_sound : (b : List ℕ) (c n : ℕ) → option_map {U = ℕ × ℕ} (λ c. (c, 1)) (short_escape (get_or b 0 0)) ≡ Some (c, n) → Escape b c n
 short_sound b c n e = by (short_escape (get_or b 0 0)) refl e
   where
@@ -227,10 +224,6 @@ high_range u e = let k = and_parts (nat_le 0xD800 u) _ e in (grind (arith, nat_t
 
 pub low_range : (u : ℕ) → is_low u ≡ true → (0xDC00 ≤ u) × (u ≤ 0xDFFF)
 low_range u e = let k = and_parts (nat_le 0xDC00 u) _ e in (grind (arith, nat_tests), grind (arith, nat_tests))
-
--- behind the `u`
-pub behind_u : (b : List ℕ) → take 5 (117 ∷ b) ≡ 117 ∷ take 4 b
-behind_u b = refl
 
 -- what was read behind a backslash, as a relation
 pub escape_sound : (b : List ℕ) (c n : ℕ) → escape_at b ≡ Some (c, n) → Escape b c n

@@ -1,6 +1,5 @@
 -- Digits and what they write.
-use Rattle.std.proofs.Common.{◌≡◌, ◌≢◌, ℕ, ◌+◌, ◌-◌, ◌*◌, ◌^◌, ◌<◌, ◌≤◌, Bool, false, List, [], ◌∷◌, length, take, drop, get_or, lit<, Some, fold, sym, ap, ◌∙◌, arith}
-use Rattle.std.proofs.Math.Nat.{pow-le-pow_right}
+use Rattle.std.proofs.Common.{◌≡◌, ◌≢◌, ℕ, ◌+◌, ◌-◌, ◌*◌, ◌<◌, ◌≤◌, Bool, false, List, [], ◌∷◌, length, take, drop, get_or, Some, fold, sym, ap, ◌∙◌, arith}
 use Rattle.std.proofs.lemmas.List.Sums.{fold-append}
 use Rattle.std.proofs.lemmas.List.{take-append-drop, take_more}
 use Rattle.std.proofs.lemmas.Grind.{common_steps}
@@ -29,12 +28,6 @@ value_of_more ds i h = ap (λ xs. value_of xs) (take_more ds i 0 h) ∙ fold-app
 -- where the digits so far and one more pass a limit, all digits do
 pub too_large : (ds : List ℕ) (i n d limit : ℕ) → i < length ds → n ≡ value_of (take i ds) → get_or ds i 0 ≡ d → limit ≤ n * 10 + (d - 48) → limit ≤ value_of ds
 too_large ds i n d limit h e f k = omega (arith, value_of-take ds (i + 1), value_of_more ds i h, ap (λ (m : ℕ). m * 10) e, f)
-
--- 19 digits fit a word
-pub next_digit_fits : (n i : ℕ) → n < 10 ^ i → i < 19 → n * 10 + 9 < 2 ^ 64
-next_digit_fits n i h k =
-    let e : 10 ^ i ≤ 10 ^ 18 = pow-le-pow_right {n = 10} (lit< tt) {i = i} {j = 18} (omega arith) in
-    omega (arith, e)
 
 -- a numeral that is read
 pub numeral_is : (minus : Bool) (n : ℕ) (b : List ℕ) (t : Tree) → n ≢ 0 → (get_or b 0 0 ≡ 48 → n ≤ 1) → goes_on (drop n b) ≡ false

@@ -1,6 +1,7 @@
 use Rattle.std.proofs.Common.{◌++◌, sym, ap, ◌∙◌, length, arith}
 use Rattle.sj_canonical.specs.inner.Walks.{canonical_rest}
-use Rattle.sj_canonical.proofs.Rests.{rest_push, moves-whole, moves-fewer, begun-on}
+use Rattle.sj_text_core.proofs.Begun.{begun-on}
+use Rattle.sj_canonical.proofs.Rests.{rest_push, moves-whole, moves-fewer}
 use Rattle.sj_canonical.proofs.walk.walk.Goals as goal
 
 pub loop-opened-smaller : goal.loop-opened-smaller

@@ -1,7 +1,8 @@
 use Rattle.std.proofs.Common.{◌≡◌, ◌++◌, length}
 use Rattle.sj_text_core.specs.Print.{compact}
 use Rattle.sj_canonical.specs.Canonical.{canonical_by}
-use Rattle.sj_canonical.specs.inner.Walks.{IsBegunBy, canonical_rest}
+use Rattle.sj_text_core.specs.inner.Begun.{IsBegunBy}
+use Rattle.sj_canonical.specs.inner.Walks.{canonical_rest}
 use Rattle.sj_canonical.proofs.walk.walk.Given as goal
 
 abbrev pub invariant-loop-opened : goal.invariant-loop-opened

@@ -1,10 +1,11 @@
 use Rattle.std.proofs.Common.{ℕ, ◌+◌, List, drop, take, length, arith, rules, subst, sym, ap, ◌∙◌}
 use Rattle.std.proofs.lemmas.List.{length-drop, drop-drop}
+use Rattle.sj_text_core.proofs.Begun.{begun, begun-on}
 use Rattle.sj_run.specs.Answered.{PassesLines}
 use Rattle.sj_run.specs.inner.Answered.{AnswersLine, PassesLine}
 use Rattle.sj_commands.specs.Lines.{full_lines, line_texts}
 use Rattle.sj_commands.proofs.LineLemmas.{line_at}
-use Rattle.sj_run.proofs.SessionLemmas.{TextAt, text_at, text_ahead, text-none, text-some, told-more, told-passed, passes_first, passes_more, line_taken, behind_line, begun_more, grown, written_length, part_length}
+use Rattle.sj_run.proofs.SessionLemmas.{TextAt, text_at, text_ahead, text-none, text-some, told-more, told-passed, passes_first, passes_more, line_taken, behind_line, written_length, part_length}
 use Rattle.sj_run.proofs.sessions.answer.answer_lines.Goals as goal
 
 pub loop-at-preserved-in_ok-answer_line : goal.loop-at-preserved-in_ok-answer_line
@@ -28,7 +29,7 @@ loop-at-preserved-in_ok-answer_line g c =
       within = omega (arith, h.line.within, length-drop at b);
       same_length = written_length a at n c.answer_line.new.line (omega (arith, h.line.within, h.within, length-drop at b, i.same_length)) c.answer_line.auto.line ∙ i.same_length;
       ahead = behind_line a b c.answer_line.new.line at n len (omega arith) h.within (c.answer_line.auto.line ∙ part_length a at n (omega (arith, h.line.within, h.within, length-drop at b, i.same_length))) i.ahead;
-      begun = begun_more c.args.out.now.items out mid i.begun (grown out _ mid a1.shows);
+      begun = begun-on c.args.out.now.items out mid i.begun (begun out _ mid a1.shows);
       told = told-more (g.V.Root.part c.args.value.now) t v (line_texts (full_lines b)) rest (line_texts (full_lines (drop at b))) line c.args.out.now.items out mid i.told some a1;
       passes = λ k. i.passes (subst (λ (ls : List (List ℕ)). PassesLines t ls (length out)) (sym some) (passes_more t v line rest out mid a1 k));
     }

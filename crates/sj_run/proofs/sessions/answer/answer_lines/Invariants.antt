@@ -2,7 +2,7 @@ use Rattle.std.proofs.Common.{length, ◌-◌, ◌≡◌, ◌≤◌, ℕ, List, 
 use Rattle.sj_text_core.specs.Tree.{Tree}
 use Rattle.sj_text_core.specs.declared.repeats.Repeats.{Repeats}
 use Rattle.sj_run.specs.Answered.{AnswersLines, PassesLines}
-use Rattle.sj_run.specs.inner.Answered.{IsBegunBy}
+use Rattle.sj_text_core.specs.inner.Begun.{IsBegunBy}
 use Rattle.sj_commands.specs.Lines.{full_lines, line_texts}
 use Rattle.sj_run.proofs.sessions.answer.answer_lines.Given as goal
 
