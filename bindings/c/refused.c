@@ -74,8 +74,14 @@ enum call {
     PRINT,
     CLONE,
     SAME,
+    OF_NULL,
+    OF_BOOL,
+    OF_SIGNED,
+    OF_UNSIGNED,
+    OF_WIDE,
     OF_TEXT,
     OF_ARRAY,
+    OF_OBJECT,
     FIND,
     PRINT_AT,
     CLONE_AT,
@@ -97,19 +103,22 @@ enum call {
     SESSION,
     CALLS
 };
-static const char *const names[CALLS] = {"read",     "read_with_buffers",
-                                         "print",    "clone",
-                                         "same",     "of_text",
-                                         "of_array", "find",
-                                         "print_at", "clone_at",
-                                         "items",    "members",
-                                         "peek",     "insert",
-                                         "push",     "put",
-                                         "set",      "remove",
-                                         "pop",      "print_canonical",
-                                         "patch",    "diff",
-                                         "merge",    "merge_diff",
-                                         "lines",    "session"};
+static const char *const names[CALLS] = {"read",        "read_with_buffers",
+                                         "print",       "clone",
+                                         "same",        "of_null",
+                                         "of_bool",     "of_signed",
+                                         "of_unsigned", "of_wide",
+                                         "of_text",     "of_array",
+                                         "of_object",   "find",
+                                         "print_at",    "clone_at",
+                                         "items",       "members",
+                                         "peek",        "insert",
+                                         "push",        "put",
+                                         "set",         "remove",
+                                         "pop",         "print_canonical",
+                                         "patch",       "diff",
+                                         "merge",       "merge_diff",
+                                         "lines",       "session"};
 
 static sj_status make(enum call call, struct world *w) {
     char text[] = "{\"q\":[\"text\",{\"r\":1}]}",
@@ -127,6 +136,12 @@ static sj_status make(enum call call, struct world *w) {
     case PRINT: return sj_print(&w->doc, &w->text, true);
     case CLONE: return sj_clone(&w->doc, &w->old);
     case SAME: return sj_same(&w->doc, &w->value, &same);
+    case OF_NULL: return sj_of_null(&w->old);
+    case OF_BOOL: return sj_of_bool(&w->old, true);
+    case OF_SIGNED: return sj_of_signed(&w->old, -1);
+    case OF_UNSIGNED: return sj_of_unsigned(&w->old, 1);
+    case OF_WIDE: return sj_of_wide(&w->old, 1, 1, false);
+    case OF_OBJECT: return sj_of_object(&w->old);
     case OF_TEXT: return sj_of_text(&w->old, TEXT("some text"));
     case OF_ARRAY: return sj_of_array(&w->old);
     case FIND: return sj_find(&w->doc, TEXT("/a/1"), &found);

@@ -8,22 +8,25 @@
 '{"name":"kiosk","ports":[80,443],"debug":true}'
 
 The shared object is libsj_c.so beside this file, or the file that PAIZKORDE names. Each call holds
-the interpreter's lock, but a value's text is copied out behind its call: threads that share a document
-take a lock of their own around each use. So does a Python that runs without that lock. Have 512 KB of
+the interpreter's lock, and what reads or edits a document the document's own, so that threads may share
+one; a Python that runs without the interpreter's lock takes another around each use. Have 512 KB of
 stack, and make no call in the child of a fork of a program with threads.
 """
 
 from __future__ import annotations
 
 import ctypes
+import functools
 import json
 import os
-from typing import Any, Callable, Dict, Iterator, List, Optional, Tuple, Union
+import threading
+from typing import Any, Callable, Dict, Iterator, List, Optional, Tuple, TypeVar, Union, cast
 
 __all__ = ["Buffers", "Document", "Value", "JsonError", "session"]
 
 Bytes = Union[str, bytes, bytearray]
 _Call = Callable[[Any], Any]
+_Method = TypeVar("_Method", bound=Callable[..., Any])
 
 
 class _Handle(ctypes.Structure):
@@ -162,6 +165,20 @@ class JsonError(ValueError):
         super().__init__(why if operation is None else f"operation {operation}: {why}")
         self.code, self.operation = code, operation
 
+    def __reduce__(self) -> Any:
+        return JsonError, (self.code, self.operation)
+
+
+def _alone(method: _Method) -> _Method:
+    """The method of a document, by one thread at a time: what it reads is copied out before another edits."""
+
+    @functools.wraps(method)
+    def held(self: "Document", *words: Any, **named: Any) -> Any:
+        with self._lock:
+            return method(self, *words, **named)
+
+    return cast(_Method, held)
+
 
 def _check(code: int, operation: Optional[int] = None) -> None:
     if code == _OUT_OF_MEMORY:
@@ -176,6 +193,13 @@ def _utf8(text: Bytes) -> bytes:
     if isinstance(text, str):
         return text.encode("utf-8")
     raise TypeError(f"no text: {text!r}")
+
+
+def _name(text: str) -> bytes:
+    """A path or a key."""
+    if isinstance(text, str):
+        return text.encode("utf-8")
+    raise TypeError(f"no path and no key: {text!r}")
 
 
 def _room(data: bytes) -> Any:
@@ -219,9 +243,13 @@ class Document:
     """
 
     def __init__(self) -> None:
+        self._hold_none()
+        _check(_lib.sj_of_null(self._at))
+
+    def _hold_none(self) -> None:
+        self._lock = threading.RLock()
         self._handle = _Handle()
         self._at = ctypes.byref(self._handle)
-        _check(_lib.sj_of_null(self._at))
 
     def __del__(self) -> None:
         if hasattr(self, "_at"):
@@ -283,9 +311,10 @@ class Document:
         else:
             raise JsonError(20)
 
+    @_alone
     def pointer(self, path: str) -> Optional["Value"]:
         """What stands at a pointer, or None; JsonError where the text is no pointer."""
-        found, data = _Found(), _utf8(path)
+        found, data = _Found(), _name(path)
         code = _lib.sj_find(self._at, data, len(data), ctypes.byref(found))
         if code == _MISSING:
             return None
@@ -327,36 +356,43 @@ class Document:
         """The members of an object, in order."""
         return self.root.items()
 
+    @_alone
     def insert(self, path: str, key: str, value: Any) -> Optional["Document"]:
         """Sets the value of the key of the object at the pointer; answers what was there."""
-        where, name, given = _utf8(path), _utf8(key), Document.of(value)
+        where, name, given = _name(path), _name(key), Document.of(value)
         return _old(lambda old: _lib.sj_insert(self._at, where, len(where), name, len(name), given._at, old))
 
+    @_alone
     def push(self, path: str, value: Any) -> None:
         """Puts the value behind the items of the array at the pointer."""
-        where, given = _utf8(path), Document.of(value)
+        where, given = _name(path), Document.of(value)
         _old(lambda old: _lib.sj_push(self._at, where, len(where), given._at, old))
 
+    @_alone
     def put(self, path: str, value: Any) -> Optional["Document"]:
         """Puts the value in the place of what stands at the pointer; answers that, and so never None."""
-        where, given = _utf8(path), Document.of(value)
+        where, given = _name(path), Document.of(value)
         return _old(lambda old: _lib.sj_put(self._at, where, len(where), given._at, old))
 
+    @_alone
     def set(self, path: str, value: Any) -> Optional["Document"]:
         """Sets what the pointer leads to, and makes the objects that are missing on the way; answers what was there."""
-        where, given = _utf8(path), Document.of(value)
+        where, given = _name(path), Document.of(value)
         return _old(lambda old: _lib.sj_set(self._at, where, len(where), given._at, old))
 
+    @_alone
     def remove(self, path: str, key: str) -> Optional["Document"]:
         """Takes the member of the key out of the object at the pointer; answers its value, or None."""
-        where, name = _utf8(path), _utf8(key)
+        where, name = _name(path), _name(key)
         return _old(lambda old: _lib.sj_remove(self._at, where, len(where), name, len(name), old))
 
+    @_alone
     def pop(self, path: str) -> Optional["Document"]:
         """Takes the last item of the array at the pointer; answers it, or None."""
-        where = _utf8(path)
+        where = _name(path)
         return _old(lambda old: _lib.sj_pop(self._at, where, len(where), old))
 
+    @_alone
     def patch(self, operations: Any) -> None:
         """Does the operations of a patch (RFC 6902), a document or a list of dicts: all of them or none."""
         given, at = _other(self, operations), ctypes.c_size_t()
@@ -369,6 +405,7 @@ class Document:
         _check(_lib.sj_diff(self._at, given._at, patch._at))
         return patch
 
+    @_alone
     def merge(self, patch: Any) -> None:
         """Merges a patch (RFC 7396), a document or a dict: its members go over those here, a None takes one out."""
         given = _other(self, patch)
@@ -387,6 +424,7 @@ class Document:
         """Answers commands, as ["insert", "/a", "k", 1]; their replies as texts."""
         return [self._replied(json.dumps(command).encode()) for command in commands]
 
+    @_alone
     def _replied(self, line: bytes) -> str:
         room = _room(line)
         return _printed(lambda text: _lib.sj_lines(self._at, room, len(line), text))[:-1]
@@ -409,13 +447,13 @@ class Document:
     def __bool__(self) -> bool:
         return bool(self.root)
 
-    def __eq__(self, other: object) -> bool:
+    def __eq__(self, other: object) -> Any:
         """Members in any order, numbers by their value; also with a value of Python's."""
         if other is self:
             return True
         given = _comparable(self, other)
         if given is None:
-            return False
+            return NotImplemented
         same = ctypes.c_bool()
         code = _lib.sj_same(self._at, given._at, ctypes.byref(same))
         if code == _TOO_DEEP:
@@ -437,6 +475,10 @@ class Document:
     def __deepcopy__(self, memo: Dict[int, Any]) -> "Document":
         return self.copy()
 
+    def __reduce__(self) -> Any:
+        """By its text: documents past 1,024 levels cannot be pickled."""
+        return Document.parse, (self.dumps(),)
+
     def to_python(self) -> Any:
         """None, bools, ints, strs, lists and dicts."""
         return self.root.to_python()
@@ -451,15 +493,14 @@ def _comparable(document: Document, value: Any) -> Optional[Document]:
     """The same, or None where there is no such document."""
     try:
         return _other(document, value)
-    except (JsonError, TypeError):
+    except (ValueError, TypeError):
         return None
 
 
 def _old(call: _Call) -> Optional[Document]:
     """What the call puts into the handle for the value that was there."""
     old = Document.__new__(Document)
-    old._handle = _Handle()
-    old._at = ctypes.byref(old._handle)
+    old._hold_none()
     _check(call(old._at))
     return old if old._handle.is_open else None
 
@@ -493,7 +534,7 @@ class Value:
     def __getitem__(self, key: Union[str, int]) -> "Value":
         kind = self._found.kind
         if kind == _ARRAY and isinstance(key, int):
-            place = key + len(self) if key < 0 else key
+            place = int(key) + len(self) if key < 0 else int(key)
             value = self._doc.pointer(self.path + _token(place)) if place >= 0 else None
             if value is None:
                 raise IndexError(key)
@@ -509,13 +550,15 @@ class Value:
         """The member of a key, or the item at a place; the default where there is none."""
         try:
             return self[key]
-        except (LookupError, TypeError):
+        except (LookupError, TypeError, UnicodeEncodeError):
             return default
 
     def __contains__(self, key: object) -> bool:
         if self._found.kind == _OBJECT:
             return isinstance(key, str) and self.get(key) is not None
-        return self._found.kind == _ARRAY and any(item == key for item in self)
+        if self._found.kind == _ARRAY:
+            return any(item == key for item in self)
+        raise TypeError("no array and no object")
 
     def __iter__(self) -> Iterator[Any]:
         if self._found.kind == _OBJECT:
@@ -525,22 +568,24 @@ class Value:
     def _items(self) -> List["Value"]:
         if self._found.kind != _ARRAY:
             raise TypeError("no array")
-        found, count, where = (_Found * len(self))(), ctypes.c_size_t(), _utf8(self.path)
-        _check(_lib.sj_items(self._doc._at, where, len(where), 0, found, len(found), ctypes.byref(count)))
-        return [Value(self._doc, f"{self.path}/{place}", found[place]) for place in range(count.value)]
+        found, count, where = (_Found * len(self))(), ctypes.c_size_t(), _name(self.path)
+        with self._doc._lock:
+            _check(_lib.sj_items(self._doc._at, where, len(where), 0, found, len(found), ctypes.byref(count)))
+            return [Value(self._doc, f"{self.path}/{place}", found[place]) for place in range(count.value)]
 
     def items(self) -> List[Tuple[str, "Value"]]:
         """The members of an object, in order."""
         if self._found.kind != _OBJECT:
             raise TypeError("no object")
-        members, count, where = (_Member * len(self))(), ctypes.c_size_t(), _utf8(self.path)
-        _check(
-            _lib.sj_members(self._doc._at, where, len(where), 0, members, len(members), ctypes.byref(count))
-        )
+        members, count, where = (_Member * len(self))(), ctypes.c_size_t(), _name(self.path)
         pairs = []
-        for member in members[: count.value]:
-            key = _string(member.key, member.key_len)
-            pairs.append((key, Value(self._doc, self.path + _token(key), member.value)))
+        with self._doc._lock:
+            _check(
+                _lib.sj_members(self._doc._at, where, len(where), 0, members, len(members), ctypes.byref(count))
+            )
+            for member in members[: count.value]:
+                key = _string(member.key, member.key_len)
+                pairs.append((key, Value(self._doc, self.path + _token(key), member.value)))
         return pairs
 
     def keys(self) -> List[str]:

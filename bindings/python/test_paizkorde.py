@@ -5,9 +5,11 @@ import copy
 import gc
 import json
 import os
+import pickle
 import random
 import threading
 import unittest
+import unittest.mock
 
 from paizkorde import Buffers, Document, JsonError, Value, session
 
@@ -268,6 +270,41 @@ class Calls(unittest.TestCase):
             thread.start()
             thread.join()
         self.assertEqual(str(doc), "[0,1,2,3]")
+
+    def test_threads_that_read_while_others_edit(self):
+        doc, texts = Document.of({"k": "a" * 1000}), set()
+
+        def edit():
+            for number in range(2000):
+                doc.insert("", "k", ("a" if number % 2 else "b") * 1000)
+
+        def read():
+            for _ in range(2000):
+                texts.update(value.to_python() for _, value in doc.items())
+
+        threads = [threading.Thread(target=what) for what in (edit, read, read)]
+        for thread in threads:
+            thread.start()
+        for thread in threads:
+            thread.join()
+        self.assertLessEqual(texts, {"a" * 1000, "b" * 1000})
+        self.assertTrue(texts)
+
+    def test_what_is_no_document_is_not_the_same(self):
+        self.assertFalse(Document.of("a") == "\ud800")
+        self.assertEqual(Document.of(1), unittest.mock.ANY)
+        self.assertFalse("\ud800" in Document.of({"a": 1}))
+        self.assertIsNone(Document.of({"a": 1}).get("\ud800"))
+        with self.assertRaises(TypeError):
+            Document.of({"a": 1}).pointer(b"/a")
+        with self.assertRaises(TypeError):
+            "a" in Document.of("abc")
+
+    def test_pickles(self):
+        doc = Document.of({"a": [1, "b"]})
+        self.assertEqual(pickle.loads(pickle.dumps(doc)), doc)
+        fault = pickle.loads(pickle.dumps(JsonError(17)))
+        self.assertEqual((fault.code, str(fault)), (17, "syntax error"))
 
 
 if __name__ == "__main__":

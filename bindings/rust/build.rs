@@ -11,6 +11,10 @@ fn main() {
         PathBuf::from,
     );
     println!("cargo:rerun-if-changed={}", library.display());
+    if !library.is_file() {
+        let lacks = library.display();
+        println!("cargo:warning=no {lacks}: run `make bindings`, or set SJ_C_LIB");
+    }
     let folder = library.parent().expect("a file has a folder");
     println!("cargo:rustc-link-search=native={}", folder.display());
     println!("cargo:rustc-link-lib=static=sj_c");

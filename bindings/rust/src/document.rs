@@ -22,6 +22,12 @@ pub enum Keep {
 /// once, which is as many as the largest text had so far.
 pub struct Buffers(raw::Buffers);
 
+impl fmt::Debug for Buffers {
+    fn fmt(&self, f: &mut fmt::Formatter<'_>) -> fmt::Result {
+        f.debug_struct("Buffers").finish_non_exhaustive()
+    }
+}
+
 impl Default for Buffers {
     fn default() -> Buffers {
         Buffers(raw::Buffers::new())
@@ -122,8 +128,10 @@ impl Document {
 
     /// The same; a text that is no pointer, and want of memory, are refused.
     pub fn try_pointer(&self, path: &str) -> Result<Option<Value<'_>>> {
-        let seen = found(self.0.find(path))?;
-        Ok(seen.map(|seen| Value::new(self, path.to_owned(), seen)))
+        // The text may lie in this document.
+        let path = path.to_owned();
+        let seen = found(self.0.find(&path))?;
+        Ok(seen.map(|seen| Value::new(self, path, seen)))
     }
 
     /// The whole document as a value. It asks for no memory.

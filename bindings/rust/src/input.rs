@@ -5,6 +5,7 @@ use crate::error::{check, found, Result};
 use crate::raw::{self, Seen};
 use crate::text::Text;
 use crate::value::Kind;
+use std::fmt;
 
 /// What stands at a pointer in a text; a text that it is lies in the bytes that were read.
 #[derive(Clone, Copy)]
@@ -44,6 +45,17 @@ impl<'i> Peeked<'i> {
     /// The text, where it is one, in the bytes that were read.
     pub fn as_str(&self) -> Option<&'i str> {
         (self.kind() == Kind::String).then_some(self.0.text)
+    }
+}
+
+impl fmt::Debug for Peeked<'_> {
+    fn fmt(&self, f: &mut fmt::Formatter<'_>) -> fmt::Result {
+        let mut told = f.debug_struct("Peeked");
+        told.field("kind", &self.kind());
+        if let Some(text) = self.as_str() {
+            told.field("text", &text);
+        }
+        told.finish_non_exhaustive()
     }
 }
 

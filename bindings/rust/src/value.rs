@@ -53,7 +53,7 @@ pub trait Key {
     fn push_to(&self, path: &mut String);
 }
 
-impl Key for &str {
+impl Key for str {
     fn is_for(&self, kind: Kind) -> bool {
         kind == Kind::Object
     }
@@ -70,7 +70,7 @@ impl Key for &str {
     }
 }
 
-impl Key for &String {
+impl Key for String {
     fn is_for(&self, kind: Kind) -> bool {
         self.as_str().is_for(kind)
     }
@@ -88,6 +88,16 @@ impl Key for usize {
     fn push_to(&self, path: &mut String) {
         path.push('/');
         path.push_str(&self.to_string());
+    }
+}
+
+impl<K: Key + ?Sized> Key for &K {
+    fn is_for(&self, kind: Kind) -> bool {
+        (**self).is_for(kind)
+    }
+
+    fn push_to(&self, path: &mut String) {
+        (**self).push_to(path);
     }
 }
 
