@@ -59,9 +59,19 @@ rust() {
   (cd "$root/bindings/rust" && SJ_C_LIB=${library:-/none/libsj_c.a} CARGO_TARGET_DIR=$work/target cargo "$@")
 }
 
-# the program of the tests, which cargo names
+# the programs of the tests, which cargo names
 tests() {
-  rust test --offline --test documents --no-run 2>&1 | sed -n 's/.*Executable .*(\(.*\))$/\1/p'
+  rust test --offline --test '*' --no-run 2>&1 | sed -n 's/.*Executable .*(\(.*\))$/\1/p'
+}
+
+# rust_checked COMMAND..: each program of the tests, run by the command
+rust_checked() {
+  local program count=0
+  while read -r program; do
+    "$@" "$program" --test-threads=1 || return
+    count=$((count + 1))
+  done < <(tests)
+  [ "$count" -eq 2 ]
 }
 
 shared() { gcc -shared -fPIC -o "$1" -Wl,--whole-archive "$library" -Wl,--no-whole-archive "$2"; }
@@ -107,7 +117,7 @@ call_library() {
   run 'C: example built' build -o "$work/example" "$c/example.c" "$c/heap.c" "$library"
   run 'C: example' writes "$work/example"
   run_with cargo 'Rust: tests and examples of the comments' rust test --offline --quiet
-  run_with cargo 'Rust: the tests under valgrind' "${checked[@]}" "$(tests)" --test-threads=1
+  run_with cargo 'Rust: the tests under valgrind' rust_checked "${checked[@]}"
   run_with cargo 'Rust: example' writes rust run --offline --quiet --example settings
   run_with python3 'Python: shared object built' shared "$work/libsj_c.so" "$c/heap.c"
   run_with python3 'Python: one that counts blocks built' shared "$work/counted.so" "$root/bindings/python/counted.c"

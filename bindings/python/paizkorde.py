@@ -476,8 +476,10 @@ class Document:
         return self.copy()
 
     def __reduce__(self) -> Any:
-        """By its text: documents past 1,024 levels cannot be pickled."""
-        return Document.parse, (self.dumps(),)
+        """By its text: JsonError past 1,024 levels, which could not be read back."""
+        text = self.dumps()
+        Document.parse(text)
+        return Document.parse, (text,)
 
     def to_python(self) -> Any:
         """None, bools, ints, strs, lists and dicts."""

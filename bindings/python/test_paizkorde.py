@@ -7,6 +7,7 @@ import json
 import os
 import pickle
 import random
+import sys
 import threading
 import unittest
 import unittest.mock
@@ -234,6 +235,8 @@ class Calls(unittest.TestCase):
         self.assertNotEqual(doc, Document.of([]))
         with self.assertRaises(JsonError):
             doc.diff(doc.copy())
+        with self.assertRaises(JsonError):
+            pickle.dumps(doc)
 
     def test_first_and_last(self):
         self.assertEqual(str(Document.parse('{"k":1,"j":2,"k":3}')), '{"k":1,"j":2}')
@@ -282,11 +285,16 @@ class Calls(unittest.TestCase):
             for _ in range(2000):
                 texts.update(value.to_python() for _, value in doc.items())
 
-        threads = [threading.Thread(target=what) for what in (edit, read, read)]
-        for thread in threads:
-            thread.start()
-        for thread in threads:
-            thread.join()
+        interval = sys.getswitchinterval()
+        sys.setswitchinterval(1e-6)
+        try:
+            threads = [threading.Thread(target=what) for what in (edit, read, read)]
+            for thread in threads:
+                thread.start()
+            for thread in threads:
+                thread.join()
+        finally:
+            sys.setswitchinterval(interval)
         self.assertLessEqual(texts, {"a" * 1000, "b" * 1000})
         self.assertTrue(texts)
 

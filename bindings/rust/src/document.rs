@@ -3,36 +3,11 @@
 use crate::convert::IntoDocument;
 use crate::error::{check, check_patch, checked, found, Error, Result};
 use crate::raw;
+use crate::reading::{Buffers, Keep};
 use crate::text::Text;
 use crate::value::{Key, Kind, Value};
 use std::fmt;
 use std::str::FromStr;
-
-/// Which member of several with one key stays when a text is read.
-#[derive(Clone, Copy, Debug, Default, PartialEq, Eq, Hash)]
-pub enum Keep {
-    /// The first.
-    #[default]
-    First,
-    /// The last, in the place of the first.
-    Last,
-}
-
-/// What readings share, one after another: for how many nodes of a text the next one makes room at
-/// once, which is as many as the largest text had so far.
-pub struct Buffers(raw::Buffers);
-
-impl fmt::Debug for Buffers {
-    fn fmt(&self, f: &mut fmt::Formatter<'_>) -> fmt::Result {
-        f.debug_struct("Buffers").finish_non_exhaustive()
-    }
-}
-
-impl Default for Buffers {
-    fn default() -> Buffers {
-        Buffers(raw::Buffers::new())
-    }
-}
 
 /// A document that owns its texts. It may go to another thread, and is used by one at a time.
 pub struct Document(raw::Doc);

@@ -1,8 +1,8 @@
 //! Calls on texts of which no document is kept.
 
-use crate::document::Keep;
 use crate::error::{check, found, Result};
 use crate::raw::{self, Seen};
+use crate::reading::Keep;
 use crate::text::Text;
 use crate::value::Kind;
 use std::fmt;

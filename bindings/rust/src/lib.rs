@@ -80,12 +80,14 @@ mod document;
 mod error;
 mod input;
 mod raw;
+mod reading;
 mod text;
 mod value;
 
 pub use convert::IntoDocument;
-pub use document::{Buffers, Document, Keep, Refused};
+pub use document::{Document, Refused};
 pub use error::{Error, PatchFault, Result};
 pub use input::{peek, session, Form, Peeked};
+pub use reading::{Buffers, Keep};
 pub use text::Text;
 pub use value::{Key, Kind, Value};

@@ -1,6 +1,6 @@
 //! Documents from outside: what RFC 8259 and 6901 say of these texts.
 
-use paizkorde::{peek, session, Buffers, Document, Error, Form, Keep, Kind, PatchFault, Result};
+use paizkorde::{peek, session, Buffers, Document, Error, Form, Keep, Kind, PatchFault};
 
 fn document(text: &str) -> Document {
     Document::parse(text).unwrap()
@@ -392,38 +392,4 @@ fn crosses_threads() {
     assert_eq!(doc.to_string(), "[0,1,2,3]");
     let print = doc.encode().unwrap();
     assert_eq!(std::thread::spawn(move || print.len()).join().unwrap(), 9);
-}
-
-#[test]
-fn prints_and_keys_are_taken_as_std_has_them() -> Result<()> {
-    let doc = Document::parse(r#"{"a":1,"b":2}"#)?;
-    let found: Vec<_> = ["b", "c", "a"]
-        .iter()
-        .filter_map(|key| doc.get(key))
-        .collect();
-    assert_eq!(
-        found
-            .iter()
-            .filter_map(|value| value.as_u64())
-            .collect::<Vec<_>>(),
-        [2, 1]
-    );
-    let text = doc.encode()?;
-    assert_eq!(text, doc.to_string());
-    assert_eq!(Document::parse(text)?, doc);
-    assert!(format!(
-        "{:?}",
-        peek(&mut br#"["x"]"#.to_owned(), "/0", Keep::First)?
-    )
-    .contains("\"x\""));
-    assert!(format!("{:?}", Buffers::default()).starts_with("Buffers"));
-    Ok(())
-}
-
-#[test]
-fn a_pointer_may_lie_in_its_document() -> Result<()> {
-    let doc = Document::parse(r#"{"at":"/n","n":7}"#)?;
-    let at = doc.get("at").and_then(|at| at.as_str()).expect("a text");
-    assert_eq!(doc.pointer(at).and_then(|found| found.as_u64()), Some(7));
-    Ok(())
 }
