@@ -30,11 +30,11 @@ given giving.Put p v t = Some (set_pointed p v t)
 given giving.Set p v t = set_made p v t
 
 -- what stood in its place
-abbrev pub replaced : Giving → List (List ℕ) → Tree → Option Tree
-replaced (giving.Insert key) p t = option_and_then (find (string_bytes key)) (pointed p t)
-replaced giving.Push p t = None
-replaced giving.Put p t = pointed p t
-replaced giving.Set p t = pointed p t
+abbrev pub value_before : Giving → List (List ℕ) → Tree → Option Tree
+value_before (giving.Insert key) p t = option_and_then (find (string_bytes key)) (pointed p t)
+value_before giving.Push p t = None
+value_before giving.Put p t = pointed p t
+value_before giving.Set p t = pointed p t
 
 -- the tree takes v there
 abbrev pub IsGiven : Giving → List (List ℕ) → Tree → Tree → Type 0
@@ -56,9 +56,9 @@ left (taking.Remove key) p t = changed_at p (without_member (string_bytes key)) 
 left taking.Pop p t = changed_at p without_last t
 
 -- what is taken
-abbrev pub taken : Taking → List (List ℕ) → Tree → Option Tree
-taken (taking.Remove key) p t = option_and_then (find (string_bytes key)) (pointed p t)
-taken taking.Pop p t = option_and_then last_item (pointed p t)
+abbrev pub value_taken : Taking → List (List ℕ) → Tree → Option Tree
+value_taken (taking.Remove key) p t = option_and_then (find (string_bytes key)) (pointed p t)
+value_taken taking.Pop p t = option_and_then last_item (pointed p t)
 
 -- it can be taken there
 abbrev pub IsTaken : Taking → List (List ℕ) → Tree → Type 0
@@ -74,7 +74,7 @@ IsNotTaken taking.Pop p t code = (code ≡ 6) × (option_and_then as_items (poin
 pub record Gave (g : Giving) (p : List (List ℕ)) (v before after : Tree) (found : Option Tree) : Type 0 where
   pub is : IsGiven g p v before
   pub made : Some after ≡ given g p v before
-  pub old : found ≡ replaced g p before
+  pub old : found ≡ value_before g p before
 
 pub record NotGave (g : Giving) (p : List (List ℕ)) (v before after : Tree) (code : ℕ) : Type 0 where
   pub fault : (code ≢ 0) × (code ≢ 3) × (code ≢ 7) × (code ≢ 8)
@@ -82,18 +82,18 @@ pub record NotGave (g : Giving) (p : List (List ℕ)) (v before after : Tree) (c
   pub stays : after ≡ before
 
 -- given a value, which comes back where it is refused
-abbrev pub Gives : Giving → List (List ℕ) → Document (String Global) → Tree → Tree → Result (Option (Document (String Global))) (Refused ℕ (Document (String Global))) → Type 0
-Gives g p v before after r = MatchResult r (λ old. Gave g p (document_tree string_bytes v) before after (option_map (document_tree string_bytes) old)) (λ e. NotGave g p (document_tree string_bytes v) before after e.why × (e.value ≡ v))
+abbrev pub GivesAt : Giving → List (List ℕ) → Document (String Global) → Tree → Tree → Result (Option (Document (String Global))) (Refused ℕ (Document (String Global))) → Type 0
+GivesAt g p v before after r = MatchResult r (λ old. Gave g p (document_tree string_bytes v) before after (option_map (document_tree string_bytes) old)) (λ e. NotGave g p (document_tree string_bytes v) before after e.why × (e.value ≡ v))
 
 pub record Took (g : Taking) (p : List (List ℕ)) (before after : Tree) (found : Option Tree) : Type 0 where
   pub is : IsTaken g p before
   pub made : after ≡ left g p before
-  pub old : found ≡ taken g p before
+  pub old : found ≡ value_taken g p before
 
 pub record NotTook (g : Taking) (p : List (List ℕ)) (before after : Tree) (code : ℕ) : Type 0 where
   pub fault : (code ≢ 0) × (code ≢ 3) × (code ≢ 7) × (code ≢ 8)
   pub why : code ≢ 1 → IsNotTaken g p before code
   pub stays : after ≡ before
 
-abbrev pub Takes : Taking → List (List ℕ) → Tree → Tree → Result (Option (Document (String Global))) ℕ → Type 0
-Takes g p before after r = MatchResult r (λ old. Took g p before after (option_map (document_tree string_bytes) old)) (λ code. NotTook g p before after code)
+abbrev pub TakesAt : Taking → List (List ℕ) → Tree → Tree → Result (Option (Document (String Global))) ℕ → Type 0
+TakesAt g p before after r = MatchResult r (λ old. Took g p before after (option_map (document_tree string_bytes) old)) (λ code. NotTook g p before after code)

@@ -9,8 +9,8 @@ use Rattle.sj_c.specs.declared.held.Held.{Held}
 use Rattle.sj_c.specs.declared.held.Printed.{Printed}
 
 -- the tree of the document, where there is one
-abbrev pub meant : Option Held → Option Tree
-meant h = option_map (λ d. document_tree string_bytes d.value) h
+abbrev pub held_tree : Option Held → Option Tree
+held_tree h = option_map (λ d. document_tree string_bytes d.value) h
 
 -- the bytes of the print, where there is one
 abbrev pub print_of : Option Printed → Option (List ℕ)

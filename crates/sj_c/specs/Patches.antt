@@ -53,7 +53,7 @@ pub record NotPatched (p t : Tree) (code at : ℕ) : Type 0 where
   pub why : NotRead p code at ⊎ ((code ≡ 21) × (1024 < depth p)) ⊎ Fails p t code at
 
 -- p lists operations by which t becomes the same as u, none where they are the same
-pub record Leads (p t u : Tree) : Type 0 where
+pub record IsDifference (p t u : Tree) : Type 0 where
   pub operations : List PlainOperation
   pub listed : p ≡ list (listed_all operations)
   pub becomes : Becomes operations t u

@@ -6,7 +6,7 @@ ghost use Rattle.sj_text_core.specs.Grammar.{Spells, IsReadable};
 ghost use Rattle.sj_text_core.specs.Keep.{keep};
 ghost use Rattle.sj_text_core.specs.Repeats.{keep_by};
 ghost use Rattle.sj_document.specs.Document.{document_tree};
-ghost use Rattle.sj_c.specs.Meant.{meant, choice};
+ghost use Rattle.sj_c.specs.Meant.{held_tree, choice};
 
 use crate::doc::Doc;
 use crate::held::Held;
@@ -35,8 +35,8 @@ pub fn hold(alloc: Global, doc: &mut Doc, value: OwnedValue) -> u32
 /// had. The bytes are written over. Refused, the handle keeps what it had.
 #[unsafe(no_mangle)]
 pub extern "C" fn sj_read(alloc: Global, doc: &mut Doc, bytes: &mut [u8], last: bool) -> u32
-    ensures means { result ≡ OK → (t : Tree) × Spells bytes.old t × IsWithin t × (meant doc.new.kept.holds ≡ Some (keep_by (choice last) t)) }
-    ensures only { result ≡ OK → (u : Tree) → Spells bytes.old u → meant doc.new.kept.holds ≡ Some (keep_by (choice last) u) }
+    ensures means { result ≡ OK → (t : Tree) × Spells bytes.old t × IsWithin t × (held_tree doc.new.kept.holds ≡ Some (keep_by (choice last) t)) }
+    ensures only { result ≡ OK → (u : Tree) → Spells bytes.old u → held_tree doc.new.kept.holds ≡ Some (keep_by (choice last) u) }
     ensures utf8 { (result ≡ INVALID_UTF8) ↔ ¬ (IsUtf8 bytes.old) }
     ensures err { result ≢ OK → result ≢ INVALID_UTF8 → result ≢ OUT_OF_MEMORY → ¬ (IsReadable bytes.old) }
     ensures kept { result ≢ OK → doc.new.kept.holds ≡ doc.old.kept.holds }
@@ -57,8 +57,8 @@ pub extern "C" fn sj_read_with_buffers(
     bytes: &mut [u8],
     buffers: &mut Buffers,
 ) -> u32
-    ensures means { result ≡ OK → (t : Tree) × Spells bytes.old t × IsWithin t × (meant doc.new.kept.holds ≡ Some (keep t)) }
-    ensures only { result ≡ OK → (u : Tree) → Spells bytes.old u → meant doc.new.kept.holds ≡ Some (keep u) }
+    ensures means { result ≡ OK → (t : Tree) × Spells bytes.old t × IsWithin t × (held_tree doc.new.kept.holds ≡ Some (keep t)) }
+    ensures only { result ≡ OK → (u : Tree) → Spells bytes.old u → held_tree doc.new.kept.holds ≡ Some (keep u) }
     ensures utf8 { (result ≡ INVALID_UTF8) ↔ ¬ (IsUtf8 bytes.old) }
     ensures err { result ≢ OK → result ≢ INVALID_UTF8 → result ≢ OUT_OF_MEMORY → ¬ (IsReadable bytes.old) }
     ensures kept { result ≢ OK → doc.new.kept.holds ≡ doc.old.kept.holds }
@@ -80,7 +80,7 @@ pub extern "C" fn sj_free(alloc: Global, doc: &mut Doc)
 /// Copies the value into the handle, and lets go what it had.
 pub fn copy_into(alloc: Global, value: &OwnedValue, copy: &mut Doc) -> u32
     ensures either { result ≢ OK → result ≡ OUT_OF_MEMORY }
-    ensures ok { result ≡ OK → meant copy.new.kept.holds ≡ Some (document_tree string_bytes value.now) }
+    ensures ok { result ≡ OK → held_tree copy.new.kept.holds ≡ Some (document_tree string_bytes value.now) }
     ensures err { result ≢ OK → copy.new.kept.holds ≡ copy.old.kept.holds }
 {
     match value.clone() {
@@ -92,7 +92,7 @@ pub fn copy_into(alloc: Global, value: &OwnedValue, copy: &mut Doc) -> u32
 /// Copies the document into another handle, and lets go what that had. Refused, it keeps it.
 #[unsafe(no_mangle)]
 pub extern "C" fn sj_clone(alloc: Global, doc: &mut Doc, copy: &mut Doc) -> u32
-    ensures ok { result ≡ OK → meant copy.new.kept.holds ≡ meant doc.old.kept.holds }
+    ensures ok { result ≡ OK → held_tree copy.new.kept.holds ≡ held_tree doc.old.kept.holds }
     ensures empty { (result ≡ EMPTY) ↔ (doc.old.kept.holds ≡ None) }
     ensures answers { result ≢ OK → result ≢ EMPTY → result ≡ OUT_OF_MEMORY }
     ensures err { result ≢ OK → copy.new.kept.holds ≡ copy.old.kept.holds }

@@ -4,7 +4,7 @@ ghost use Rattle.std.specs.Prelude.{◌≡◌, ◌≢◌, string_bytes};
 ghost use Rattle.sj_document.specs.Document.{document_tree};
 ghost use Rattle.sj_c.specs.declared.edit.Giving.TheVariants as giving;
 ghost use Rattle.sj_c.specs.declared.edit.Taking.TheVariants as taking;
-ghost use Rattle.sj_c.specs.Edits.{Gives, Takes};
+ghost use Rattle.sj_c.specs.Edits.{GivesAt, TakesAt};
 ghost use Rattle.sj_c.specs.Refusals.{access_status};
 
 use crate::status::{MISSING, code_of_access};
@@ -52,7 +52,7 @@ fn with_status(refused: Refused<AccessError, OwnedValue>) -> Refused<u32, OwnedV
 }
 
 fn insert(document: &mut OwnedValue, path: &Pointer, key: String, new: OwnedValue) -> Given
-    ensures { Gives (giving.Insert key) path.now new (document_tree string_bytes document.old) (document_tree string_bytes document.new) result }
+    ensures { GivesAt (giving.Insert key) path.now new (document_tree string_bytes document.old) (document_tree string_bytes document.new) result }
 {
     match owned::insert(document, path, key, new) {
         Ok(before) => Ok(before),
@@ -61,7 +61,7 @@ fn insert(document: &mut OwnedValue, path: &Pointer, key: String, new: OwnedValu
 }
 
 fn push(document: &mut OwnedValue, path: &Pointer, new: OwnedValue) -> Given
-    ensures { Gives giving.Push path.now new (document_tree string_bytes document.old) (document_tree string_bytes document.new) result }
+    ensures { GivesAt giving.Push path.now new (document_tree string_bytes document.old) (document_tree string_bytes document.new) result }
 {
     match owned::push(document, path, new) {
         Ok(()) => Ok(None),
@@ -70,7 +70,7 @@ fn push(document: &mut OwnedValue, path: &Pointer, new: OwnedValue) -> Given
 }
 
 fn put(document: &mut OwnedValue, path: &Pointer, new: OwnedValue) -> Given
-    ensures { Gives giving.Put path.now new (document_tree string_bytes document.old) (document_tree string_bytes document.new) result }
+    ensures { GivesAt giving.Put path.now new (document_tree string_bytes document.old) (document_tree string_bytes document.new) result }
 {
     match owned::replace(document, path, new) {
         Ok(before) => Ok(Some(before)),
@@ -82,7 +82,7 @@ fn put(document: &mut OwnedValue, path: &Pointer, new: OwnedValue) -> Given
 }
 
 fn set(alloc: Global, document: &mut OwnedValue, path: &Pointer, new: OwnedValue) -> Given
-    ensures { Gives giving.Set path.now new (document_tree string_bytes document.old) (document_tree string_bytes document.new) result }
+    ensures { GivesAt giving.Set path.now new (document_tree string_bytes document.old) (document_tree string_bytes document.new) result }
 {
     match owned::set(document, alloc, path, new) {
         Ok(before) => Ok(before),
@@ -98,7 +98,7 @@ pub fn give_at(
     giving: Giving,
     new: OwnedValue,
 ) -> Given
-    ensures { Gives giving path.now new (document_tree string_bytes document.old) (document_tree string_bytes document.new) result }
+    ensures { GivesAt giving path.now new (document_tree string_bytes document.old) (document_tree string_bytes document.new) result }
 {
     match giving {
         Giving::Insert(key) => insert(document, path, key, new),
@@ -109,7 +109,7 @@ pub fn give_at(
 }
 
 fn remove(document: &mut OwnedValue, path: &Pointer, key: String) -> Taken
-    ensures { Takes (taking.Remove key) path.now (document_tree string_bytes document.old) (document_tree string_bytes document.new) result }
+    ensures { TakesAt (taking.Remove key) path.now (document_tree string_bytes document.old) (document_tree string_bytes document.new) result }
 {
     match owned::remove(document, path, key.as_str()) {
         Ok(before) => Ok(before),
@@ -118,7 +118,7 @@ fn remove(document: &mut OwnedValue, path: &Pointer, key: String) -> Taken
 }
 
 fn pop(document: &mut OwnedValue, path: &Pointer) -> Taken
-    ensures { Takes taking.Pop path.now (document_tree string_bytes document.old) (document_tree string_bytes document.new) result }
+    ensures { TakesAt taking.Pop path.now (document_tree string_bytes document.old) (document_tree string_bytes document.new) result }
 {
     match owned::pop(document, path) {
         Ok(last) => Ok(last),
@@ -128,7 +128,7 @@ fn pop(document: &mut OwnedValue, path: &Pointer) -> Taken
 
 /// Takes out of the document. Refused, it means what it meant.
 pub fn take_at(document: &mut OwnedValue, path: &Pointer, taking: Taking) -> Taken
-    ensures { Takes taking path.now (document_tree string_bytes document.old) (document_tree string_bytes document.new) result }
+    ensures { TakesAt taking path.now (document_tree string_bytes document.old) (document_tree string_bytes document.new) result }
 {
     match taking {
         Taking::Remove(key) => remove(document, path, key),

@@ -9,8 +9,8 @@ ghost use Rattle.sj_pointer.specs.Pointed.{pointed, set_pointed};
 ghost use Rattle.sj_pointer.specs.Tokens.{tokens_of};
 ghost use Rattle.sj_path.specs.Changes.{changed_at};
 ghost use Rattle.sj_path.specs.Made.{set_made};
-ghost use Rattle.sj_c.specs.Meant.{meant};
-ghost use Rattle.sj_c.specs.Edits.{or_before, given, replaced, left, taken, IsGiven, IsNotGiven, IsTaken, IsNotTaken};
+ghost use Rattle.sj_c.specs.Meant.{held_tree};
+ghost use Rattle.sj_c.specs.Edits.{or_before, given, value_before, left, value_taken, IsGiven, IsNotGiven, IsTaken, IsNotTaken};
 ghost use Rattle.sj_c.specs.Refusals.{Blames, IsReply};
 
 use crate::doc::Doc;
@@ -43,7 +43,7 @@ fn key_of(alloc: Global, key: &[u8]) -> Result<String, u32>
 
 /// Puts the value that was there into its handle, in the block at hand, and lets go what that had.
 fn hand_out(alloc: Global, room: Box<Held>, before: Option<OwnedValue>, old: &mut Doc)
-    ensures { meant old.new.kept.holds ≡ or_before (option_map (document_tree string_bytes) before) (meant old.old.kept.holds) }
+    ensures { held_tree old.new.kept.holds ≡ or_before (option_map (document_tree string_bytes) before) (held_tree old.old.kept.holds) }
 {
     let mut room = room;
     if let Some(before) = before {
@@ -63,12 +63,12 @@ fn give_to(
     value: &mut Doc,
     old: &mut Doc,
 ) -> u32
-    ensures done { result ≡ OK → (t : Tree) × (v : Tree) × (meant doc.old.kept.holds ≡ Some t) × (meant value.old.kept.holds ≡ Some v) × IsGiven giving path.now v t × (meant doc.new.kept.holds ≡ given giving path.now v t) × (meant old.new.kept.holds ≡ or_before (replaced giving path.now t) (meant old.old.kept.holds)) }
-    ensures kind { IsReply result → result ≢ OK → (t : Tree) × (v : Tree) × (meant doc.old.kept.holds ≡ Some t) × (meant value.old.kept.holds ≡ Some v) × IsNotGiven giving path.now v t result }
+    ensures done { result ≡ OK → (t : Tree) × (v : Tree) × (held_tree doc.old.kept.holds ≡ Some t) × (held_tree value.old.kept.holds ≡ Some v) × IsGiven giving path.now v t × (held_tree doc.new.kept.holds ≡ given giving path.now v t) × (held_tree old.new.kept.holds ≡ or_before (value_before giving path.now t) (held_tree old.old.kept.holds)) }
+    ensures kind { IsReply result → result ≢ OK → (t : Tree) × (v : Tree) × (held_tree doc.old.kept.holds ≡ Some t) × (held_tree value.old.kept.holds ≡ Some v) × IsNotGiven giving path.now v t result }
     ensures empty { result ≡ EMPTY → (doc.old.kept.holds ≡ None) ⊎ (value.old.kept.holds ≡ None) }
     ensures texts { (result ≢ BAD_POINTER) × (result ≢ BAD_ARGUMENT) }
     ensures given { result ≡ OK → value.new.kept.holds ≡ None }
-    ensures refused { result ≢ OK → meant doc.new.kept.holds ≡ meant doc.old.kept.holds }
+    ensures refused { result ≢ OK → held_tree doc.new.kept.holds ≡ held_tree doc.old.kept.holds }
     ensures back { result ≢ OK → value.new.kept.holds ≡ value.old.kept.holds }
     ensures old { result ≢ OK → old.new.kept.holds ≡ old.old.kept.holds }
 {
@@ -97,11 +97,11 @@ fn give_to(
 
 /// Takes out of the document, and puts what is taken into `old`. Refused, all stay as they were.
 fn take_from(alloc: Global, doc: &mut Doc, path: &Pointer, taking: Taking, old: &mut Doc) -> u32
-    ensures done { result ≡ OK → (t : Tree) × (meant doc.old.kept.holds ≡ Some t) × IsTaken taking path.now t × (meant doc.new.kept.holds ≡ Some (left taking path.now t)) × (meant old.new.kept.holds ≡ or_before (taken taking path.now t) (meant old.old.kept.holds)) }
-    ensures kind { IsReply result → result ≢ OK → (t : Tree) × (meant doc.old.kept.holds ≡ Some t) × IsNotTaken taking path.now t result }
+    ensures done { result ≡ OK → (t : Tree) × (held_tree doc.old.kept.holds ≡ Some t) × IsTaken taking path.now t × (held_tree doc.new.kept.holds ≡ Some (left taking path.now t)) × (held_tree old.new.kept.holds ≡ or_before (value_taken taking path.now t) (held_tree old.old.kept.holds)) }
+    ensures kind { IsReply result → result ≢ OK → (t : Tree) × (held_tree doc.old.kept.holds ≡ Some t) × IsNotTaken taking path.now t result }
     ensures empty { result ≡ EMPTY → doc.old.kept.holds ≡ None }
     ensures texts { (result ≢ BAD_POINTER) × (result ≢ BAD_ARGUMENT) }
-    ensures refused { result ≢ OK → meant doc.new.kept.holds ≡ meant doc.old.kept.holds }
+    ensures refused { result ≢ OK → held_tree doc.new.kept.holds ≡ held_tree doc.old.kept.holds }
     ensures old { result ≢ OK → old.new.kept.holds ≡ old.old.kept.holds }
 {
     let value = OwnedValue::null();
@@ -133,11 +133,11 @@ pub extern "C" fn sj_insert(
     value: &mut Doc,
     old: &mut Doc,
 ) -> u32
-    ensures done { result ≡ OK → (t : Tree) × (v : Tree) × (meant doc.old.kept.holds ≡ Some t) × (meant value.old.kept.holds ≡ Some v) × IsSome (option_and_then as_members (pointed (tokens_of path.now) t)) × (meant doc.new.kept.holds ≡ Some (changed_at (tokens_of path.now) (with_member key.now v) t)) × (meant old.new.kept.holds ≡ or_before (option_and_then (find key.now) (pointed (tokens_of path.now) t)) (meant old.old.kept.holds)) }
-    ensures kind { IsReply result → result ≢ OK → (result ≡ NOT_AN_OBJECT) × ((t : Tree) × (meant doc.old.kept.holds ≡ Some t) × (option_and_then as_members (pointed (tokens_of path.now) t) ≡ None)) }
+    ensures done { result ≡ OK → (t : Tree) × (v : Tree) × (held_tree doc.old.kept.holds ≡ Some t) × (held_tree value.old.kept.holds ≡ Some v) × IsSome (option_and_then as_members (pointed (tokens_of path.now) t)) × (held_tree doc.new.kept.holds ≡ Some (changed_at (tokens_of path.now) (with_member key.now v) t)) × (held_tree old.new.kept.holds ≡ or_before (option_and_then (find key.now) (pointed (tokens_of path.now) t)) (held_tree old.old.kept.holds)) }
+    ensures kind { IsReply result → result ≢ OK → (result ≡ NOT_AN_OBJECT) × ((t : Tree) × (held_tree doc.old.kept.holds ≡ Some t) × (option_and_then as_members (pointed (tokens_of path.now) t) ≡ None)) }
     ensures blames { Blames result ((doc.old.kept.holds ≡ None) ⊎ (value.old.kept.holds ≡ None)) path.now (¬ (IsUtf8 path.now) ⊎ ¬ (IsUtf8 key.now)) }
     ensures given { result ≡ OK → value.new.kept.holds ≡ None }
-    ensures refused { result ≢ OK → meant doc.new.kept.holds ≡ meant doc.old.kept.holds }
+    ensures refused { result ≢ OK → held_tree doc.new.kept.holds ≡ held_tree doc.old.kept.holds }
     ensures back { result ≢ OK → value.new.kept.holds ≡ value.old.kept.holds }
     ensures old { result ≢ OK → old.new.kept.holds ≡ old.old.kept.holds }
 {
@@ -162,11 +162,11 @@ pub extern "C" fn sj_push(
     value: &mut Doc,
     old: &mut Doc,
 ) -> u32
-    ensures done { result ≡ OK → (t : Tree) × (v : Tree) × (meant doc.old.kept.holds ≡ Some t) × (meant value.old.kept.holds ≡ Some v) × IsSome (option_and_then as_items (pointed (tokens_of path.now) t)) × (meant doc.new.kept.holds ≡ Some (changed_at (tokens_of path.now) (with_item v) t)) × (meant old.new.kept.holds ≡ meant old.old.kept.holds) }
-    ensures kind { IsReply result → result ≢ OK → (result ≡ NOT_AN_ARRAY) × ((t : Tree) × (meant doc.old.kept.holds ≡ Some t) × (option_and_then as_items (pointed (tokens_of path.now) t) ≡ None)) }
+    ensures done { result ≡ OK → (t : Tree) × (v : Tree) × (held_tree doc.old.kept.holds ≡ Some t) × (held_tree value.old.kept.holds ≡ Some v) × IsSome (option_and_then as_items (pointed (tokens_of path.now) t)) × (held_tree doc.new.kept.holds ≡ Some (changed_at (tokens_of path.now) (with_item v) t)) × (held_tree old.new.kept.holds ≡ held_tree old.old.kept.holds) }
+    ensures kind { IsReply result → result ≢ OK → (result ≡ NOT_AN_ARRAY) × ((t : Tree) × (held_tree doc.old.kept.holds ≡ Some t) × (option_and_then as_items (pointed (tokens_of path.now) t) ≡ None)) }
     ensures blames { Blames result ((doc.old.kept.holds ≡ None) ⊎ (value.old.kept.holds ≡ None)) path.now (¬ (IsUtf8 path.now)) }
     ensures given { result ≡ OK → value.new.kept.holds ≡ None }
-    ensures refused { result ≢ OK → meant doc.new.kept.holds ≡ meant doc.old.kept.holds }
+    ensures refused { result ≢ OK → held_tree doc.new.kept.holds ≡ held_tree doc.old.kept.holds }
     ensures back { result ≢ OK → value.new.kept.holds ≡ value.old.kept.holds }
     ensures old { result ≢ OK → old.new.kept.holds ≡ old.old.kept.holds }
 {
@@ -187,11 +187,11 @@ pub extern "C" fn sj_put(
     value: &mut Doc,
     old: &mut Doc,
 ) -> u32
-    ensures done { result ≡ OK → (t : Tree) × (v : Tree) × (meant doc.old.kept.holds ≡ Some t) × (meant value.old.kept.holds ≡ Some v) × (meant doc.new.kept.holds ≡ Some (set_pointed (tokens_of path.now) v t)) × ((u : Tree) × (pointed (tokens_of path.now) t ≡ Some u) × (meant old.new.kept.holds ≡ Some u)) }
-    ensures kind { IsReply result → result ≢ OK → (result ≡ MISSING) × ((t : Tree) × (meant doc.old.kept.holds ≡ Some t) × (pointed (tokens_of path.now) t ≡ None)) }
+    ensures done { result ≡ OK → (t : Tree) × (v : Tree) × (held_tree doc.old.kept.holds ≡ Some t) × (held_tree value.old.kept.holds ≡ Some v) × (held_tree doc.new.kept.holds ≡ Some (set_pointed (tokens_of path.now) v t)) × ((u : Tree) × (pointed (tokens_of path.now) t ≡ Some u) × (held_tree old.new.kept.holds ≡ Some u)) }
+    ensures kind { IsReply result → result ≢ OK → (result ≡ MISSING) × ((t : Tree) × (held_tree doc.old.kept.holds ≡ Some t) × (pointed (tokens_of path.now) t ≡ None)) }
     ensures blames { Blames result ((doc.old.kept.holds ≡ None) ⊎ (value.old.kept.holds ≡ None)) path.now (¬ (IsUtf8 path.now)) }
     ensures given { result ≡ OK → value.new.kept.holds ≡ None }
-    ensures refused { result ≢ OK → meant doc.new.kept.holds ≡ meant doc.old.kept.holds }
+    ensures refused { result ≢ OK → held_tree doc.new.kept.holds ≡ held_tree doc.old.kept.holds }
     ensures back { result ≢ OK → value.new.kept.holds ≡ value.old.kept.holds }
     ensures old { result ≢ OK → old.new.kept.holds ≡ old.old.kept.holds }
 {
@@ -213,11 +213,11 @@ pub extern "C" fn sj_set(
     value: &mut Doc,
     old: &mut Doc,
 ) -> u32
-    ensures done { result ≡ OK → (t : Tree) × (v : Tree) × (meant doc.old.kept.holds ≡ Some t) × (meant value.old.kept.holds ≡ Some v) × IsSome (set_made (tokens_of path.now) v t) × (meant doc.new.kept.holds ≡ set_made (tokens_of path.now) v t) × (meant old.new.kept.holds ≡ or_before (pointed (tokens_of path.now) t) (meant old.old.kept.holds)) }
-    ensures kind { IsReply result → result ≢ OK → (result ≡ NOT_AN_OBJECT) × ((t : Tree) × (v : Tree) × (meant doc.old.kept.holds ≡ Some t) × (meant value.old.kept.holds ≡ Some v) × (set_made (tokens_of path.now) v t ≡ None)) }
+    ensures done { result ≡ OK → (t : Tree) × (v : Tree) × (held_tree doc.old.kept.holds ≡ Some t) × (held_tree value.old.kept.holds ≡ Some v) × IsSome (set_made (tokens_of path.now) v t) × (held_tree doc.new.kept.holds ≡ set_made (tokens_of path.now) v t) × (held_tree old.new.kept.holds ≡ or_before (pointed (tokens_of path.now) t) (held_tree old.old.kept.holds)) }
+    ensures kind { IsReply result → result ≢ OK → (result ≡ NOT_AN_OBJECT) × ((t : Tree) × (v : Tree) × (held_tree doc.old.kept.holds ≡ Some t) × (held_tree value.old.kept.holds ≡ Some v) × (set_made (tokens_of path.now) v t ≡ None)) }
     ensures blames { Blames result ((doc.old.kept.holds ≡ None) ⊎ (value.old.kept.holds ≡ None)) path.now (¬ (IsUtf8 path.now)) }
     ensures given { result ≡ OK → value.new.kept.holds ≡ None }
-    ensures refused { result ≢ OK → meant doc.new.kept.holds ≡ meant doc.old.kept.holds }
+    ensures refused { result ≢ OK → held_tree doc.new.kept.holds ≡ held_tree doc.old.kept.holds }
     ensures back { result ≢ OK → value.new.kept.holds ≡ value.old.kept.holds }
     ensures old { result ≢ OK → old.new.kept.holds ≡ old.old.kept.holds }
 {
@@ -238,10 +238,10 @@ pub extern "C" fn sj_remove(
     key: &[u8],
     old: &mut Doc,
 ) -> u32
-    ensures done { result ≡ OK → (t : Tree) × (meant doc.old.kept.holds ≡ Some t) × IsSome (option_and_then as_members (pointed (tokens_of path.now) t)) × (meant doc.new.kept.holds ≡ Some (changed_at (tokens_of path.now) (without_member key.now) t)) × (meant old.new.kept.holds ≡ or_before (option_and_then (find key.now) (pointed (tokens_of path.now) t)) (meant old.old.kept.holds)) }
-    ensures kind { IsReply result → result ≢ OK → (result ≡ NOT_AN_OBJECT) × ((t : Tree) × (meant doc.old.kept.holds ≡ Some t) × (option_and_then as_members (pointed (tokens_of path.now) t) ≡ None)) }
+    ensures done { result ≡ OK → (t : Tree) × (held_tree doc.old.kept.holds ≡ Some t) × IsSome (option_and_then as_members (pointed (tokens_of path.now) t)) × (held_tree doc.new.kept.holds ≡ Some (changed_at (tokens_of path.now) (without_member key.now) t)) × (held_tree old.new.kept.holds ≡ or_before (option_and_then (find key.now) (pointed (tokens_of path.now) t)) (held_tree old.old.kept.holds)) }
+    ensures kind { IsReply result → result ≢ OK → (result ≡ NOT_AN_OBJECT) × ((t : Tree) × (held_tree doc.old.kept.holds ≡ Some t) × (option_and_then as_members (pointed (tokens_of path.now) t) ≡ None)) }
     ensures blames { Blames result (doc.old.kept.holds ≡ None) path.now (¬ (IsUtf8 path.now) ⊎ ¬ (IsUtf8 key.now)) }
-    ensures refused { result ≢ OK → meant doc.new.kept.holds ≡ meant doc.old.kept.holds }
+    ensures refused { result ≢ OK → held_tree doc.new.kept.holds ≡ held_tree doc.old.kept.holds }
     ensures old { result ≢ OK → old.new.kept.holds ≡ old.old.kept.holds }
 {
     let path = match pointer_of(alloc, path) {
@@ -258,10 +258,10 @@ pub extern "C" fn sj_remove(
 /// Takes the last item of the array at the pointer, which goes to `old`. Where there is none, all stay.
 #[unsafe(no_mangle)]
 pub extern "C" fn sj_pop(alloc: Global, doc: &mut Doc, path: &[u8], old: &mut Doc) -> u32
-    ensures done { result ≡ OK → (t : Tree) × (meant doc.old.kept.holds ≡ Some t) × IsSome (option_and_then as_items (pointed (tokens_of path.now) t)) × (meant doc.new.kept.holds ≡ Some (changed_at (tokens_of path.now) without_last t)) × (meant old.new.kept.holds ≡ or_before (option_and_then last_item (pointed (tokens_of path.now) t)) (meant old.old.kept.holds)) }
-    ensures kind { IsReply result → result ≢ OK → (result ≡ NOT_AN_ARRAY) × ((t : Tree) × (meant doc.old.kept.holds ≡ Some t) × (option_and_then as_items (pointed (tokens_of path.now) t) ≡ None)) }
+    ensures done { result ≡ OK → (t : Tree) × (held_tree doc.old.kept.holds ≡ Some t) × IsSome (option_and_then as_items (pointed (tokens_of path.now) t)) × (held_tree doc.new.kept.holds ≡ Some (changed_at (tokens_of path.now) without_last t)) × (held_tree old.new.kept.holds ≡ or_before (option_and_then last_item (pointed (tokens_of path.now) t)) (held_tree old.old.kept.holds)) }
+    ensures kind { IsReply result → result ≢ OK → (result ≡ NOT_AN_ARRAY) × ((t : Tree) × (held_tree doc.old.kept.holds ≡ Some t) × (option_and_then as_items (pointed (tokens_of path.now) t) ≡ None)) }
     ensures blames { Blames result (doc.old.kept.holds ≡ None) path.now (¬ (IsUtf8 path.now)) }
-    ensures refused { result ≢ OK → meant doc.new.kept.holds ≡ meant doc.old.kept.holds }
+    ensures refused { result ≢ OK → held_tree doc.new.kept.holds ≡ held_tree doc.old.kept.holds }
     ensures old { result ≢ OK → old.new.kept.holds ≡ old.old.kept.holds }
 {
     let path = match pointer_of(alloc, path) {

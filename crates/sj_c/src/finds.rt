@@ -6,7 +6,7 @@ ghost use Rattle.sj_text_core.specs.Reads.{as_text, as_items, as_members};
 ghost use Rattle.sj_pointer.specs.Pointed.{pointed};
 ghost use Rattle.sj_pointer.specs.Tokens.{tokens_of};
 ghost use Rattle.sj_document.specs.Document.{document_tree};
-ghost use Rattle.sj_c.specs.Meant.{meant};
+ghost use Rattle.sj_c.specs.Meant.{held_tree};
 ghost use Rattle.sj_c.specs.Refusals.{Blames, IsReply};
 ghost use Rattle.sj_c.specs.Shown.{Shows};
 
@@ -59,8 +59,8 @@ fn show_at(document: &OwnedValue, path: &Pointer, found: &mut Found) -> u32
 /// Says what stands at a pointer (RFC 6901). Where nothing does, it answers `MISSING`.
 #[unsafe(no_mangle)]
 pub extern "C" fn sj_find(alloc: Global, doc: &mut Doc, path: &[u8], found: &mut Found) -> u32
-    ensures ok { result ≡ OK → (t : Tree) × (u : Tree) × (meant doc.old.kept.holds ≡ Some t) × (pointed (tokens_of path.now) t ≡ Some u) × Shows found.new u }
-    ensures missing { result ≡ MISSING → (t : Tree) × (meant doc.old.kept.holds ≡ Some t) × (pointed (tokens_of path.now) t ≡ None) }
+    ensures ok { result ≡ OK → (t : Tree) × (u : Tree) × (held_tree doc.old.kept.holds ≡ Some t) × (pointed (tokens_of path.now) t ≡ Some u) × Shows found.new u }
+    ensures missing { result ≡ MISSING → (t : Tree) × (held_tree doc.old.kept.holds ≡ Some t) × (pointed (tokens_of path.now) t ≡ None) }
     ensures answers { IsReply result → result ≢ OK → result ≡ MISSING }
     ensures blames { Blames result (doc.old.kept.holds ≡ None) path.now (¬ (IsUtf8 path.now)) }
     ensures kept { doc.new.kept.holds ≡ doc.old.kept.holds }

@@ -7,7 +7,7 @@ ghost use Rattle.sj_document.specs.Document.{document_tree};
 ghost use Rattle.sj_commands.specs.Lines.{full_lines, line_texts};
 ghost use Rattle.sj_run.specs.Answered.{AnswersLines};
 ghost use Rattle.sj_c.specs.Lines.{PassesAlone};
-ghost use Rattle.sj_c.specs.Meant.{meant, print_of};
+ghost use Rattle.sj_c.specs.Meant.{held_tree, print_of};
 
 use crate::doc::Doc;
 use crate::held::{Held, Printed};
@@ -43,8 +43,8 @@ fn answer_lines(alloc: Global, held: &mut Held, lines: &mut [u8], out: &mut Vec<
 /// done nothing is said. The lines are written over.
 #[unsafe(no_mangle)]
 pub extern "C" fn sj_lines(alloc: Global, doc: &mut Doc, lines: &mut [u8], text: &mut Text) -> u32
-    ensures ok { result ≡ OK → (t : Tree) × (u : Tree) × (w : List ℕ) × (meant doc.old.kept.holds ≡ Some t) × (meant doc.new.kept.holds ≡ Some u) × (print_of text.new.kept.holds ≡ Some w) × AnswersLines (First, t) (line_texts (full_lines lines.old)) (First, u) [] w }
-    ensures too_long { result ≡ TOO_LONG → (t : Tree) × (meant doc.old.kept.holds ≡ Some t) × PassesAlone (First, t) (line_texts (full_lines lines.old)) }
+    ensures ok { result ≡ OK → (t : Tree) × (u : Tree) × (w : List ℕ) × (held_tree doc.old.kept.holds ≡ Some t) × (held_tree doc.new.kept.holds ≡ Some u) × (print_of text.new.kept.holds ≡ Some w) × AnswersLines (First, t) (line_texts (full_lines lines.old)) (First, u) [] w }
+    ensures too_long { result ≡ TOO_LONG → (t : Tree) × (held_tree doc.old.kept.holds ≡ Some t) × PassesAlone (First, t) (line_texts (full_lines lines.old)) }
     ensures empty { result ≡ EMPTY → doc.old.kept.holds ≡ None }
     ensures answers { result ≢ OK → result ≢ TOO_LONG → result ≢ EMPTY → result ≡ OUT_OF_MEMORY }
     ensures err { result ≢ OK → text.new.kept.holds ≡ text.old.kept.holds }

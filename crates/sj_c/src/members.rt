@@ -8,7 +8,7 @@ ghost use Rattle.sj_object.specs.Members.{entry_members};
 ghost use Rattle.sj_document.specs.Document.{document_tree};
 ghost use Rattle.sj_pointer.specs.Pointed.{pointed};
 ghost use Rattle.sj_pointer.specs.Tokens.{tokens_of};
-ghost use Rattle.sj_c.specs.Meant.{meant};
+ghost use Rattle.sj_c.specs.Meant.{held_tree};
 ghost use Rattle.sj_c.specs.Refusals.{Blames, IsReply};
 ghost use Rattle.sj_c.specs.Shown.{Shows, ShowsMember, ShowsFrom};
 
@@ -163,9 +163,9 @@ pub extern "C" fn sj_items(
     out: &mut [Found],
     count: &mut usize,
 ) -> u32
-    ensures items { result ≡ OK → (t : Tree) × (us : List Tree) × (meant doc.old.kept.holds ≡ Some t) × (option_map listed (option_and_then as_items (pointed (tokens_of path.now) t)) ≡ Some us) × (count.new ≡ min (length out.old) (length us - from)) × ShowsFrom Shows from count.new out.new us }
-    ensures missing { result ≡ MISSING → (t : Tree) × (meant doc.old.kept.holds ≡ Some t) × (pointed (tokens_of path.now) t ≡ None) }
-    ensures kind { result ≡ NOT_AN_ARRAY → (t : Tree) × (meant doc.old.kept.holds ≡ Some t) × (option_and_then as_items (pointed (tokens_of path.now) t) ≡ None) }
+    ensures items { result ≡ OK → (t : Tree) × (us : List Tree) × (held_tree doc.old.kept.holds ≡ Some t) × (option_map listed (option_and_then as_items (pointed (tokens_of path.now) t)) ≡ Some us) × (count.new ≡ min (length out.old) (length us - from)) × ShowsFrom Shows from count.new out.new us }
+    ensures missing { result ≡ MISSING → (t : Tree) × (held_tree doc.old.kept.holds ≡ Some t) × (pointed (tokens_of path.now) t ≡ None) }
+    ensures kind { result ≡ NOT_AN_ARRAY → (t : Tree) × (held_tree doc.old.kept.holds ≡ Some t) × (option_and_then as_items (pointed (tokens_of path.now) t) ≡ None) }
     ensures answers { IsReply result → result ≢ OK → (result ≡ MISSING) ⊎ (result ≡ NOT_AN_ARRAY) }
     ensures blames { Blames result (doc.old.kept.holds ≡ None) path.now (¬ (IsUtf8 path.now)) }
     ensures kept { doc.new.kept.holds ≡ doc.old.kept.holds }
@@ -193,9 +193,9 @@ pub extern "C" fn sj_members(
     out: &mut [Member],
     count: &mut usize,
 ) -> u32
-    ensures members { result ≡ OK → (t : Tree) × (ps : List (List ℕ × Tree)) × (meant doc.old.kept.holds ≡ Some t) × (option_map paired (option_and_then as_members (pointed (tokens_of path.now) t)) ≡ Some ps) × (count.new ≡ min (length out.old) (length ps - from)) × ShowsFrom ShowsMember from count.new out.new ps }
-    ensures missing { result ≡ MISSING → (t : Tree) × (meant doc.old.kept.holds ≡ Some t) × (pointed (tokens_of path.now) t ≡ None) }
-    ensures kind { result ≡ NOT_AN_OBJECT → (t : Tree) × (meant doc.old.kept.holds ≡ Some t) × (option_and_then as_members (pointed (tokens_of path.now) t) ≡ None) }
+    ensures members { result ≡ OK → (t : Tree) × (ps : List (List ℕ × Tree)) × (held_tree doc.old.kept.holds ≡ Some t) × (option_map paired (option_and_then as_members (pointed (tokens_of path.now) t)) ≡ Some ps) × (count.new ≡ min (length out.old) (length ps - from)) × ShowsFrom ShowsMember from count.new out.new ps }
+    ensures missing { result ≡ MISSING → (t : Tree) × (held_tree doc.old.kept.holds ≡ Some t) × (pointed (tokens_of path.now) t ≡ None) }
+    ensures kind { result ≡ NOT_AN_OBJECT → (t : Tree) × (held_tree doc.old.kept.holds ≡ Some t) × (option_and_then as_members (pointed (tokens_of path.now) t) ≡ None) }
     ensures answers { IsReply result → result ≢ OK → (result ≡ MISSING) ⊎ (result ≡ NOT_AN_OBJECT) }
     ensures blames { Blames result (doc.old.kept.holds ≡ None) path.now (¬ (IsUtf8 path.now)) }
     ensures kept { doc.new.kept.holds ≡ doc.old.kept.holds }

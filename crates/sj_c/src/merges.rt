@@ -6,7 +6,7 @@ ghost use Rattle.sj_text_core.specs.Same.{Same};
 ghost use Rattle.sj_document.specs.Document.{document_tree};
 ghost use Rattle.sj_merge.specs.Merge.{merged};
 ghost use Rattle.sj_merge.specs.MergeDiff.{merge_patch};
-ghost use Rattle.sj_c.specs.Meant.{meant};
+ghost use Rattle.sj_c.specs.Meant.{held_tree};
 
 use crate::doc::Doc;
 use crate::documents::hold;
@@ -47,12 +47,12 @@ fn merge_into(alloc: Global, document: &mut OwnedValue, patch: &OwnedValue) -> u
 /// document stays.
 #[unsafe(no_mangle)]
 pub extern "C" fn sj_merge(alloc: Global, doc: &mut Doc, patch: &mut Doc) -> u32
-    ensures ok { result ≡ OK → (t : Tree) × (p : Tree) × (meant doc.old.kept.holds ≡ Some t) × (meant patch.old.kept.holds ≡ Some p) × (meant doc.new.kept.holds ≡ Some (merged (Some t) p)) }
-    ensures within { result ≡ OK → (p : Tree) × (meant patch.old.kept.holds ≡ Some p) × (depth p ≤ 256) }
-    ensures deep { result ≡ TOO_DEEP → (p : Tree) × (meant patch.old.kept.holds ≡ Some p) × (256 < depth p) }
+    ensures ok { result ≡ OK → (t : Tree) × (p : Tree) × (held_tree doc.old.kept.holds ≡ Some t) × (held_tree patch.old.kept.holds ≡ Some p) × (held_tree doc.new.kept.holds ≡ Some (merged (Some t) p)) }
+    ensures within { result ≡ OK → (p : Tree) × (held_tree patch.old.kept.holds ≡ Some p) × (depth p ≤ 256) }
+    ensures deep { result ≡ TOO_DEEP → (p : Tree) × (held_tree patch.old.kept.holds ≡ Some p) × (256 < depth p) }
     ensures empty { result ≡ EMPTY → (doc.old.kept.holds ≡ None) ⊎ (patch.old.kept.holds ≡ None) }
     ensures answers { result ≢ OK → result ≢ TOO_DEEP → result ≢ EMPTY → result ≡ OUT_OF_MEMORY }
-    ensures refused { result ≢ OK → meant doc.new.kept.holds ≡ meant doc.old.kept.holds }
+    ensures refused { result ≢ OK → held_tree doc.new.kept.holds ≡ held_tree doc.old.kept.holds }
     ensures kept { patch.new.kept.holds ≡ patch.old.kept.holds }
 {
     let Some(mut held) = doc.take(alloc) else {
@@ -70,7 +70,7 @@ pub extern "C" fn sj_merge(alloc: Global, doc: &mut Doc, patch: &mut Doc) -> u32
 
 /// Puts the merge patch from one value to another into the handle. Refused, it keeps what it had.
 fn merge_patch_into(alloc: Global, from: &OwnedValue, to: &OwnedValue, patch: &mut Doc) -> u32
-    ensures ok { result ≡ OK → (p : Tree) × (meant patch.new.kept.holds ≡ Some p) × (merge_patch (Some (document_tree string_bytes from.now)) (document_tree string_bytes to.now) ≡ Some p) × Same (merged (Some (document_tree string_bytes from.now)) p) (document_tree string_bytes to.now) }
+    ensures ok { result ≡ OK → (p : Tree) × (held_tree patch.new.kept.holds ≡ Some p) × (merge_patch (Some (document_tree string_bytes from.now)) (document_tree string_bytes to.now) ≡ Some p) × Same (merged (Some (document_tree string_bytes from.now)) p) (document_tree string_bytes to.now) }
     ensures none { result ≡ NO_MERGE_PATCH → merge_patch (Some (document_tree string_bytes from.now)) (document_tree string_bytes to.now) ≡ None }
     ensures within { result ≡ OK → depth (document_tree string_bytes to.now) ≤ 256 }
     ensures deep { result ≡ TOO_DEEP → 256 < depth (document_tree string_bytes to.now) }
@@ -94,10 +94,10 @@ fn merge_patch_into(alloc: Global, from: &OwnedValue, to: &OwnedValue, patch: &m
 /// inside one another in `to`, as `TOO_DEEP`. Refused, `patch` keeps what it had.
 #[unsafe(no_mangle)]
 pub extern "C" fn sj_merge_diff(alloc: Global, from: &mut Doc, to: &mut Doc, patch: &mut Doc) -> u32
-    ensures ok { result ≡ OK → (t : Tree) × (u : Tree) × (p : Tree) × (meant from.old.kept.holds ≡ Some t) × (meant to.old.kept.holds ≡ Some u) × (meant patch.new.kept.holds ≡ Some p) × (merge_patch (Some t) u ≡ Some p) × Same (merged (Some t) p) u }
-    ensures none { result ≡ NO_MERGE_PATCH → (t : Tree) × (u : Tree) × (meant from.old.kept.holds ≡ Some t) × (meant to.old.kept.holds ≡ Some u) × (merge_patch (Some t) u ≡ None) }
-    ensures within { result ≡ OK → (u : Tree) × (meant to.old.kept.holds ≡ Some u) × (depth u ≤ 256) }
-    ensures deep { result ≡ TOO_DEEP → (u : Tree) × (meant to.old.kept.holds ≡ Some u) × (256 < depth u) }
+    ensures ok { result ≡ OK → (t : Tree) × (u : Tree) × (p : Tree) × (held_tree from.old.kept.holds ≡ Some t) × (held_tree to.old.kept.holds ≡ Some u) × (held_tree patch.new.kept.holds ≡ Some p) × (merge_patch (Some t) u ≡ Some p) × Same (merged (Some t) p) u }
+    ensures none { result ≡ NO_MERGE_PATCH → (t : Tree) × (u : Tree) × (held_tree from.old.kept.holds ≡ Some t) × (held_tree to.old.kept.holds ≡ Some u) × (merge_patch (Some t) u ≡ None) }
+    ensures within { result ≡ OK → (u : Tree) × (held_tree to.old.kept.holds ≡ Some u) × (depth u ≤ 256) }
+    ensures deep { result ≡ TOO_DEEP → (u : Tree) × (held_tree to.old.kept.holds ≡ Some u) × (256 < depth u) }
     ensures empty { result ≡ EMPTY → (from.old.kept.holds ≡ None) ⊎ (to.old.kept.holds ≡ None) }
     ensures answers { result ≢ OK → result ≢ NO_MERGE_PATCH → result ≢ TOO_DEEP → result ≢ EMPTY → result ≡ OUT_OF_MEMORY }
     ensures err { result ≢ OK → patch.new.kept.holds ≡ patch.old.kept.holds }

@@ -5,7 +5,7 @@ ghost use Rattle.sj_text_core.specs.Tree.{Tree};
 ghost use Rattle.sj_document.specs.Document.{document_tree};
 ghost use Rattle.sj_pointer.specs.Pointed.{pointed};
 ghost use Rattle.sj_pointer.specs.Tokens.{tokens_of};
-ghost use Rattle.sj_c.specs.Meant.{meant, print_of, print_by};
+ghost use Rattle.sj_c.specs.Meant.{held_tree, print_of, print_by};
 ghost use Rattle.sj_c.specs.Refusals.{Blames, IsReply};
 
 use crate::doc::Doc;
@@ -28,9 +28,9 @@ pub extern "C" fn sj_print_at(
     text: &mut Text,
     is_pretty: bool,
 ) -> u32
-    ensures printed { result ≡ OK → (t : Tree) × (u : Tree) × (meant doc.old.kept.holds ≡ Some t) × (pointed (tokens_of path.now) t ≡ Some u) × (print_of text.new.kept.holds ≡ Some (print_by is_pretty u)) }
-    ensures missing { result ≡ MISSING → (t : Tree) × (meant doc.old.kept.holds ≡ Some t) × (pointed (tokens_of path.now) t ≡ None) }
-    ensures too_long { result ≡ TOO_LONG → (t : Tree) × (u : Tree) × (meant doc.old.kept.holds ≡ Some t) × (pointed (tokens_of path.now) t ≡ Some u) × (2 ^ 64 ≤ length (print_by is_pretty u)) }
+    ensures printed { result ≡ OK → (t : Tree) × (u : Tree) × (held_tree doc.old.kept.holds ≡ Some t) × (pointed (tokens_of path.now) t ≡ Some u) × (print_of text.new.kept.holds ≡ Some (print_by is_pretty u)) }
+    ensures missing { result ≡ MISSING → (t : Tree) × (held_tree doc.old.kept.holds ≡ Some t) × (pointed (tokens_of path.now) t ≡ None) }
+    ensures too_long { result ≡ TOO_LONG → (t : Tree) × (u : Tree) × (held_tree doc.old.kept.holds ≡ Some t) × (pointed (tokens_of path.now) t ≡ Some u) × (2 ^ 64 ≤ length (print_by is_pretty u)) }
     ensures answers { IsReply result → result ≢ OK → (result ≡ MISSING) ⊎ (result ≡ TOO_LONG) }
     ensures blames { Blames result (doc.old.kept.holds ≡ None) path.now (¬ (IsUtf8 path.now)) }
     ensures text_kept { result ≢ OK → text.new.kept.holds ≡ text.old.kept.holds }
@@ -56,7 +56,7 @@ pub extern "C" fn sj_print_at(
 
 /// Copies what stands at the pointer in the value into the handle.
 fn part_into(alloc: Global, value: &OwnedValue, path: &Pointer, copy: &mut Doc) -> u32
-    ensures copied { result ≡ OK → (u : Tree) × (pointed path.now (document_tree string_bytes value.now) ≡ Some u) × (meant copy.new.kept.holds ≡ Some u) }
+    ensures copied { result ≡ OK → (u : Tree) × (pointed path.now (document_tree string_bytes value.now) ≡ Some u) × (held_tree copy.new.kept.holds ≡ Some u) }
     ensures missing { result ≡ MISSING → pointed path.now (document_tree string_bytes value.now) ≡ None }
     ensures answers { (result ≡ OK) ⊎ (result ≡ OUT_OF_MEMORY) ⊎ (result ≡ MISSING) }
     ensures err { result ≢ OK → copy.new.kept.holds ≡ copy.old.kept.holds }
@@ -70,8 +70,8 @@ fn part_into(alloc: Global, value: &OwnedValue, path: &Pointer, copy: &mut Doc) 
 /// Copies what stands at the pointer into another handle. Refused, that keeps what it had.
 #[unsafe(no_mangle)]
 pub extern "C" fn sj_clone_at(alloc: Global, doc: &mut Doc, path: &[u8], copy: &mut Doc) -> u32
-    ensures copied { result ≡ OK → (t : Tree) × (u : Tree) × (meant doc.old.kept.holds ≡ Some t) × (pointed (tokens_of path.now) t ≡ Some u) × (meant copy.new.kept.holds ≡ Some u) }
-    ensures missing { result ≡ MISSING → (t : Tree) × (meant doc.old.kept.holds ≡ Some t) × (pointed (tokens_of path.now) t ≡ None) }
+    ensures copied { result ≡ OK → (t : Tree) × (u : Tree) × (held_tree doc.old.kept.holds ≡ Some t) × (pointed (tokens_of path.now) t ≡ Some u) × (held_tree copy.new.kept.holds ≡ Some u) }
+    ensures missing { result ≡ MISSING → (t : Tree) × (held_tree doc.old.kept.holds ≡ Some t) × (pointed (tokens_of path.now) t ≡ None) }
     ensures answers { IsReply result → result ≢ OK → result ≡ MISSING }
     ensures blames { Blames result (doc.old.kept.holds ≡ None) path.now (¬ (IsUtf8 path.now)) }
     ensures err { result ≢ OK → copy.new.kept.holds ≡ copy.old.kept.holds }

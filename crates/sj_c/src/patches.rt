@@ -3,10 +3,10 @@
 ghost use Rattle.std.specs.Prelude.{◌≡◌, ◌≢◌, ◌⊎◌, ◌<◌, ◌≤◌, map, Ok, Some, None, IfOk, IfErr, string_bytes};
 ghost use Rattle.sj_text_core.specs.Tree.{Tree, depth};
 ghost use Rattle.sj_document.specs.Document.{document_tree};
-ghost use Rattle.sj_patch.specs.Meant.{meant as meant_operation};
+ghost use Rattle.sj_patch.specs.Meant.{held_tree as meant_operation};
 ghost use Rattle.sj_patch.specs.Operations.{patch_in};
-ghost use Rattle.sj_c.specs.Meant.{meant};
-ghost use Rattle.sj_c.specs.Patches.{Patches, NotRead, NotPatched, Leads};
+ghost use Rattle.sj_c.specs.Meant.{held_tree};
+ghost use Rattle.sj_c.specs.Patches.{Patches, NotRead, NotPatched, IsDifference};
 
 use crate::doc::Doc;
 use crate::documents::hold;
@@ -82,11 +82,11 @@ fn patch_value(
 /// one another in the patch.
 #[unsafe(no_mangle)]
 pub extern "C" fn sj_patch(alloc: Global, doc: &mut Doc, patch: &mut Doc, at: &mut usize) -> u32
-    ensures ok { result ≡ OK → (t : Tree) × (p : Tree) × (u : Tree) × (meant doc.old.kept.holds ≡ Some t) × (meant patch.old.kept.holds ≡ Some p) × (meant doc.new.kept.holds ≡ Some u) × Patches p t u }
-    ensures within { result ≡ OK → (p : Tree) × (meant patch.old.kept.holds ≡ Some p) × (depth p ≤ 1024) }
-    ensures fault { result ≢ OK → result ≢ EMPTY → (t : Tree) × (p : Tree) × (meant doc.old.kept.holds ≡ Some t) × (meant patch.old.kept.holds ≡ Some p) × NotPatched p t result at.new }
+    ensures ok { result ≡ OK → (t : Tree) × (p : Tree) × (u : Tree) × (held_tree doc.old.kept.holds ≡ Some t) × (held_tree patch.old.kept.holds ≡ Some p) × (held_tree doc.new.kept.holds ≡ Some u) × Patches p t u }
+    ensures within { result ≡ OK → (p : Tree) × (held_tree patch.old.kept.holds ≡ Some p) × (depth p ≤ 1024) }
+    ensures fault { result ≢ OK → result ≢ EMPTY → (t : Tree) × (p : Tree) × (held_tree doc.old.kept.holds ≡ Some t) × (held_tree patch.old.kept.holds ≡ Some p) × NotPatched p t result at.new }
     ensures empty { result ≡ EMPTY → (doc.old.kept.holds ≡ None) ⊎ (patch.old.kept.holds ≡ None) }
-    ensures refused { result ≢ OK → meant doc.new.kept.holds ≡ meant doc.old.kept.holds }
+    ensures refused { result ≢ OK → held_tree doc.new.kept.holds ≡ held_tree doc.old.kept.holds }
     ensures kept { patch.new.kept.holds ≡ patch.old.kept.holds }
 {
     let Some(mut held) = doc.take(alloc) else {
@@ -104,7 +104,7 @@ pub extern "C" fn sj_patch(alloc: Global, doc: &mut Doc, patch: &mut Doc, at: &m
 
 /// Puts the patch from one value to another into the handle. Refused, it keeps what it had.
 fn patch_into(alloc: Global, from: &OwnedValue, to: &OwnedValue, patch: &mut Doc) -> u32
-    ensures ok { result ≡ OK → (p : Tree) × (meant patch.new.kept.holds ≡ Some p) × Leads p (document_tree string_bytes from.now) (document_tree string_bytes to.now) }
+    ensures ok { result ≡ OK → (p : Tree) × (held_tree patch.new.kept.holds ≡ Some p) × IsDifference p (document_tree string_bytes from.now) (document_tree string_bytes to.now) }
     ensures within { result ≡ OK → (depth (document_tree string_bytes from.now) ≤ 1024) ⊎ (depth (document_tree string_bytes to.now) ≤ 1024) }
     ensures deep { result ≡ TOO_DEEP → (1024 < depth (document_tree string_bytes from.now)) × (1024 < depth (document_tree string_bytes to.now)) }
     ensures answers { (result ≡ OK) ⊎ (result ≡ TOO_DEEP) ⊎ (result ≡ OUT_OF_MEMORY) }
@@ -129,9 +129,9 @@ fn patch_into(alloc: Global, from: &OwnedValue, to: &OwnedValue, patch: &mut Doc
 /// than 1,024 arrays and objects stand inside one another in both, `patch` keeps what it had.
 #[unsafe(no_mangle)]
 pub extern "C" fn sj_diff(alloc: Global, from: &mut Doc, to: &mut Doc, patch: &mut Doc) -> u32
-    ensures ok { result ≡ OK → (t : Tree) × (u : Tree) × (p : Tree) × (meant from.old.kept.holds ≡ Some t) × (meant to.old.kept.holds ≡ Some u) × (meant patch.new.kept.holds ≡ Some p) × Leads p t u }
-    ensures within { result ≡ OK → (t : Tree) × (u : Tree) × (meant from.old.kept.holds ≡ Some t) × (meant to.old.kept.holds ≡ Some u) × ((depth t ≤ 1024) ⊎ (depth u ≤ 1024)) }
-    ensures deep { result ≡ TOO_DEEP → (t : Tree) × (u : Tree) × (meant from.old.kept.holds ≡ Some t) × (meant to.old.kept.holds ≡ Some u) × (1024 < depth t) × (1024 < depth u) }
+    ensures ok { result ≡ OK → (t : Tree) × (u : Tree) × (p : Tree) × (held_tree from.old.kept.holds ≡ Some t) × (held_tree to.old.kept.holds ≡ Some u) × (held_tree patch.new.kept.holds ≡ Some p) × IsDifference p t u }
+    ensures within { result ≡ OK → (t : Tree) × (u : Tree) × (held_tree from.old.kept.holds ≡ Some t) × (held_tree to.old.kept.holds ≡ Some u) × ((depth t ≤ 1024) ⊎ (depth u ≤ 1024)) }
+    ensures deep { result ≡ TOO_DEEP → (t : Tree) × (u : Tree) × (held_tree from.old.kept.holds ≡ Some t) × (held_tree to.old.kept.holds ≡ Some u) × (1024 < depth t) × (1024 < depth u) }
     ensures empty { result ≡ EMPTY → (from.old.kept.holds ≡ None) ⊎ (to.old.kept.holds ≡ None) }
     ensures answers { result ≢ OK → result ≢ TOO_DEEP → result ≢ EMPTY → result ≡ OUT_OF_MEMORY }
     ensures err { result ≢ OK → patch.new.kept.holds ≡ patch.old.kept.holds }

@@ -5,7 +5,7 @@ ghost use Rattle.sj_text_core.specs.Tree.{Tree};
 ghost use Rattle.sj_document.specs.Document.{document_tree};
 ghost use Rattle.sj_text_core.specs.Print.{compact};
 ghost use Rattle.sj_canonical.specs.Canonical.{canonical};
-ghost use Rattle.sj_c.specs.Meant.{meant, print_of, print_by};
+ghost use Rattle.sj_c.specs.Meant.{held_tree, print_of, print_by};
 ghost use Rattle.sj_c.specs.Refusals.{IsReply};
 
 use crate::doc::Doc;
@@ -51,8 +51,8 @@ pub fn printed(alloc: Global, value: &OwnedValue, is_pretty: bool) -> Result<Vec
 /// Prints the document into the handle of a print, and lets go what that had. Refused, it keeps it.
 #[unsafe(no_mangle)]
 pub extern "C" fn sj_print(alloc: Global, doc: &mut Doc, text: &mut Text, is_pretty: bool) -> u32
-    ensures printed { result ≡ OK → (t : Tree) × (meant doc.old.kept.holds ≡ Some t) × (print_of text.new.kept.holds ≡ Some (print_by is_pretty t)) }
-    ensures too_long { result ≡ TOO_LONG → (t : Tree) × (meant doc.old.kept.holds ≡ Some t) × (2 ^ 64 ≤ length (print_by is_pretty t)) }
+    ensures printed { result ≡ OK → (t : Tree) × (held_tree doc.old.kept.holds ≡ Some t) × (print_of text.new.kept.holds ≡ Some (print_by is_pretty t)) }
+    ensures too_long { result ≡ TOO_LONG → (t : Tree) × (held_tree doc.old.kept.holds ≡ Some t) × (2 ^ 64 ≤ length (print_by is_pretty t)) }
     ensures empty { (result ≡ EMPTY) ↔ (doc.old.kept.holds ≡ None) }
     ensures answers { IsReply result → result ≢ OK → result ≡ TOO_LONG }
     ensures text_kept { result ≢ OK → text.new.kept.holds ≡ text.old.kept.holds }
@@ -83,8 +83,8 @@ fn printed_canonical(alloc: Global, value: &OwnedValue) -> Result<Vec<u8>, Write
 /// had. Refused, it keeps it.
 #[unsafe(no_mangle)]
 pub extern "C" fn sj_print_canonical(alloc: Global, doc: &mut Doc, text: &mut Text) -> u32
-    ensures printed { result ≡ OK → (t : Tree) × (meant doc.old.kept.holds ≡ Some t) × (print_of text.new.kept.holds ≡ Some (compact (canonical t))) }
-    ensures too_long { result ≡ TOO_LONG → (t : Tree) × (meant doc.old.kept.holds ≡ Some t) × (2 ^ 64 ≤ length (compact t)) }
+    ensures printed { result ≡ OK → (t : Tree) × (held_tree doc.old.kept.holds ≡ Some t) × (print_of text.new.kept.holds ≡ Some (compact (canonical t))) }
+    ensures too_long { result ≡ TOO_LONG → (t : Tree) × (held_tree doc.old.kept.holds ≡ Some t) × (2 ^ 64 ≤ length (compact t)) }
     ensures empty { (result ≡ EMPTY) ↔ (doc.old.kept.holds ≡ None) }
     ensures answers { IsReply result → result ≢ OK → result ≡ TOO_LONG }
     ensures text_kept { result ≢ OK → text.new.kept.holds ≡ text.old.kept.holds }

@@ -4,7 +4,7 @@ ghost use Rattle.std.specs.Prelude.{◌≡◌, ◌≢◌, ◌⊎◌, ◌↔◌, 
 ghost use Rattle.sj_text_core.specs.Tree.{Tree, depth};
 ghost use Rattle.sj_text_core.specs.Same.{Same};
 ghost use Rattle.sj_document.specs.Document.{document_tree};
-ghost use Rattle.sj_c.specs.Meant.{meant};
+ghost use Rattle.sj_c.specs.Meant.{held_tree};
 
 use crate::doc::Doc;
 use crate::status::{EMPTY, OK, OUT_OF_MEMORY, TOO_DEEP};
@@ -52,9 +52,9 @@ fn compare(alloc: Global, one: &OwnedValue, other: &OwnedValue, same: &mut bool)
 /// 1,024 arrays and objects stand inside one another in both, it is refused as `TOO_DEEP`.
 #[unsafe(no_mangle)]
 pub extern "C" fn sj_same(alloc: Global, one: &mut Doc, other: &mut Doc, same: &mut bool) -> u32
-    ensures ok { result ≡ OK → (t : Tree) × (u : Tree) × (meant one.old.kept.holds ≡ Some t) × (meant other.old.kept.holds ≡ Some u) × (IsTrue same.new ↔ Same t u) }
-    ensures within { result ≡ OK → (t : Tree) × (u : Tree) × (meant one.old.kept.holds ≡ Some t) × (meant other.old.kept.holds ≡ Some u) × ((depth t ≤ 1024) ⊎ (depth u ≤ 1024)) }
-    ensures deep { result ≡ TOO_DEEP → (t : Tree) × (u : Tree) × (meant one.old.kept.holds ≡ Some t) × (meant other.old.kept.holds ≡ Some u) × (1024 < depth t) × (1024 < depth u) }
+    ensures ok { result ≡ OK → (t : Tree) × (u : Tree) × (held_tree one.old.kept.holds ≡ Some t) × (held_tree other.old.kept.holds ≡ Some u) × (IsTrue same.new ↔ Same t u) }
+    ensures within { result ≡ OK → (t : Tree) × (u : Tree) × (held_tree one.old.kept.holds ≡ Some t) × (held_tree other.old.kept.holds ≡ Some u) × ((depth t ≤ 1024) ⊎ (depth u ≤ 1024)) }
+    ensures deep { result ≡ TOO_DEEP → (t : Tree) × (u : Tree) × (held_tree one.old.kept.holds ≡ Some t) × (held_tree other.old.kept.holds ≡ Some u) × (1024 < depth t) × (1024 < depth u) }
     ensures empty { result ≡ EMPTY → (one.old.kept.holds ≡ None) ⊎ (other.old.kept.holds ≡ None) }
     ensures answers { result ≢ OK → result ≢ TOO_DEEP → result ≢ EMPTY → result ≡ OUT_OF_MEMORY }
     ensures one_kept { one.new.kept.holds ≡ one.old.kept.holds }

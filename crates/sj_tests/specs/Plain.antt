@@ -6,11 +6,11 @@ use Rattle.sj_object.specs.Members.{entry_members}
 use Rattle.sj_tests.specs.declared.plain.Plain.{Plain, fold-Plain}
 use Rattle.sj_tests.specs.declared.plain.Plain.TheOpen.{Plain-F}
 
-abbrev pub level_tree : Plain-F Tree → Tree
-level_tree (Plain-F.Scalar s) = static_tree s
-level_tree (Plain-F.Text s) = text (string_bytes s)
-level_tree (Plain-F.Items v) = list (items_from v.items)
-level_tree (Plain-F.Members m) = obj (entry_members (λ u. u) m.entries)
+abbrev pub open_tree : Plain-F Tree → Tree
+open_tree (Plain-F.Scalar s) = static_tree s
+open_tree (Plain-F.Text s) = text (string_bytes s)
+open_tree (Plain-F.Items v) = list (items_from v.items)
+open_tree (Plain-F.Members m) = obj (entry_members (λ u. u) m.entries)
 
 abbrev pub tree : Plain → Tree
-tree = fold-Plain Tree level_tree
+tree = fold-Plain Tree open_tree

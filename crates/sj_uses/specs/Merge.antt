@@ -4,9 +4,9 @@ use Rattle.sj_text_core.specs.Tree.{Tree, null, boolean, int, text, list, obj, M
 use Rattle.sj_text_core.specs.Find.{find_member}
 use Rattle.sj_text_core.specs.Edits.{put}
 
-abbrev pub members_in : Tree → Members
-members_in (obj ms) = ms
-members_in t = no_members
+abbrev pub own_members : Tree → Members
+own_members (obj ms) = ms
+own_members t = no_members
 
 -- of an object all, of anything else the upper members alone
 abbrev pub covered : Tree → Members → Members → Tree
@@ -25,7 +25,7 @@ abbrev mutual
   merged t (int n c) = int n c
   merged t (text s) = text s
   merged t (list is) = list is
-  merged t (obj ns) = covered t ns (merged_members (members_in t) ns)
+  merged t (obj ns) = covered t ns (merged_members (own_members t) ns)
 
   pub merged_members : Members → Members → Members
   merged_members ms no_members = ms

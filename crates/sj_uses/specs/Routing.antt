@@ -37,11 +37,11 @@ route_name News = codes "news "
 route_name Other = codes "other "
 
 -- of a message to news the member of each key that comes first, with one hop more; any other message as it came
-abbrev pub changed : List ℕ → Route → Tree → Tree
-changed hops Alerts t = t
-changed hops News t = hopped hops (keep t)
-changed hops Other t = t
+abbrev pub sent : List ℕ → Route → Tree → Tree
+sent hops Alerts t = t
+sent hops News t = hopped hops (keep t)
+sent hops Other t = t
 
 -- the line that is written of a message
 abbrev pub forwarded : List ℕ → List (List ℕ) → List ℕ → Tree → List ℕ
-forwarded topic urgent hops t = (route_name (route topic urgent t) ++ compact (changed hops (route topic urgent t) t)) ++ line_feed ∷ []
+forwarded topic urgent hops t = (route_name (route topic urgent t) ++ compact (sent hops (route topic urgent t) t)) ++ line_feed ∷ []

@@ -26,18 +26,18 @@ either_number None (Some m) = Some (pos m)
 either_number None None = None
 
 -- the number, where the tree is a whole number from -2^127 to 2^128-1
-abbrev pub number_of : Tree → Option ℤ
-number_of t = either_number (as_signed 128 t) (as_unsigned 128 t)
+abbrev pub whole_number : Tree → Option ℤ
+whole_number t = either_number (as_signed 128 t) (as_unsigned 128 t)
 
 -- a whole number that is no less than the end, where there is one
 abbrev pub IsAtLeast : Option ℤ → Tree → Type 0
 IsAtLeast None t = ⊤
-IsAtLeast (Some least) t = IsSomeAnd (number_of t) (λ n. least ≤ℤ n)
+IsAtLeast (Some least) t = IsSomeAnd (whole_number t) (λ n. least ≤ℤ n)
 
 -- a whole number that is no more than the end, where there is one
 abbrev pub IsAtMost : Option ℤ → Tree → Type 0
 IsAtMost None t = ⊤
-IsAtMost (Some most) t = IsSomeAnd (number_of t) (λ n. n ≤ℤ most)
+IsAtMost (Some most) t = IsSomeAnd (whole_number t) (λ n. n ≤ℤ most)
 
 -- how many characters UTF-8 bytes write: each byte begins one, but for those from 128 to 191 (RFC 3629, section 3)
 abbrev pub characters : List ℕ → ℕ
@@ -113,16 +113,16 @@ abbrev pub IsWanted : Demand → Tree → Type 0
 IsWanted d t = Admits d.limits t × (is_choice d.choices t ≡ true)
 
 -- and has no other keys
-abbrev pub Fits : Demand → Tree → Type 0
-Fits d t = IsWanted d t × (has_only d.keys t ≡ true)
+abbrev pub Suits : Demand → Tree → Type 0
+Suits d t = IsWanted d t × (has_only d.keys t ≡ true)
 
-abbrev pub FoundFits : Demand → Option Tree → Type 0
-FoundFits d None = d.is_required ≡ false
-FoundFits d (Some t) = Fits d t
+abbrev pub FoundSuits : Demand → Option Tree → Type 0
+FoundSuits d None = d.is_required ≡ false
+FoundSuits d (Some t) = Suits d t
 
 -- what stands at the place is what the demand asks for; where nothing stands, nothing has to
 abbrev pub IsMet : Demand → Tree → Type 0
-IsMet d t = FoundFits d (pointed d.place t)
+IsMet d t = FoundSuits d (pointed d.place t)
 
 -- a verdict on each demand, in order: whether the tree meets it
 abbrev pub Judged : Tree → List Demand → List Bool → Type 0

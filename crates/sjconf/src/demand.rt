@@ -4,7 +4,7 @@ ghost use Rattle.std.specs.Prelude.{◌≡◌, ◌↔◌, IsTrue, map, string_by
 ghost use Rattle.sj_text_core.specs.Tree.{keys_of};
 ghost use Rattle.sj_object.specs.Members.{entry_members};
 ghost use Rattle.sj_document.specs.Document.{document_tree};
-ghost use Rattle.sjconf.specs.Demands.{Admits, Fits, IsAsLong, IsAsShort, IsAtLeast, IsAtMost, IsKind, IsMet, IsWanted, are_of, characters, has_only, is_choice, is_one_of, is_same_as_one, length_in};
+ghost use Rattle.sjconf.specs.Demands.{Admits, IsAsLong, IsAsShort, IsAtLeast, IsAtMost, IsKind, IsMet, IsWanted, Suits, are_of, characters, has_only, is_choice, is_one_of, is_same_as_one, length_in};
 
 use sj_kinds::Kind;
 use sj_owned::prelude::*;
@@ -209,7 +209,7 @@ impl Demand {
 
     /// Whether the value is what is asked for, and has no other keys.
     fn fits(&self, value: &Value) -> bool
-        ensures { IsTrue result ↔ Fits self.now (document_tree string_bytes value.now) }
+        ensures { IsTrue result ↔ Suits self.now (document_tree string_bytes value.now) }
     {
         self.is_wanted(value) && has_keys(value, &self.keys)
     }

@@ -1,8 +1,9 @@
 //! Files, read whole, as documents.
 
 ghost use Rattle.std.specs.Prelude.{IfOk, string_bytes};
+ghost use Rattle.sj_text_core.specs.Keep.{keep};
+ghost use Rattle.sj_text_core.specs.Readings.{IsReadAs};
 ghost use Rattle.sj_document.specs.Document.{document_tree};
-ghost use Rattle.sjconf.specs.Layers.{IsRead};
 
 use crate::fault::Fault;
 use sj_fault::fault_at;
@@ -43,7 +44,7 @@ pub fn read_layer<'w, R: Files + Input + AllocGlobal>(
 
 /// The document of a file; of repeated keys the first counts.
 pub fn document(alloc: Global, layer: &Layer<'_>) -> Result<Value, Fault>
-    ensures { IfOk result (λ v. IsRead layer.now (document_tree string_bytes v)) }
+    ensures { IfOk result (λ v. IsReadAs keep layer.now.text.items (document_tree string_bytes v)) }
 {
     let mut bytes = layer.text.clone()?;
     match to_value(alloc, bytes.as_mut_slice()) {

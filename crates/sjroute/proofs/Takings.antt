@@ -3,7 +3,7 @@ use Rattle.std.proofs.Common.{◌≡◌, ℕ, zero, suc, ◌+◌, ◌<◌, lengt
 use Rattle.std.proofs.lemmas.List.{take_more, take_more_set, drop-set-lt}
 use Rattle.std.specs.Prelude.{◌↔◌, IsTrue}
 use Rattle.sj_text_core.specs.Tree.{Tree}
-use Rattle.sjroute.specs.Routed.{AllTaken, Grown, IsUnmet, MeetsAny, MeetsRule, Taken, TakesMessage, line_of, line_to}
+use Rattle.sjroute.specs.Routed.{AllTaken, Grown, IsUnmet, MeetsAny, MeetsRule, Taken, TakesMessage, line_to, written_line}
 use Rattle.sjroute.specs.declared.routing.Takes.{Takes}
 use Rattle.sjroute.specs.declared.routing.Takes.TheVariants.{Met, Unmet, Unread}
 use Rattle.sjroute.specs.declared.routing.Route.{Route}
@@ -79,17 +79,17 @@ one_both s t r m q a b =
     let h = b.2 in
     let unmet : IsTrue b.0 ↔ IsUnmet r.takes = subst (λ (k : Takes). IsTrue b.0 ↔ IsUnmet k) g.1 b.1 in
     let c = either t r.takes a.0 b.0 a.1 unmet in
-    let line = ap (λ p. line_of p s t) g.2 in (
+    let line = ap (λ p. written_line p s t) g.2 in (
       c.0,
       c.1,
       (
         h.0 ∙ g.0,
         h.1 ∙ g.1,
         h.2 ∙ g.2,
-        h.3 ∙ ap (λ (l : List ℕ). l ++ (if b.0 then line_of m.merge s t else [])) g.3
-            ∙ append_assoc r.waiting.items (if a.0 then line_of r.merge s t else []) (if b.0 then line_of m.merge s t else [])
-            ∙ ap (λ (l : List ℕ). r.waiting.items ++ ((if a.0 then line_of r.merge s t else []) ++ (if b.0 then l else []))) line
-            ∙ ap (λ (l : List ℕ). r.waiting.items ++ l) (c.2 (line_of r.merge s t)),
+        h.3 ∙ ap (λ (l : List ℕ). l ++ (if b.0 then written_line m.merge s t else [])) g.3
+            ∙ append_assoc r.waiting.items (if a.0 then written_line r.merge s t else []) (if b.0 then written_line m.merge s t else [])
+            ∙ ap (λ (l : List ℕ). r.waiting.items ++ ((if a.0 then written_line r.merge s t else []) ++ (if b.0 then l else []))) line
+            ∙ ap (λ (l : List ℕ). r.waiting.items ++ l) (c.2 (written_line r.merge s t)),
       ),
     )
 

@@ -16,13 +16,13 @@ use Rattle.sjroute.specs.declared.routing.Takes.TheVariants.{Met, Unmet, Unread}
 use Rattle.sjroute.specs.declared.routing.Route.{Route}
 
 -- what is written of a message: its text as it came, or the print of what the merge patch makes of the message, with the first member of each key
-abbrev pub line_of : Option (Document (String Global)) → List ℕ → Tree → List ℕ
-line_of None s t = s ++ line_feed ∷ []
-line_of (Some p) s t = compact (merged (Some (keep t)) (document_tree string_bytes p)) ++ line_feed ∷ []
+abbrev pub written_line : Option (Document (String Global)) → List ℕ → Tree → List ℕ
+written_line None s t = s ++ line_feed ∷ []
+written_line (Some p) s t = compact (merged (Some (keep t)) (document_tree string_bytes p)) ++ line_feed ∷ []
 
 -- the same to an output
 abbrev pub line_to : List ℕ → Tree → Route → List ℕ
-line_to s t r = line_of r.merge s t
+line_to s t r = written_line r.merge s t
 
 -- a text as it came, to any output
 abbrev pub text_to : List ℕ → Route → List ℕ

@@ -7,7 +7,7 @@ ghost use Rattle.sj_text_core.specs.declared.repeats.Repeats.TheVariants.{First}
 ghost use Rattle.sj_tape.specs.Value.{tape_tree, tape_choice};
 ghost use Rattle.sj_document.specs.Document.{document_tree};
 ghost use Rattle.sj_merge.specs.Merge.{merged};
-ghost use Rattle.sjroute.specs.Routed.{AllTaken, Grown, IsUnmet, IsUnread, MeetsAny, MeetsRule, TakesMessage, line_of, line_to, text_to};
+ghost use Rattle.sjroute.specs.Routed.{AllTaken, Grown, IsUnmet, IsUnread, MeetsAny, MeetsRule, TakesMessage, line_to, text_to, written_line};
 
 use crate::rule::Rule;
 use sj_merge::into_merged;
@@ -45,7 +45,7 @@ fn put_line(
     waiting: &mut Vec<u8>,
 ) -> Result<(), JsonError>
     requires { tape_choice message ≡ First }
-    ensures ok { OnOk result (waiting.new.items ≡ waiting.old.items ++ line_of patch.now text.now (tape_tree message.entry)) }
+    ensures ok { OnOk result (waiting.new.items ≡ waiting.old.items ++ written_line patch.now text.now (tape_tree message.entry)) }
     ensures refused { OnErr result (waiting.new.items ≡ waiting.old.items) }
 {
     match patch {

@@ -1,12 +1,14 @@
 use Rattle.std.proofs.Common.{rules, ◌≡◌, ◌+◌, take, map, List, [], ◌∷◌, ◌++◌, string_bytes, sym, ap, ◌∙◌, subst, arith}
 use Rattle.std.proofs.lemmas.List.{take_more, map-append}
 use Rattle.sj_text_core.specs.Tree.{Tree}
+use Rattle.sj_text_core.specs.Keep.{keep}
+use Rattle.sj_text_core.specs.Readings.{IsReadAs}
 use Rattle.sj_document.specs.Document.{document_tree}
-use Rattle.sjconf.specs.Layers.{AreRead, IsRead}
+use Rattle.sjconf.specs.Layers.{AreRead}
 use Rattle.sjconf.specs.declared.input.Layer.{Layer}
 use Rattle.sjconf.proofs.whole.documents.Goals as goal
 
-read-append : (ls : List Layer) (ts : List Tree) (l : Layer) (t : Tree) → AreRead ls ts → IsRead l t → AreRead (ls ++ l ∷ []) (ts ++ t ∷ [])
+read-append : (ls : List Layer) (ts : List Tree) (l : Layer) (t : Tree) → AreRead ls ts → IsReadAs keep l.text.items t → AreRead (ls ++ l ∷ []) (ts ++ t ∷ [])
 read-append [] [] l t are is = (is, tt)
 read-append [] (u ∷ ts) l t are is = absurd are
 read-append (m ∷ ls) [] l t are is = absurd are
