@@ -11,12 +11,13 @@ use Rattle.sj_text_core.specs.Grammar.{Spells}
 use Rattle.sj_text_core.specs.Places.{is_empty}
 use Rattle.sj_commands.specs.Commands.{PlainCommand}
 use Rattle.sj_commands.specs.CommandLines.{AreCommandsOf}
+use Rattle.sj_text_core.specs.Readings.{IsReadAs}
 use Rattle.sj_text_core.specs.Repeats.{keep_by}
 use Rattle.sj_text_core.specs.declared.repeats.Repeats.{Repeats}
 use Rattle.sj_text_core.specs.declared.repeats.Repeats.TheVariants.{First}
 use Rattle.sj_run.specs.Repeats.{answer_by, replies_by, part_after, start_by}
 use Rattle.sj_run.specs.Answered.{AnswersLines, PassesLines}
-use Rattle.sj_run.specs.inner.Answered.{ReadsTree, AnswersLine, AnswersText, PassesLine, PassesText}
+use Rattle.sj_run.specs.inner.Answered.{AnswersLine, AnswersText, PassesLine, PassesText}
 use Rattle.sj_run.specs.Replies.{PlainReply}
 use Rattle.sj_run.specs.Shown.{reply_text, shown, shown_all}
 use Rattle.sj_run.specs.Session.{IsAnsweredBy, PassesAllBy, fault_of}
@@ -163,23 +164,23 @@ passes_from ts n p h = subst (λ x. PassesLines x ts n) p h
 
 -- a document that keeps one member of each key was read, and its lines were answered
 pub kept_answers : (f : Form) (c : Repeats) (text lines old new : List ℕ) (u : Tree) (last : Repeats × Tree) → ((t : Tree) → start_by c f t ≡ (First, keep_by c t))
-    → ReadsTree c text u → AnswersLines (First, u) (line_texts (full_lines lines)) last old new → AnswersText c f text lines old new
+    → IsReadAs (keep_by c) text u → AnswersLines (First, u) (line_texts (full_lines lines)) last old new → AnswersText c f text lines old new
 kept_answers f c text lines old new u last starts r a = record {
-  tree = r.tree;
-  spelled = r.spelled;
-  within = r.within;
+  tree = r.0;
+  spelled = r.1;
+  within = r.2;
   last = last;
-  answers = answers_from (ap (λ (t : Tree). (First, t)) r.kept ∙ sym (starts r.tree)) a;
+  answers = answers_from (ap (λ (t : Tree). (First, t)) r.3 ∙ sym (starts r.0)) a;
 }
 
 -- the same, where the replies pass
 pub kept_passes : (f : Form) (c : Repeats) (text lines : List ℕ) (n : ℕ) (u : Tree) → ((t : Tree) → start_by c f t ≡ (First, keep_by c t))
-    → ReadsTree c text u → PassesLines (First, u) (line_texts (full_lines lines)) n → PassesText c f text lines n
+    → IsReadAs (keep_by c) text u → PassesLines (First, u) (line_texts (full_lines lines)) n → PassesText c f text lines n
 kept_passes f c text lines n u starts r p = record {
-  tree = r.tree;
-  spelled = r.spelled;
-  within = r.within;
-  passes = passes_from (line_texts (full_lines lines)) n (ap (λ (t : Tree). (First, t)) r.kept ∙ sym (starts r.tree)) p;
+  tree = r.0;
+  spelled = r.1;
+  within = r.2;
+  passes = passes_from (line_texts (full_lines lines)) n (ap (λ (t : Tree). (First, t)) r.3 ∙ sym (starts r.0)) p;
 }
 
 -- a session that was answered

@@ -2,7 +2,6 @@
 use Rattle.std.specs.Prelude.{◌≡◌, ℕ, ◌+◌, ◌^◌, ◌≤◌, List, ◌++◌, length}
 use Rattle.sj_text_core.specs.Tree.{Tree, IsWithin}
 use Rattle.sj_text_core.specs.Grammar.{Spells}
-use Rattle.sj_text_core.specs.Repeats.{keep_by}
 use Rattle.sj_text_core.specs.declared.repeats.Repeats.{Repeats}
 use Rattle.sj_commands.specs.Commands.{PlainCommand}
 use Rattle.sj_commands.specs.CommandLines.{IsCommandOf}
@@ -11,13 +10,6 @@ use Rattle.sj_run.specs.Repeats.{answer_by, start_by}
 use Rattle.sj_run.specs.declared.sessions.Form.{Form}
 use Rattle.sj_run.specs.Shown.{reply_text, shown}
 use Rattle.sj_run.specs.Answered.{AnswersLines, PassesLines}
-
--- a document was read: the bytes spell a tree within the limit, and u is that tree with the member of each key that counts
-pub record ReadsTree (c : Repeats) (b : List ℕ) (u : Tree) : Type 0 where
-  pub tree : Tree
-  pub spelled : Spells b tree
-  pub within : IsWithin tree
-  pub kept : u ≡ keep_by c tree
 
 -- a command was answered: the choice and the tree d became u, and the output grew by the text of the reply
 pub record AnswersCommand (d : Repeats × Tree) (c : PlainCommand) (u : Repeats × Tree) (old new : List ℕ) : Type 0 where

@@ -2,8 +2,10 @@
 
 ghost use Rattle.std.specs.Prelude.{◌≡◌, ◌≢◌, ◌↔◌, IfOk, OnOk, OnErr, IsErrOf, IsUtf8, Err, length};
 ghost use Rattle.sj_text_core.specs.Grammar.{IsReadable, Spells};
+ghost use Rattle.sj_text_core.specs.Readings.{IsReadAs};
+ghost use Rattle.sj_text_core.specs.Repeats.{keep_by};
 ghost use Rattle.sj_text_core.specs.Tree.{IsWithin};
-ghost use Rattle.sj_run.specs.inner.Answered.{ReadsTree, AnswersText, PassesText};
+ghost use Rattle.sj_run.specs.inner.Answered.{AnswersText, PassesText};
 ghost use Rattle.sj_run.specs.declared.sessions.Form.TheVariants as variant;
 
 use crate::document::Way;
@@ -35,7 +37,7 @@ fn read_document<'v, V: Builder<'v, Key>, Key: KeyOf<'v>>(
     text: &'v mut [u8],
     repeats: Repeats,
 ) -> Result<V, SessionFault>
-    ensures read { IfOk result (λ v. ReadsTree repeats text.old (V.tree v)) }
+    ensures read { IfOk result (λ v. IsReadAs (keep_by repeats) text.old (V.tree v)) }
     ensures refused { (k : ErrorKind) → result ≡ Err (SessionFault.Refused k) → (k ≢ ErrorKind.OutOfMemory) × (¬ (IsReadable text.old)) }
     ensures utf8 { IsErrOf result (SessionFault.Refused ErrorKind.InvalidUtf8) ↔ ¬ (IsUtf8 text.old) }
     ensures usage { result ≢ Err SessionFault.Usage }
