@@ -35,6 +35,7 @@ check-docs:
 	tools/clauses.py
 	tools/calling.py --check
 	tools/trusted.py --check README.md
+	tools/words.py
 	tools/bindings_picture.py --check
 	tools/picture.py docs/TIMINGS.md docs/timings.svg --check
 
