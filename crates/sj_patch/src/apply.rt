@@ -1,6 +1,6 @@
 //! One operation on a document.
 
-ghost use Rattle.std.specs.Prelude.{◌≡◌, Ok, OnOk, IfErr};
+ghost use Rattle.std.specs.Prelude.{◌≡◌, ⊤, Ok, OnOk, IfErr};
 ghost use Rattle.sj_document.specs.Document.{document_tree};
 ghost use Rattle.sj_patch.specs.Patch.{added, replaced, copied, stayed, moved, tested, begins, applied};
 ghost use Rattle.sj_patch.specs.Meant.{meant};
@@ -24,7 +24,7 @@ fn add<'o, T: OwnedText + Drop>(
     log: &mut Vec<Undo<'o, T>>,
 ) -> Result<(), Refusal>
     ensures ok { OnOk result (added path.now (document_tree T.text_of value) (document_tree T.text_of document.old) ≡ Ok (document_tree T.text_of document.new)) }
-    ensures fault { IfErr result (λ e. Refuses (Unit {0}) e (added path.now (document_tree T.text_of value) (document_tree T.text_of document.old))) }
+    ensures fault { IfErr result (λ e. Refuses ⊤ e (added path.now (document_tree T.text_of value) (document_tree T.text_of document.old))) }
     ensures undo { undone T.text_of log.new.items (document_tree T.text_of document.new) ≡ undone T.text_of log.old.items (document_tree T.text_of document.old) }
 {
     change(document, path, Change::Put(value), log)
@@ -37,7 +37,7 @@ fn replace<'o, T: OwnedText + Drop>(
     log: &mut Vec<Undo<'o, T>>,
 ) -> Result<(), Refusal>
     ensures ok { OnOk result (replaced path.now (document_tree T.text_of value) (document_tree T.text_of document.old) ≡ Ok (document_tree T.text_of document.new)) }
-    ensures fault { IfErr result (λ e. Refuses (Unit {0}) e (replaced path.now (document_tree T.text_of value) (document_tree T.text_of document.old))) }
+    ensures fault { IfErr result (λ e. Refuses ⊤ e (replaced path.now (document_tree T.text_of value) (document_tree T.text_of document.old))) }
     ensures undo { undone T.text_of log.new.items (document_tree T.text_of document.new) ≡ undone T.text_of log.old.items (document_tree T.text_of document.old) }
 {
     change(document, path, Change::Swap(value), log)
@@ -49,7 +49,7 @@ fn test<T: OwnedText + Drop>(
     value: &Document<T>,
 ) -> Result<(), Refusal>
     ensures ok { OnOk result (tested path.now (document_tree T.text_of value.now) (document_tree T.text_of document.now) ≡ Ok (document_tree T.text_of document.now)) }
-    ensures fault { IfErr result (λ e. Refuses (Unit {0}) e (tested path.now (document_tree T.text_of value.now) (document_tree T.text_of document.now))) }
+    ensures fault { IfErr result (λ e. Refuses ⊤ e (tested path.now (document_tree T.text_of value.now) (document_tree T.text_of document.now))) }
 {
     match find(document, path) {
         Some(found) => {
@@ -70,7 +70,7 @@ fn copy<'o, T: OwnedText + Drop>(
     log: &mut Vec<Undo<'o, T>>,
 ) -> Result<(), Refusal>
     ensures ok { OnOk result (copied from.now path.now (document_tree T.text_of document.old) ≡ Ok (document_tree T.text_of document.new)) }
-    ensures fault { IfErr result (λ e. Refuses (Unit {0}) e (copied from.now path.now (document_tree T.text_of document.old))) }
+    ensures fault { IfErr result (λ e. Refuses ⊤ e (copied from.now path.now (document_tree T.text_of document.old))) }
     ensures undo { undone T.text_of log.new.items (document_tree T.text_of document.new) ≡ undone T.text_of log.old.items (document_tree T.text_of document.old) }
 {
     match find(document, from) {
@@ -92,7 +92,7 @@ fn is_within(path: &Pointer, other: &Pointer) -> bool
 /// What stands there stays.
 fn stay<T: OwnedText + Drop>(document: &Document<T>, from: &Pointer) -> Result<(), Refusal>
     ensures ok { OnOk result (stayed from.now (document_tree T.text_of document.now) ≡ Ok (document_tree T.text_of document.now)) }
-    ensures fault { IfErr result (λ e. Refuses (Unit {0}) e (stayed from.now (document_tree T.text_of document.now))) }
+    ensures fault { IfErr result (λ e. Refuses ⊤ e (stayed from.now (document_tree T.text_of document.now))) }
 {
     match find(document, from) {
         Some(_) => Ok(()),
@@ -108,7 +108,7 @@ fn shift<'o, T: OwnedText + Drop>(
     log: &mut Vec<Undo<'o, T>>,
 ) -> Result<(), Refusal>
     ensures ok { OnOk result (moved from.now path.now (document_tree T.text_of document.old) ≡ Ok (document_tree T.text_of document.new)) }
-    ensures fault { IfErr result (λ e. Refuses (Unit {0}) e (moved from.now path.now (document_tree T.text_of document.old))) }
+    ensures fault { IfErr result (λ e. Refuses ⊤ e (moved from.now path.now (document_tree T.text_of document.old))) }
     ensures undo { undone T.text_of log.new.items (document_tree T.text_of document.new) ≡ undone T.text_of log.old.items (document_tree T.text_of document.old) }
 {
     if is_within(path, from) {
@@ -127,7 +127,7 @@ pub(crate) fn apply<'o, T: OwnedText + Drop>(
     log: &mut Vec<Undo<'o, T>>,
 ) -> Result<(), Refusal>
     ensures ok { OnOk result (applied (meant T.text_of operation.now) (document_tree T.text_of document.old) ≡ Ok (document_tree T.text_of document.new)) }
-    ensures fault { IfErr result (λ e. Refuses (Unit {0}) e (applied (meant T.text_of operation.now) (document_tree T.text_of document.old))) }
+    ensures fault { IfErr result (λ e. Refuses ⊤ e (applied (meant T.text_of operation.now) (document_tree T.text_of document.old))) }
     ensures undo { undone T.text_of log.new.items (document_tree T.text_of document.new) ≡ undone T.text_of log.old.items (document_tree T.text_of document.old) }
 {
     match operation {

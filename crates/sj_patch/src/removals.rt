@@ -1,6 +1,6 @@
 //! Removals, of which those in one container, one after another, share the room that undoes them.
 
-ghost use Rattle.std.specs.Prelude.{◌≡◌, ◌↔◌, [], ◌∷◌, ◌++◌, Ok, map, string_bytes, OnOk, IfOk, IfErr, IsTrue};
+ghost use Rattle.std.specs.Prelude.{◌≡◌, ⊤, ◌↔◌, [], ◌∷◌, ◌++◌, Ok, map, string_bytes, OnOk, IfOk, IfErr, IsTrue};
 ghost use Rattle.sj_text_core.specs.Tree.{Tree};
 ghost use Rattle.sj_document.specs.Document.{document_tree};
 ghost use Rattle.sj_patch.specs.Patch.{removed};
@@ -226,7 +226,7 @@ pub(crate) fn remove<'o, T: OwnedText + Drop>(
     log: &mut Vec<Undo<'o, T>>,
 ) -> Result<(), Refusal>
     ensures ok { OnOk result (removed path.now (document_tree T.text_of document.old) ≡ Ok (document_tree T.text_of document.new)) }
-    ensures fault { IfErr result (λ e. Refuses (Unit {0}) e (removed path.now (document_tree T.text_of document.old))) }
+    ensures fault { IfErr result (λ e. Refuses ⊤ e (removed path.now (document_tree T.text_of document.old))) }
     ensures undo { undone T.text_of log.new.items (document_tree T.text_of document.new) ≡ undone T.text_of log.old.items (document_tree T.text_of document.old) }
 {
     if remove_beside(document, path.tokens(), log)? {

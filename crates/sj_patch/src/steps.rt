@@ -1,6 +1,6 @@
 //! Changes at pointers, with a log of what undoes them.
 
-ghost use Rattle.std.specs.Prelude.{◌≡◌, [], ◌∷◌, ◌++◌, Ok, map, string_bytes, OnOk, IfErr};
+ghost use Rattle.std.specs.Prelude.{◌≡◌, ⊤, [], ◌∷◌, ◌++◌, Ok, map, string_bytes, OnOk, IfErr};
 ghost use Rattle.sj_document.specs.Document.{document_tree};
 ghost use Rattle.sj_patch.specs.Patch.{added};
 ghost use Rattle.sj_patch.specs.inner.Changed.{ChangesOrReturns, ChangesWhole, IsNoUndo, Refuses, carried, change_at, filled_below, gaps_filled, undone, undone_at, undo_one};
@@ -108,7 +108,7 @@ pub(crate) fn change<'o, T: OwnedText + Drop>(
 ) -> Result<(), Refusal>
     requires { IsNoUndo T.text_of change }
     ensures ok { OnOk result (change_at T.text_of change path.now (document_tree T.text_of document.old) ≡ Ok (document_tree T.text_of document.new)) }
-    ensures fault { IfErr result (λ e. Refuses (Unit {0}) e (change_at T.text_of change path.now (document_tree T.text_of document.old))) }
+    ensures fault { IfErr result (λ e. Refuses ⊤ e (change_at T.text_of change path.now (document_tree T.text_of document.old))) }
     ensures undo { undone T.text_of log.new.items (document_tree T.text_of document.new) ≡ undone T.text_of log.old.items (document_tree T.text_of document.old) }
 {
     log.reserve(1)?;
@@ -135,7 +135,7 @@ pub(crate) fn carry<'o, T: OwnedText + Drop>(
     log: &mut Vec<Undo<'o, T>>,
 ) -> Result<(), Refusal>
     ensures ok { OnOk result (carried from.now path.now (document_tree T.text_of document.old) ≡ Ok (document_tree T.text_of document.new)) }
-    ensures fault { IfErr result (λ e. Refuses (Unit {0}) e (carried from.now path.now (document_tree T.text_of document.old))) }
+    ensures fault { IfErr result (λ e. Refuses ⊤ e (carried from.now path.now (document_tree T.text_of document.old))) }
     ensures undo { undone T.text_of log.new.items (document_tree T.text_of document.new) ≡ undone T.text_of log.old.items (document_tree T.text_of document.old) }
 {
     log.reserve(1)?;
@@ -159,7 +159,7 @@ fn put_taken<'o, T: OwnedText + Drop>(
     path: &'o [String],
 ) -> (Undo<'o, T>, Result<(), Refusal>)
     ensures ok { OnOk result.1 (added (map string_bytes path.now) (document_tree T.text_of gone.taken) (document_tree T.text_of document.old) ≡ Ok (document_tree T.text_of document.new)) }
-    ensures fault { IfErr result.1 (λ e. Refuses (Unit {0}) e (added (map string_bytes path.now) (document_tree T.text_of gone.taken) (document_tree T.text_of document.old))) }
+    ensures fault { IfErr result.1 (λ e. Refuses ⊤ e (added (map string_bytes path.now) (document_tree T.text_of gone.taken) (document_tree T.text_of document.old))) }
     ensures undo { undo_one T.text_of result.0 (document_tree T.text_of document.new) ≡ undone_at T.text_of gone.undo (document_tree T.text_of gone.taken) (map string_bytes from.now) (document_tree T.text_of document.old) }
 {
     let Done { undo: gap, taken } = gone;

@@ -1,4 +1,5 @@
 use Rattle.std.proofs.Common.{◌≡◌, Ok, IfErr, OnOk, subst}
+use Rattle.std.specs.Prelude.{⊤}
 use Rattle.sj_document.specs.Document.{document_tree}
 use Rattle.sj_patch.specs.inner.Changed.{Refuses}
 use Rattle.sj_patch.proofs.Logged.{swap-replaced}
@@ -12,4 +13,4 @@ returns-clause-ok g c =
 pub returns-clause-fault : goal.returns-clause-fault
 returns-clause-fault g c =
     let t = g.T.KeyText.text_of in
-    subst (λ x. IfErr c.change.result (λ e. Refuses (Unit {0}) e x)) (swap-replaced t c.args.value c.args.path.now (document_tree t c.args.document.now)) c.change.ensures.fault
+    subst (λ x. IfErr c.change.result (λ e. Refuses ⊤ e x)) (swap-replaced t c.args.value c.args.path.now (document_tree t c.args.document.now)) c.change.ensures.fault

@@ -1,4 +1,5 @@
 use Rattle.std.proofs.Common.{◌≡◌, [], ◌∷◌, ◌++◌, Ok, OnOk, IfErr, map, string_bytes, refl, sym, ap, ◌∙◌, subst}
+use Rattle.std.specs.Prelude.{⊤}
 use Rattle.sj_text_core.specs.Tree.{Tree}
 use Rattle.sj_document.specs.Document.{document_tree}
 use Rattle.sj_pointer.specs.Pointed.{pointed}
@@ -27,7 +28,7 @@ returns-in-Ok-clause-fault g c =
     let e =
     ap (λ ks. carried ks c.args.path.now old) (sym c.tokens-tokens.ensures) ∙ ap (λ ks. carried (map string_bytes c.tokens-tokens.result.now) ks old) (sym c.tokens.ensures)
     ∙ carried-found t c.in-Ok.gone.taken (map string_bytes c.tokens-tokens.result.now) (map string_bytes c.tokens.result.now) old (document_tree t c.change_to.new.document) h.made h.answer in
-    subst (λ x. IfErr c.put_taken-undo.result.1 (λ e. Refuses (Unit {0}) e x)) (sym e) c.put_taken-undo.ensures.fault
+    subst (λ x. IfErr c.put_taken-undo.result.1 (λ e. Refuses ⊤ e x)) (sym e) c.put_taken-undo.ensures.fault
 
 pub returns-in-Ok-clause-undo : goal.returns-in-Ok-clause-undo
 returns-in-Ok-clause-undo g c =
@@ -46,4 +47,4 @@ returns-in-Err-clause-fault g c =
     let from = map string_bytes c.tokens-tokens.result.now in
     let old = document_tree t c.args.document.now in
     let on = λ (u : Tree). onwards (or_missing (pointed from old)) (λ v. added c.args.path.now v u) in
-    refuses_as (Unit {0}) c.in-Err.refused.why _ _ (ap (λ ks. carried ks c.args.path.now old) (sym c.tokens-tokens.ensures) ∙ ap (λ r. onwards r on) (sym (take-removed t from old))) (refuses_onwards (Unit {0}) c.in-Err.refused.why (change_at t Take from old) on c.in-Err.ensures.1.0)
+    refuses_as ⊤ c.in-Err.refused.why _ _ (ap (λ ks. carried ks c.args.path.now old) (sym c.tokens-tokens.ensures) ∙ ap (λ r. onwards r on) (sym (take-removed t from old))) (refuses_onwards ⊤ c.in-Err.refused.why (change_at t Take from old) on c.in-Err.ensures.1.0)

@@ -1,4 +1,5 @@
 use Rattle.std.proofs.Common.{map, string_bytes, sym, ◌∙◌}
+use Rattle.std.specs.Prelude.{⊤}
 use Rattle.sj_document.specs.Document.{document_tree}
 use Rattle.sj_patch.specs.inner.Changed.{undone_at}
 use Rattle.sj_patch.proofs.Within.{refuses_as}
@@ -19,7 +20,7 @@ returns-in-Ok-clause-undo g c =
 pub returns-in-Err-clause-fault : goal.returns-in-Err-clause-fault
 returns-in-Err-clause-fault g c =
     let t = g.T.KeyText.text_of in
-    refuses_as (Unit {0}) c.in-Err.refused.why _ _ (sym (put-added t c.args.gone.taken (map string_bytes c.args.path.now) (document_tree t c.args.document.now))) c.in-Err.ensures.1.0
+    refuses_as ⊤ c.in-Err.refused.why _ _ (sym (put-added t c.args.gone.taken (map string_bytes c.args.path.now) (document_tree t c.args.document.now))) c.in-Err.ensures.1.0
 
 pub returns-in-Err-clause-undo : goal.returns-in-Err-clause-undo
 returns-in-Err-clause-undo g c =
