@@ -204,7 +204,6 @@ module _ (n : ℕ) (hs : List ℕ) (i : ℕ) (w : i < length hs) where
 
 -- the chains once the first members are left out, so many: a place of those ends a chain
 module _ (n : ℕ) (hs : List ℕ) (g : ℕ) where
-
   pub last_dropped : (b k : ℕ) → last_below n b (drop g hs) k ≡ last_below n b hs (g + k) - g
   unfolding last_below
   last_dropped b zero = omega (arith, last_le n b hs (g + 0))
