@@ -1,13 +1,13 @@
 #!/usr/bin/env python3
-"""Looks whether each word of specs/ has one definition, and whether docs/DEFINITIONS.md says of its words where they stand.
+"""Looks whether each word of specs/ has one definition, each lemma is cited, and docs/DEFINITIONS.md says where its words stand.
 
-Usage: tools/words.py. Of the libraries and the programs each word that two files define is named, but for those of SHARED. Of the page it
-reads the tables: the words of a row stand in the file that the row names, or else, as members do, in specs/ or src/ of the crate that the row, the
-text above its table, or the heading names. Ends with 1 where a word has a second definition or does not stand there.
+Usage: tools/words.py. Of the libraries and the programs each word that two files define is named, but for those of SHARED, and each lemma
+in the files of proofs/ that no line cites but those that `use` it and those of its file that begin with its name, as its own do. Of the page it reads the tables: the words of a row stand in the file that the row names, or else, as members do, in specs/ or src/ of the crate that the row, the
+text above its table, or the heading names. Ends with 1 where a word has a second definition or does not stand there, or a lemma is not cited.
 """
 import re
 import sys
-from collections import defaultdict
+from collections import Counter, defaultdict
 
 from sources import CRATES, ROOT, SUPPORT
 from trusted import module_of
@@ -16,6 +16,9 @@ from trusted import module_of
 SHARED = {"ahead_weight"}
 PAGE = ROOT / "docs/DEFINITIONS.md"
 CODE = re.compile(r"`([^`]+)`")
+LEMMA = re.compile(r"( *)(?:(?:abbrev|unfoldable|pub) )+([\w-]+) :(?: |$)")
+# what the proofs of functions are named by
+GOALS = {"Answers.antt", "Invariants.antt", "Proof.antt", "Send.antt"}
 
 
 def names():
@@ -33,6 +36,25 @@ def doubles():
                     if "pub " in lines[0]:
                         found[word].append(str(path.relative_to(CRATES)))
     return {word: files for word, files in found.items() if len(files) > 1 and word not in SHARED}
+
+
+def uncited():
+    """The lemmas that nothing cites, each with its file. Rows stand for themselves."""
+    cited, lemmas = Counter(), []
+    for path in sorted(path for end in ("antt", "rt") for path in CRATES.rglob(f"*.{end}") if "out" not in path.parts):
+        is_proof = "proofs" in path.parts and "rows" not in path.parts and path.name not in GOALS
+        own = set()
+        for line in path.read_text().split("\n"):
+            code = line.split("--")[0]
+            if re.match(r" *(pub |ghost )?use ", code):
+                continue
+            lemma = LEMMA.match(code) if is_proof else None
+            if lemma:
+                own.add((lemma[1], lemma[2]))
+                lemmas.append((lemma[2], str(path.relative_to(CRATES))))
+            head = lemma or re.match(r"( *)([\w-]+)", code)
+            cited.update(re.findall(r"[\w-]+", code[head.end() :] if head and head.groups() in own else code))
+    return [(name, file) for name, file in lemmas if not cited[name]]
 
 
 def rows():
@@ -77,6 +99,9 @@ def main():
     twice = doubles()
     for word, files in sorted(twice.items()):
         print(f"{word}: {', '.join(files)}")
+    alone = uncited()
+    for name, file in alone:
+        print(f"{name}: nothing cites it, in {file}")
     count, astray = 0, 0
     for number, crates, files, words in rows():
         for word in words:
@@ -84,8 +109,8 @@ def main():
             if not stands(word, crates, files):
                 astray += 1
                 print(f"docs/DEFINITIONS.md:{number}: {word} does not stand in {', '.join(files or crates)}")
-    print(f"{count} words of docs/DEFINITIONS.md, {astray} astray; {len(twice)} words of specs with a second definition")
-    return 1 if twice or astray else 0
+    print(f"{count} words of docs/DEFINITIONS.md, {astray} astray; {len(twice)} words of specs with a second definition; {len(alone)} lemmas uncited")
+    return 1 if twice or astray or alone else 0
 
 
 if __name__ == "__main__":
