@@ -1,6 +1,6 @@
 use Rattle.std.proofs.Common.{◌≡◌, [], ◌∷◌, ◌++◌, length}
 use Rattle.sj_text_core.specs.Tree.{keys_of, members_from}
-use Rattle.sj_run.specs.inner.Answered.{IsBegunBy}
+use Rattle.sj_text_core.specs.inner.Begun.{IsBegunBy}
 use Rattle.sj_run.specs.Shown.{more_texts, text_array}
 use Rattle.sj_run.proofs.find.found.put_keys.Given as goal
 

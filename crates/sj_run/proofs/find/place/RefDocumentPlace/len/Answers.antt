@@ -13,7 +13,7 @@ pub returns-in-Array : goal.returns-in-Array
 returns-in-Array g c =
     let t = g.T.KeyText.text_of in
     let v = c.deref.result.now in
-    ap count (c.len.ensures ∙ v.ok.0 ∙ length-items t v.items)
+    ap count (c.len.ensures ∙ v.ok.0 ∙ length-items (document_tree t) v.items)
     ∙ ap (λ v. len_reply (list (items_from (map (document_tree t) v.items)))) c.deref.ensures
     ∙ ap len_reply (sym (ap (document_tree t) c.in-Array.is ∙ tree-Array t c.in-Array.items))
 
