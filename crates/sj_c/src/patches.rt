@@ -3,7 +3,7 @@
 ghost use Rattle.std.specs.Prelude.{◌≡◌, ◌≢◌, ◌⊎◌, ◌<◌, ◌≤◌, map, Ok, Some, None, IfOk, IfErr, string_bytes};
 ghost use Rattle.sj_text_core.specs.Tree.{Tree, depth};
 ghost use Rattle.sj_document.specs.Document.{document_tree};
-ghost use Rattle.sj_patch.specs.Meant.{held_tree as meant_operation};
+ghost use Rattle.sj_patch.specs.Meant.{meant};
 ghost use Rattle.sj_patch.specs.Operations.{patch_in};
 ghost use Rattle.sj_c.specs.Meant.{held_tree};
 ghost use Rattle.sj_c.specs.Patches.{Patches, NotRead, NotPatched, IsDifference};
@@ -24,7 +24,7 @@ fn operations_in(
     patch: &OwnedValue,
     at: &mut usize,
 ) -> Result<Vec<Operation<String>>, u32>
-    ensures ok { IfOk result (λ os. patch_in (document_tree string_bytes patch.now) ≡ Ok (map (meant_operation string_bytes) os.items)) }
+    ensures ok { IfOk result (λ os. patch_in (document_tree string_bytes patch.now) ≡ Ok (map (meant string_bytes) os.items)) }
     ensures err { IfErr result (λ code. NotRead (document_tree string_bytes patch.now) code at.new) }
     ensures fault { IfErr result (λ code. (code ≢ OK) × (code ≢ EMPTY)) }
 {
