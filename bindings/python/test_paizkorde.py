@@ -8,9 +8,9 @@ import os
 import pickle
 import random
 import sys
-import threading
 import unittest
 import unittest.mock
+from concurrent.futures import ThreadPoolExecutor
 
 from paizkorde import Buffers, Document, JsonError, Value, session
 
@@ -269,30 +269,27 @@ class Calls(unittest.TestCase):
     def test_threads(self):
         doc = Document.parse("[]")
         for place in range(4):
-            thread = threading.Thread(target=doc.push, args=("", place))
-            thread.start()
-            thread.join()
+            with ThreadPoolExecutor(1) as thread:
+                thread.submit(doc.push, "", place).result()
         self.assertEqual(str(doc), "[0,1,2,3]")
 
     def test_threads_that_read_while_others_edit(self):
         doc, texts = Document.of({"k": "a" * 1000}), set()
 
         def edit():
-            for number in range(2000):
+            for number in range(10_000):
                 doc.insert("", "k", ("a" if number % 2 else "b") * 1000)
 
         def read():
-            for _ in range(2000):
+            for _ in range(10_000):
                 texts.update(value.to_python() for _, value in doc.items())
 
         interval = sys.getswitchinterval()
         sys.setswitchinterval(1e-6)
         try:
-            threads = [threading.Thread(target=what) for what in (edit, read, read)]
-            for thread in threads:
-                thread.start()
-            for thread in threads:
-                thread.join()
+            with ThreadPoolExecutor(3) as threads:
+                for done in [threads.submit(what) for what in (edit, read, read)]:
+                    done.result()
         finally:
             sys.setswitchinterval(interval)
         self.assertLessEqual(texts, {"a" * 1000, "b" * 1000})
