@@ -1,9 +1,11 @@
 #!/usr/bin/env python3
 """Looks whether each word of specs/ has one definition, each lemma is cited, and docs/DEFINITIONS.md says where its words stand.
 
-Usage: tools/words.py. Of the libraries and the programs each word that two files define is named, but for those of SHARED, and each lemma
-in the files of proofs/ that no line cites but those that `use` it and those of its file that begin with its name, as its own do. Of the page it reads the tables: the words of a row stand in the file that the row names, or else, as members do, in specs/ or src/ of the crate that the row, the
-text above its table, or the heading names. Ends with 1 where a word has a second definition or does not stand there, or a lemma is not cited.
+Usage: tools/words.py. Of the libraries and the programs each word that two files define is named, but for those of SHARED; of all crates
+each lemma that no line cites but those that `use` it and those of its file that begin with its name, as its own do. Of the page it reads
+the tables: the words of a row stand in the file that the row names, or else, as members do, in specs/ or src/ of the crate that the row,
+the text above its table, or the heading names. Ends with 1 where a word has a second definition or does not stand there, or a lemma is
+not cited.
 """
 import re
 import sys
@@ -23,7 +25,8 @@ GOALS = {"Answers.antt", "Invariants.antt", "Proof.antt", "Send.antt"}
 
 def names():
     """The crates of the product that have specs/: libraries and programs."""
-    return sorted(p.name for p in CRATES.iterdir() if (p / "specs").is_dir() and not SUPPORT.fullmatch(p.name) or p.name == "sj_c")
+    wanted = (p.name for p in CRATES.iterdir() if p.name == "sj_c" or not SUPPORT.fullmatch(p.name))
+    return sorted(name for name in wanted if (CRATES / name / "specs").is_dir())
 
 
 def doubles():
@@ -109,7 +112,7 @@ def main():
             if not stands(word, crates, files):
                 astray += 1
                 print(f"docs/DEFINITIONS.md:{number}: {word} does not stand in {', '.join(files or crates)}")
-    print(f"{count} words of docs/DEFINITIONS.md, {astray} astray; {len(twice)} words of specs with a second definition; {len(alone)} lemmas uncited")
+    print(f"{count} words of docs/DEFINITIONS.md, {astray} astray; {len(twice)} words defined twice; {len(alone)} lemmas uncited")
     return 1 if twice or astray or alone else 0
 
 
